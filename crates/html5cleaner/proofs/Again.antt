@@ -1,7 +1,7 @@
 -- What is kept of a page is kept again.
 use Rattle.std.proofs.Common.{◌≡◌, ℕ, Bool, true, false, List, [], ◌∷◌, ◌++◌, map, chars, refl, ap, sym, ◌∙◌, subst, append_assoc}
 use Rattle.std.specs.Prelude.{◌==◌, ◌&&◌, not, encode_utf8, encode_utf8_all, if◌then◌else◌}
-use Rattle.std.specs.Str.{bytes_eq}
+use Rattle.std.proofs.Math.Bool.{and-false}
 use Rattle.std.proofs.lemmas.List.{append-nil}
 use Rattle.std.proofs.lemmas.List.Concat.{flat_map-append}
 use Rattle.std.proofs.lemmas.List.Folds.{list_all-append}
@@ -11,13 +11,14 @@ use Rattle.html5ever_interface.specs.Token.{Told, TagOf}
 use Rattle.html5ever_interface.specs.Token.Told.{Text, Null, Error, Tag, Comment, Instruction, Doctype, End}
 use Rattle.html5reading.specs.Characters.{null}
 use Rattle.html5sinks.specs.Runs.{Joined, Running, joined_step, runs_step}
-use Rattle.html5policy.specs.Policy.{PolicyOf}
+use Rattle.html5elements.specs.Hidden.{hidden_from, hidden_within}
+use Rattle.html5policy.specs.Policy.{PolicyOf, hides}
 use Rattle.html5write.specs.Escaped.{escaped, escaped_text}
 use Rattle.html5write.specs.Pieces.{Piece, has_no_null, pieces_text, piece_text}
 use Rattle.html5write.specs.Pieces.Piece.{TextPiece, StartTagPiece, EndTagPiece, CommentPiece}
 use Rattle.html5write.specs.Told.{end_tag_told, pieces_tokens, piece_tokens, proper, proper_token, start_tag_told}
 use Rattle.html5cleaner.specs.Balance.{is_end, open_by, written_by}
-use Rattle.html5cleaner.specs.Clean.{Cleaned, clean_step, count_of, depth_by_kind, kept, kept_of_run, kept_of_tag, kept_of_token, kept_where, opens, where_writable}
+use Rattle.html5cleaner.specs.Clean.{Cleaned, clean_step, kept, kept_of_run, kept_of_tag, kept_of_token, kept_where, opens, where_writable}
 use Rattle.html5cleaner.proofs.Encoded.{chars-encoded}
 use Rattle.html5cleaner.proofs.Replies.{and-left, and-right}
 use Rattle.html5cleaner.proofs.Balancing.{AllGo, Goes}
@@ -79,10 +80,9 @@ module _ (policy : PolicyOf) where
     waits = refl;
     whole = refl;
     shown =
-        (λ i. if s.shown i == 0 then count_of (opens (s.keeps i) tag)
-        else if bytes_eq tag.name j.handler.hidden.name then depth_by_kind tag.kind (opens (s.keeps i) tag) (s.shown i)
-        else s.shown i)
-        ∙ ap count_of shows;
+        (λ i. (if s.shown i == 0 then hidden_from (opens (s.keeps i) tag) j.handler.hidden tag else hidden_within j.handler.hidden tag).depth)
+        ∙ ap (λ opening. (hidden_from opening j.handler.hidden tag).depth) shows
+        ∙ s.shown;
     stays =
         (λ i. open_by (s.keeps i).balance false (s.stays i) (kept_where (s.keeps i) (s.shown i) j.run (Tag tag)))
         ∙ open-run policy.balance false opened j.run (kept_of_tag policy tag)
@@ -130,7 +130,7 @@ module _ (policy : PolicyOf) where
       (stands-text opened done j s text steady)
   stands-piece opened after done j s (StartTagPiece name attributes) steady goes =
       stands-tag opened after done j s (start_tag_told name attributes) (StartTagPiece name attributes) steady.0 goes steady.1
-  stands-piece opened after done j s (EndTagPiece name) steady goes = stands-tag opened after done j s (end_tag_told name) (EndTagPiece name) steady goes refl
+  stands-piece opened after done j s (EndTagPiece name) steady goes = stands-tag opened after done j s (end_tag_told name) (EndTagPiece name) steady goes (and-false (hides policy (encode_utf8_all name)))
   stands-piece opened after done j s (CommentPiece text) steady goes = absurd steady
 
   pub stands-page : (opened after : List (List ℕ)) (done : List ℕ) (j : Joined Cleaned) → Stands policy opened done j → (pieces : List Piece) → AreSteady policy pieces

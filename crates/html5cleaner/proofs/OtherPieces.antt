@@ -7,10 +7,11 @@ use Rattle.html5ever_interface.specs.Token.Told.{Tag}
 use Rattle.html5stream.proofs.Handed.{between-handed}
 use Rattle.html5stream.specs.Pages.{runs_handed, runs_page}
 use Rattle.markup5ever.specs.NamedReferences.{NamedReference}
+use Rattle.html5elements.specs.Hidden.{Hidden, hidden_after}
 use Rattle.html5policy.specs.Policy.{PolicyOf, hides, is_allowed, is_kept}
 use Rattle.html5write.specs.Pieces.{Piece}
 use Rattle.html5cleaner.specs.Balance.{is_end, is_no_end_tag, without_balance, written_by}
-use Rattle.html5cleaner.specs.Clean.{Cleaned, Hidden, at_start, clean_step, hidden_after, kept_attributes, kept_of_parts, kept_of_tag, kept_where}
+use Rattle.html5cleaner.specs.Clean.{Cleaned, at_start, clean_step, kept_attributes, kept_of_parts, kept_of_tag, kept_where, opens}
 use Rattle.html5cleaner.proofs.Balancing.{written-others}
 use Rattle.html5cleaner.proofs.SameReadings.{page-same}
 
@@ -20,7 +21,7 @@ unfolding kept_of_tag kept_of_parts kept_attributes is_kept is_allowed
 same-kept policy depth run (Tag tag) = refl
 same-kept policy depth run other = refl
 
-same-hidden : (policy : PolicyOf) (hidden : Hidden) (told : Told) → hidden_after policy hidden told ≡ hidden_after (without_balance policy) hidden told
+same-hidden : (policy : PolicyOf) (hidden : Hidden) (told : Told) → hidden_after (opens policy) hidden told ≡ hidden_after (opens (without_balance policy)) hidden told
 unfolding hides
 same-hidden policy hidden (Tag tag) = refl
 same-hidden policy hidden other = refl
@@ -41,7 +42,7 @@ twin-step policy c twin run told line t =
     record {
       keeps = t.keeps;
       plain = t.plain;
-      hidden = (λ i. hidden_after (t.keeps i) (t.hidden i) told) ∙ same-hidden policy twin.hidden told ∙ ap (λ p. hidden_after p twin.hidden told) (sym t.plain);
+      hidden = (λ i. hidden_after (opens (t.keeps i)) (t.hidden i) told) ∙ same-hidden policy twin.hidden told ∙ ap (λ p. hidden_after (opens p) twin.hidden told) (sym t.plain);
       others =
           filter-append is_no_end_tag c.pieces (written_by c.policy.balance (is_end told) c.opened kept)
           ∙ (λ i. t.others i ++ written-others c.policy.balance (is_end told) c.opened kept i)

@@ -23,7 +23,7 @@ use Rattle.html5cleaner.specs.Balance.{all_balanced, all_open_after, balanced, e
 use Rattle.html5cleaner.specs.Open.{closed_by}
 use Rattle.html5stream.specs.Pages.{runs_handed}
 use Rattle.html5cleaner.specs.Clean.{Cleaned, adds_noopener, at_start, allows_by_kind, attribute_chars, clean_step, is_href, kept, kept_attributes, kept_of_parts, kept_of_run, kept_of_tag, kept_of_token, kept_where, noopener_attribute, opens, piece_by_kind, where_writable, with_noopener}
-use Rattle.html5elements.specs.Elements.{is_empty_element}
+use Rattle.html5elements.specs.Hidden.{has_content}
 use Rattle.html5cleaner.proofs.Encoded.{chars-encoded}
 use lib.Utf8.{encode}
 use Rattle.html5cleaner.proofs.Replies.{and-left, and-right}
@@ -137,7 +137,7 @@ steady-kind policy sound StartTag name attributes same allowed can = (
   (λ i. kept_of_parts policy StartTag (chars-encoded name i) (kept_attributes policy (chars-encoded name i) (chars-all_told attributes i)))
       ∙ ap (kept_of_parts policy StartTag name) same
       ∙ kept-parts policy StartTag name attributes allowed can,
-  ap (λ hidden. hidden && not (is_empty_element (encode_utf8_all name) false)) (allowed-shown policy (encode_utf8_all name) sound allowed),
+  ap (λ hidden. hidden && has_content (start_tag_told name attributes)) (allowed-shown policy (encode_utf8_all name) sound allowed),
 )
 steady-kind policy sound EndTag name attributes same allowed can =
     (λ i. kept_of_parts policy EndTag (chars-encoded name i) (kept_attributes policy (chars-encoded name i) []))

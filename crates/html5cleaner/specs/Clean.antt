@@ -1,5 +1,5 @@
 -- A page that is cleaned: what is kept of each run of text and of the token after it, and what is written of that.
-use Rattle.std.specs.Prelude.{ℕ, ◌+◌, ◌-◌, Bool, false, not, List, [], ◌∷◌, ◌++◌, ◌&&◌, ◌==◌, filter, map, chars, codes, string_bytes, encode_utf8_all, if◌then◌else◌}
+use Rattle.std.specs.Prelude.{ℕ, Bool, not, List, [], ◌∷◌, ◌++◌, ◌&&◌, ◌==◌, filter, map, chars, codes, encode_utf8_all, if◌then◌else◌}
 use Rattle.std.specs.List.{list_any}
 use Rattle.std.specs.Str.{bytes_eq}
 use Rattle.html5ever_interface.specs.Token.{Told, TagOf}
@@ -10,56 +10,16 @@ use Rattle.markup5ever.specs.Names.{AttributeOf}
 use Rattle.html5policy.specs.Policy.{PolicyOf, hides, is_allowed, is_rel_of_link}
 use Rattle.html5write.specs.Pieces.{NameAndValue, Piece, can_write}
 use Rattle.html5write.specs.Pieces.Piece.{TextPiece, StartTagPiece, EndTagPiece}
-use Rattle.html5elements.specs.Elements.{is_empty_element, is_void}
+use Rattle.html5elements.specs.Elements.{is_void}
+use Rattle.html5elements.specs.Hidden.{Hidden, has_content, hidden_after, nothing_hidden}
 use Rattle.html5cleaner.specs.Allowed.{is_kept_attribute}
 use Rattle.html5cleaner.specs.Balance.{is_end, open_by, written_by}
-use Rattle.html5cleaner.specs.declared.hidden.Hidden.{Hidden as RustHidden}
 
 -- ---- what is hidden
 
--- the name of a tag, and how many elements of that name are open and hide what stands in them: where none is, the name says nothing
-pub record Hidden : Type 0 where
-  pub name : List ℕ
-  pub depth : ℕ
-
-abbrev pub hidden_of : {Z : Type 0} → RustHidden Z → Hidden
-hidden_of hidden = record { name = string_bytes hidden.name; depth = hidden.depth }
-
--- whether a tag is the start tag of an element that is dropped with what stands in it; `<svg/>` and `<br>` have nothing in them
-abbrev pub opens_by_kind : PolicyOf → TagKind → List ℕ → Bool → Bool
-opens_by_kind policy StartTag name self_closing = hides policy name && not (is_empty_element name self_closing)
-opens_by_kind policy EndTag name self_closing = false
-
+-- whether a tag begins an element that is dropped with what stands in it
 abbrev pub opens : PolicyOf → TagOf → Bool
-opens policy tag = opens_by_kind policy tag.kind tag.name tag.self_closing
-
-abbrev pub count_of : Bool → ℕ
-count_of opening = if opening then 1 else 0
-
--- how many are open after a tag of the same name
-abbrev pub depth_by_kind : TagKind → Bool → ℕ → ℕ
-depth_by_kind StartTag opening depth = depth + count_of opening
-depth_by_kind EndTag opening depth = depth - 1
-
-abbrev pub depth_after_tag : PolicyOf → Hidden → TagOf → ℕ
-depth_after_tag policy hidden tag =
-    if hidden.depth == 0 then count_of (opens policy tag)
-    else if bytes_eq tag.name hidden.name then depth_by_kind tag.kind (opens policy tag) hidden.depth
-    else hidden.depth
-
-abbrev pub depth_after : PolicyOf → Hidden → Told → ℕ
-depth_after policy hidden (Tag tag) = depth_after_tag policy hidden tag
-depth_after policy hidden other = hidden.depth
-
-abbrev pub name_after_tag : Hidden → List ℕ → List ℕ
-name_after_tag hidden name = if hidden.depth == 0 then name else hidden.name
-
-abbrev pub name_after : Hidden → Told → List ℕ
-name_after hidden (Tag tag) = name_after_tag hidden tag.name
-name_after hidden other = hidden.name
-
-abbrev pub hidden_after : PolicyOf → Hidden → Told → Hidden
-hidden_after policy hidden told = record { name = name_after hidden told; depth = depth_after policy hidden told }
+opens policy tag = hides policy tag.name && has_content tag
 
 -- ---- what is kept
 
@@ -135,13 +95,13 @@ pub record Cleaned : Type 0 where
 
 -- where a page begins
 abbrev pub at_start : PolicyOf → Cleaned
-at_start policy = record { policy = policy; pieces = []; hidden = record { name = []; depth = 0 }; opened = [] }
+at_start policy = record { policy = policy; pieces = []; hidden = nothing_hidden; opened = [] }
 
 -- a run of text and the token after it
 abbrev pub clean_step : Cleaned → List ℕ → Told → ℕ → Cleaned
 clean_step s run told line = record {
   policy = s.policy;
   pieces = s.pieces ++ written_by s.policy.balance (is_end told) s.opened (kept_where s.policy s.hidden.depth run told);
-  hidden = hidden_after s.policy s.hidden told;
+  hidden = hidden_after (opens s.policy) s.hidden told;
   opened = open_by s.policy.balance (is_end told) s.opened (kept_where s.policy s.hidden.depth run told);
 }

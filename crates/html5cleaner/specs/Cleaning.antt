@@ -8,7 +8,8 @@ use Rattle.html5policy.specs.Policy.{PolicyOf}
 use Rattle.html5policy.specs.declared.error.PolicyError.{PolicyError}
 use Rattle.html5write.specs.Pieces.{Piece, pieces_text}
 use Rattle.html5cleaner.specs.Balance.{end_tags, is_end, open_by, written_by}
-use Rattle.html5cleaner.specs.Clean.{Hidden, at_start, clean_step, hidden_after, kept_where}
+use Rattle.html5cleaner.specs.Clean.{at_start, clean_step, kept_where, opens}
+use Rattle.html5elements.specs.Hidden.{Hidden, hidden_after, nothing_hidden}
 use Rattle.markup5ever.specs.NamedReferences.{NamedReference}
 
 -- the policy, what was printed, what is hidden, and the elements that are open
@@ -37,7 +38,7 @@ policy_in (Err error) = None
 
 -- where a page begins
 abbrev pub page_start : Standing → Cleaning
-page_start s = record { policy = s.policy; printed = s.printed; hidden = record { name = []; depth = 0 }; opened = [] }
+page_start s = record { policy = s.policy; printed = s.printed; hidden = nothing_hidden; opened = [] }
 
 -- where a printer of cleaned pages stands
 abbrev pub cleaning_of : {W : Type 0} → Printed W → Cleaning
@@ -59,7 +60,7 @@ abbrev pub cleaning_step : Cleaning → List ℕ → Told → ℕ → Cleaning
 cleaning_step s run told line = record {
   policy = s.policy;
   printed = s.printed ++ page_bytes (written_by s.policy.balance (is_end told) s.opened (kept_where s.policy s.hidden.depth run told));
-  hidden = hidden_after s.policy s.hidden told;
+  hidden = hidden_after (opens s.policy) s.hidden told;
   opened = open_by s.policy.balance (is_end told) s.opened (kept_where s.policy s.hidden.depth run told);
 }
 

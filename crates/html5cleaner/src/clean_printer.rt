@@ -2,13 +2,14 @@
 ghost use Rattle.std.specs.Prelude.{◌≡◌, ◌++◌, [], OnOk, OnErr, string_bytes};
 ghost use Rattle.html5ever_interface.specs.Token.{told_by};
 ghost use Rattle.html5cleaner.specs.Balance.{is_end, open_by, written_by};
-ghost use Rattle.html5cleaner.specs.Clean.{kept_where, hidden_of, hidden_after};
+ghost use Rattle.html5cleaner.specs.Clean.{kept_where};
 ghost use Rattle.html5cleaner.specs.Cleaning.{page_bytes, page_start, cleaning_of, standing_of};
 
 use crate::cleaner::keep_where;
-use crate::hidden::Hidden;
+use crate::hidden::pass_token;
 use crate::open_elements::OpenElements;
 use devices::{Printer, Target};
+use html5elements::hidden::Hidden;
 use html5ever_interface::interface::token::{SinkFault, Token};
 use html5policy::Policy;
 use html5sinks::text_runs::TokenHandler;
@@ -27,7 +28,7 @@ pub struct CleanPrinter<W, A: Allocator = Global> {
 }
 
 impl<W, A: Allocator> Model for CleanPrinter<W, A> {
-    ghost use Rattle.html5cleaner.specs.Clean.{hidden_of};
+    ghost use Rattle.html5elements.specs.Hidden.{hidden_of};
     ghost use Rattle.html5cleaner.specs.Cleaning.{Printed};
 
     ghost Value = { Printed W };
@@ -114,9 +115,9 @@ impl<W: Target, A: Allocator + Copy> TokenHandler<Token<A>> for CleanPrinter<W, 
         token: Token<A>,
         _line_number: u64,
     ) -> Result<(), SinkFault> {
-        let Some(depth) = self.hidden.depth_after(&self.policy, &token) else {
+        if self.hidden.is_full() {
             return Err(SinkFault);
-        };
+        }
         print_kept(
             self.alloc,
             &self.policy,
@@ -126,7 +127,7 @@ impl<W: Target, A: Allocator + Copy> TokenHandler<Token<A>> for CleanPrinter<W, 
             run,
             &token,
         )?;
-        self.hidden.pass(token, depth);
+        pass_token(&mut self.hidden, &self.policy, token);
         Ok(())
     }
 }

@@ -10,9 +10,10 @@ ghost use Rattle.html5cleaner.specs.Kept.{Keeps};
 
 use crate::attributes::kept_attributes;
 use crate::balance::{Change, NO_CHANGE, write_balanced, write_closed, write_plain};
-use crate::hidden::Hidden;
+use crate::hidden::pass_token;
 use crate::kept::kept_tag;
 use crate::open_elements::OpenElements;
+use html5elements::hidden::Hidden;
 use html5ever_interface::interface::token::{SinkFault, Tag, Token};
 use html5policy::Policy;
 use html5sinks::text_runs::TokenHandler;
@@ -33,7 +34,8 @@ pub struct Cleaner<'p, A: Allocator = Global> {
 
 impl<'p, A: Allocator> Model for Cleaner<'p, A> {
     ghost use Rattle.html5cleaner.specs.Balance.{AreClean};
-    ghost use Rattle.html5cleaner.specs.Clean.{Cleaned, hidden_of};
+    ghost use Rattle.html5cleaner.specs.Clean.{Cleaned};
+    ghost use Rattle.html5elements.specs.Hidden.{hidden_of};
 
     ghost Value = { Cleaned };
 
@@ -155,9 +157,9 @@ impl<'p, A: Allocator + Copy> TokenHandler<Token<A>> for Cleaner<'p, A> {
         token: Token<A>,
         _line_number: u64,
     ) -> Result<(), SinkFault> {
-        let Some(depth) = self.hidden.depth_after(self.policy, &token) else {
+        if self.hidden.is_full() {
             return Err(SinkFault);
-        };
+        }
         match keep_where(
             self.alloc,
             self.policy,
@@ -169,7 +171,7 @@ impl<'p, A: Allocator + Copy> TokenHandler<Token<A>> for Cleaner<'p, A> {
         ) {
             Ok(change) => {
                 self.opened.close(change.close);
-                self.hidden.pass(token, depth);
+                pass_token(&mut self.hidden, self.policy, token);
                 Ok(())
             }
             Err(_) => Err(SinkFault),

@@ -1,5 +1,8 @@
-//! What the standard says of elements by their names alone.
+//! Elements by their names: what the standard says of them, and those that are dropped with all that
+//! stands in them.
 #![tactic(auto)]
+
+pub mod hidden;
 
 ghost use Rattle.std.specs.Prelude.{◌≡◌};
 ghost use Rattle.html5elements.specs.Elements.{is_empty_element, is_foreign, is_void};

@@ -2,7 +2,7 @@
 use Rattle.std.specs.Prelude.{ℕ, Bool, true, false, not, List, ◌&&◌, codes, if◌then◌else◌}
 use Rattle.std.specs.Option.{is_none}
 use Rattle.std.specs.Str.{bytes_eq}
-use Rattle.html5elements.specs.Elements.{is_empty_element}
+use Rattle.html5elements.specs.Hidden.{has_content}
 use Rattle.html5ever_interface.specs.Token.{TagOf}
 use Rattle.html5ever_interface.specs.declared.interface.token.TagKind.{TagKind}
 use Rattle.html5ever_interface.specs.declared.interface.token.TagKind.TheVariants.{StartTag, EndTag}
@@ -26,16 +26,6 @@ reads_markup_by_kind EndTag name = true
 -- an element whose text is not read as markup is dropped with it, whatever the rewriter says: its text could not be written as text
 abbrev pub keep_of : Rewriter → TagOf → Keep
 keep_of rewriter tag = if reads_markup_by_kind tag.kind tag.name then rewriter.keeps tag else keep.Nothing
-
--- ---- content
-
--- whether a tag begins an element in which something can stand
-abbrev pub has_content_by_kind : TagKind → List ℕ → Bool → Bool
-has_content_by_kind StartTag name self_closing = not (is_empty_element name self_closing)
-has_content_by_kind EndTag name self_closing = false
-
-abbrev pub has_content : TagOf → Bool
-has_content tag = has_content_by_kind tag.kind tag.name tag.self_closing
 
 abbrev pub drops_content : Keep → Bool
 drops_content keep.Tag = false

@@ -4,8 +4,9 @@ use Rattle.html5ever_interface.specs.Sink.{Message}
 use Rattle.html5ever_interface.specs.Token.{Told}
 use Rattle.html5stream.specs.Pages.{RunsItems, runs_handed, runs_page}
 use Rattle.html5write.specs.Pieces.{Piece, pieces_text}
-use Rattle.html5rewrite.specs.Rewriter.{Rewriter}
-use Rattle.html5rewrite.specs.Rewriting.{Hidden, hidden_after_token, nothing_hidden, rewriting_step, start_of_page, written_where}
+use Rattle.html5rewrite.specs.Rewriter.{Rewriter, opens}
+use Rattle.html5elements.specs.Hidden.{Hidden, hidden_after, nothing_hidden}
+use Rattle.html5rewrite.specs.Rewriting.{rewriting_step, start_of_page, written_where}
 use Rattle.markup5ever.specs.NamedReferences.{NamedReference}
 
 -- a rewriter, what it writes to, and what is hidden
@@ -37,7 +38,7 @@ abbrev pub writing_step : Written → List ℕ → Told → ℕ → Written
 writing_step s run told line = record {
   rewriter = s.rewriter;
   bytes = s.bytes ++ page_bytes (written_where s.rewriter s.hidden.depth run told);
-  hidden = hidden_after_token s.rewriter s.hidden told;
+  hidden = hidden_after (opens s.rewriter) s.hidden told;
 }
 
 -- the messages of a page, which is written after these bytes

@@ -3,7 +3,6 @@
 
 mod attributes;
 mod edits;
-mod hidden;
 pub mod laws;
 mod output;
 mod page;

@@ -1,9 +1,8 @@
 //! What a rewriter says of tags.
 ghost use Rattle.std.specs.Prelude.{◌≡◌};
 ghost use Rattle.html5ever_interface.specs.Token.{tag_of};
-ghost use Rattle.html5rewrite.specs.Rewriter.{has_content, keep_of, reads_markup_after, reads_markup_by_kind};
+ghost use Rattle.html5rewrite.specs.Rewriter.{keep_of, reads_markup_after, reads_markup_by_kind};
 
-use html5elements::is_empty_element;
 use html5ever_interface::interface::token::{Tag, TagKind};
 use html5sinks::replies::raw_text_in;
 use html5sinks::tags::SaysTag;
@@ -66,15 +65,5 @@ pub fn keep_of<H: TagRewriter<Tag<A>>, A: Allocator>(rewriter: &H, tag: &Tag<A>)
         rewriter.keep(tag)
     } else {
         Keep::Nothing
-    }
-}
-
-/// Whether a tag begins an element in which something can stand.
-pub fn has_content<A: Allocator>(tag: &Tag<A>) -> bool
-    ensures { result ≡ has_content (tag_of tag.now) }
-{
-    match tag.kind {
-        TagKind::StartTag => !is_empty_element(&tag.name.0, tag.self_closing),
-        TagKind::EndTag => false,
     }
 }

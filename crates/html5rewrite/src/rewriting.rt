@@ -1,15 +1,17 @@
 //! A handler that rewrites a page as it arrives.
-ghost use Rattle.std.specs.Prelude.{◌≡◌, ◌++◌, OnErr, OnOk};
-ghost use Rattle.html5ever_interface.specs.Token.{tag_of, told_by};
+ghost use Rattle.std.specs.Prelude.{◌≡◌, ◌≢◌, Bool, ◌++◌, OnErr, OnOk};
+ghost use Rattle.html5ever_interface.specs.Token.{TagOf, tag_of, told_by};
 ghost use Rattle.html5ever_interface.specs.Token.Told.{Tag as ToldTag};
+ghost use Rattle.html5elements.specs.Hidden.{hidden_after, hidden_from, hidden_of, nothing_hidden};
 ghost use Rattle.html5rewrite.specs.Plain.{written_of_run, written_of_tag};
-ghost use Rattle.html5rewrite.specs.Rewriting.{hidden_after_shown, hidden_from, hidden_of, nothing_hidden, written};
+ghost use Rattle.html5rewrite.specs.Rewriter.{opens};
+ghost use Rattle.html5rewrite.specs.Rewriting.{written};
 ghost use Rattle.html5rewrite.specs.Writing.{page_bytes};
 
-use crate::hidden::Hidden;
 use crate::output::Output;
-use crate::rewriter::{Keep, TagRewriter, has_content, keep_of};
+use crate::rewriter::{Keep, TagRewriter, keep_of};
 use crate::written::{write_run, write_tag};
+use html5elements::hidden::{Hidden, has_content};
 use html5ever_interface::interface::token::{SinkFault, Tag, Token};
 use html5sinks::text_runs::TokenHandler;
 use html5write::Writer;
@@ -26,7 +28,7 @@ pub struct Rewriting<H, O, A: Allocator = Global> {
 }
 
 impl<H, O, A: Allocator> Model for Rewriting<H, O, A> {
-    ghost use Rattle.html5rewrite.specs.Rewriting.{hidden_of};
+    ghost use Rattle.html5elements.specs.Hidden.{hidden_of};
     ghost use Rattle.html5rewrite.specs.Writing.{Handler};
 
     ghost Value = { Handler H O };
@@ -94,7 +96,7 @@ fn take_tag<H: TagRewriter<Tag<A>>, O: Output, A: Allocator + Copy>(
     ensures written { OnOk result (O.bytes output.new
         ≡ O.bytes output.old ++ page_bytes (written (H.means rewriter.now) run.now (ToldTag (tag_of tag)))) }
     ensures hidden { OnOk result
-        (hidden_of hidden.new ≡ hidden_from (H.means rewriter.now) (hidden_of hidden.old) (tag_of tag)) }
+        (hidden_of hidden.new ≡ hidden_from (opens (H.means rewriter.now) (tag_of tag)) (hidden_of hidden.old) (tag_of tag)) }
     ensures unwritten { OnErr result (O.bytes output.new ≡ O.bytes output.old) }
     ensures unchanged { OnErr result (hidden_of hidden.new ≡ hidden_of hidden.old) }
 {
@@ -125,10 +127,11 @@ fn take_shown<H: TagRewriter<Tag<A>>, O: Output, A: Allocator + Copy>(
     run: &str,
     token: Token<A>,
 ) -> Result<(), SinkFault>
+    requires { hidden.old.depth ≡ 0 }
     ensures written { OnOk result (O.bytes output.new
         ≡ O.bytes output.old ++ page_bytes (written (H.means rewriter.now) run.now (told_by token))) }
     ensures hidden { OnOk result (hidden_of hidden.new
-        ≡ hidden_after_shown (H.means rewriter.now) (hidden_of hidden.old) (told_by token)) }
+        ≡ hidden_after (opens (H.means rewriter.now)) (hidden_of hidden.old) (told_by token)) }
     ensures unwritten { OnErr result (O.bytes output.new ≡ O.bytes output.old) }
     ensures unchanged { OnErr result (hidden_of hidden.new ≡ hidden_of hidden.old) }
 {
@@ -136,6 +139,22 @@ fn take_shown<H: TagRewriter<Tag<A>>, O: Output, A: Allocator + Copy>(
         Token::TagToken(tag) => take_tag(alloc, rewriter, output, hidden, run, tag),
         _ => put_run(alloc, output, run),
     }
+}
+
+// Passes a token that is hidden, whatever opens what is hidden elsewhere.
+fn pass_hidden<A: Allocator>(hidden: &mut Hidden<A>, token: &Token<A>) -> Result<(), SinkFault>
+    requires { hidden.old.depth ≢ 0 }
+    ensures ok { (opens : TagOf → Bool)
+        → OnOk result (hidden_of hidden.new ≡ hidden_after opens (hidden_of hidden.old) (told_by token.now)) }
+    ensures err { OnErr result (hidden_of hidden.new ≡ hidden_of hidden.old) }
+{
+    if hidden.is_full() {
+        return Err(SinkFault);
+    }
+    if let Token::TagToken(tag) = token {
+        hidden.pass_within(tag);
+    }
+    Ok(())
 }
 
 impl<H: Drop, O, A: Allocator + Copy> Rewriting<H, O, A> {
@@ -178,7 +197,7 @@ impl<H: TagRewriter<Tag<A>>, O: Output, A: Allocator + Copy> TokenHandler<Token<
         _line_number: u64,
     ) -> Result<(), SinkFault> {
         if self.hidden.depth != 0 {
-            return self.hidden.pass(&token);
+            return pass_hidden(&mut self.hidden, &token);
         }
         take_shown(
             self.alloc,
