@@ -9,7 +9,7 @@ use Rattle.html5reading.specs.Start.{Start, Rules, held_len}
 use Rattle.markup5ever.specs.BufferQueue.{TextQueue}
 use Rattle.html5feed.specs.Feed.{Feed, told_beyond, feed, IsEndOf, IsLinear}
 use Rattle.html5states.specs.Telling.{Stops}
-use Rattle.html5ever.specs.Tokenizer.{Tokenizing, StandsAt, ReadsOn, Feeds, StopsReading, StopsFeeding}
+use Rattle.html5ever.specs.Tokenizer.{Tokenizing, TakesFront, StandsAt, ReadsOn, Feeds, StopsReading, StopsFeeding}
 use Rattle.html5partial.specs.declared.error.TokenizerError.{TokenizerError}
 use Rattle.html5partial.specs.declared.error.TokenizerError.TheVariants.{Memory, Sink, Failed}
 use Rattle.html5feed.proofs.Pauses.{told_beyond-after, state_beyond-append, feed-parts}
@@ -75,14 +75,31 @@ module _ {X S H : Type 0} (means : Means X S H) where
       append_cancel_right (feed means rules K s text queue).taken front left
       (ap (λ l. (feed means rules K s text queue).taken ++ l) leaves ∙ feed-parts means rules K s text queue ∙ parts)
 
+  -- what the feeds so far and one more did to the queue
+  pub HasDrained-takes : (first now next : Tokenizing X) (old mid new : TextQueue) → HasDrained first now old mid → TakesFront now next mid new
+      → TakesFront first next old new
+  HasDrained-takes first now next old mid new drained takes = record {
+    end_of_queue = record {
+      front = drained.front ++ takes.end_of_queue.front;
+      parts =
+        drained.parts ∙ ap (λ l. drained.front ++ l) takes.end_of_queue.parts
+        ∙ sym (append_assoc drained.front takes.end_of_queue.front new.text);
+    };
+    handed_in = takes.handed_in ∙ drained.handed_in;
+    linear = omega (arith, takes.linear, drained.linear);
+  }
+
   -- one feed more goes on from where the last one stopped
   pub HasDrained-more : (first now next : Tokenizing X) (old mid new : TextQueue) (reply : Reply H) → HasDrained first now old mid
-      → Feeds means now next mid.text new.text reply → IsEndOf new.text mid.text
-      → next.rules ≡ now.rules → next.ended ≡ false → next.failed ≡ now.failed → IsLinear (held_len now.position.opened) mid (held_len next.position.opened) new → new.handed_in ≡ mid.handed_in
+      → Feeds means now next mid.text new.text reply → TakesFront now next mid new
+      → next.rules ≡ now.rules → next.ended ≡ false → next.failed ≡ now.failed
       → HasDrained first next old new
-  HasDrained-more first now next old mid new reply drained feeds is_end rules going_on failed linear handed_in = record {
-    front = drained.front ++ is_end.front;
-    parts = drained.parts ∙ ap (λ l. drained.front ++ l) is_end.parts ∙ sym (append_assoc drained.front is_end.front new.text);
+  HasDrained-more first now next old mid new reply drained feeds takes rules going_on failed =
+      let is_end : IsEndOf new.text mid.text = takes.end_of_queue in
+      let all : TakesFront first next old new = HasDrained-takes first now next old mid new drained takes in
+      record {
+    front = all.end_of_queue.front;
+    parts = all.end_of_queue.parts;
     reads = λ K s text stands.
         let fed = feeds K s (text ++ drained.front) (drained.reads K s text stands) in
         subst (λ l. StandsAt means next K s l)
@@ -92,15 +109,8 @@ module _ {X S H : Type 0} (means : Means X S H) where
     rules = rules ∙ drained.rules;
     going_on = going_on;
     failed = failed ∙ drained.failed;
-    linear = omega (arith, linear, drained.linear);
-    handed_in = handed_in ∙ drained.handed_in;
-  }
-
-  -- what a feed leaves is an end of all that waited
-  pub HasDrained-end : (first now : Tokenizing X) (old mid : TextQueue) (left : List ℕ) → HasDrained first now old mid → IsEndOf left mid.text → IsEndOf left old.text
-  HasDrained-end first now old mid left drained is_end = record {
-    front = drained.front ++ is_end.front;
-    parts = drained.parts ∙ ap (λ l. drained.front ++ l) is_end.parts ∙ sym (append_assoc drained.front is_end.front left);
+    linear = all.linear;
+    handed_in = all.handed_in;
   }
 
   -- the queue is empty, so all was read

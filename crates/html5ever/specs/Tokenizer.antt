@@ -4,14 +4,15 @@ use Rattle.html5ever_interface.specs.Options.{OptionsOf}
 use Rattle.html5ever_interface.specs.Sink.{Means, Message, stepped}
 use Rattle.html5ever_interface.specs.Token.{Reply}
 use Rattle.html5reading.specs.Reading.{all_messages, state_after, start_after}
-use Rattle.html5reading.specs.Start.{Start, Rules, start_of, nothing_open}
+use Rattle.html5reading.specs.Start.{Start, Rules, start_of, nothing_open, held_len}
 use Rattle.html5grammar.specs.Items.{ToldItems, FinishedItems}
 use Rattle.html5ever.specs.Pauses.{TakesByItems}
-use Rattle.html5feed.specs.Feed.{Feed, told_beyond, told_at_end, feed}
+use Rattle.html5feed.specs.Feed.{Feed, told_beyond, told_at_end, feed, IsEndOf, IsLinear}
 use Rattle.html5feed.specs.Refused.{RefusedAfter}
 use Rattle.html5states.specs.Telling.{Stops, StopsWithin, FaultsWithin}
 use Rattle.html5partial.specs.declared.error.TokenizerError.{TokenizerError}
 use Rattle.html5partial.specs.declared.error.TokenizerError.TheVariants.{Memory, Sink, Failed}
+use Rattle.markup5ever.specs.BufferQueue.{TextQueue}
 use Rattle.markup5ever.specs.NamedReferences.{NamedReference}
 
 -- what contracts see of a tokenizer
@@ -29,6 +30,14 @@ pub record Tokenizing (X : Type 0) : Type 0 where
 -- what a tokenizer with these options and this table reads by
 abbrev pub rules_of : OptionsOf → List NamedReference → Rules
 rules_of opts references = record { exact = opts.exact_errors; references = references }
+
+-- what a feed does to the queue, also where it is refused: it puts nothing in, and takes from the front
+pub record TakesFront {X : Type 0} (before after : Tokenizing X) (queue left : TextQueue) : Type 0 where
+  -- what is left is an end of what waited
+  pub end_of_queue : IsEndOf left.text queue.text
+  pub handed_in : left.handed_in ≡ queue.handed_in
+  -- at most two characters were taken for each that waited and left the queue
+  pub linear : IsLinear (held_len before.position.opened) queue (held_len after.position.opened) left
 
 -- ---- whole readings
 

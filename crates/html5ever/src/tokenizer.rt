@@ -3,15 +3,15 @@ ghost use Rattle.std.specs.Prelude.{◌≡◌, ◌≢◌, ◌^◌, ◌<◌, ◌+
 ghost use Rattle.html5ever_interface.specs.Options.{options_of};
 ghost use Rattle.html5ever_interface.specs.Sink.{stepped, on_line};
 ghost use Rattle.html5reading.specs.EndOfInput.{tokens_at_end};
-ghost use Rattle.html5reading.specs.Start.{start_of, nothing_open, held_len};
+ghost use Rattle.html5reading.specs.Start.{start_of, nothing_open};
 ghost use Rattle.html5reading.specs.Start.Mode.{Plain};
 ghost use Rattle.html5reading.specs.Start.Open.{Between};
-ghost use Rattle.html5feed.specs.Feed.{reply_in, IsEndOf, IsLinear};
+ghost use Rattle.html5feed.specs.Feed.{reply_in};
 ghost use Rattle.html5states.specs.Telling.{faults_of};
 ghost use Rattle.html5feed.specs.Starting.{CanStart};
 ghost use Rattle.markup5ever.specs.NamedReferences.{IsTable};
 ghost use Rattle.html5ever.specs.Tokenizer.{rules_of, StandsAt, Feeds, FeedsItems, FinishesItems};
-ghost use Rattle.html5ever.specs.Tokenizer.{StopsFeeding, Finishes, StopsEnding, EndStops};
+ghost use Rattle.html5ever.specs.Tokenizer.{StopsFeeding, TakesFront, Finishes, StopsEnding, EndStops};
 
 use html5feed::position::Position;
 use html5feed::reading::read_queue;
@@ -136,11 +136,8 @@ impl<'t, Sink: TokenSink<Token<A>>, A: Allocator + Copy> Tokenizer<'t, Sink, A> 
         ensures failed { self.new.failed ≡ is_err result }
         ensures empty { queue.old.text ≡ [] → self.old.failed ≡ false → IsOk result }
 
-        // What each feed keeps. `end_of_queue` stays for callers who need no more of it.
-        ensures end_of_queue { IsEndOf queue.new.text queue.old.text }
-        ensures linear { IsLinear (held_len self.old.position.opened) queue.old
-            (held_len self.new.position.opened) queue.new }
-        ensures handed_in { queue.new.handed_in ≡ queue.old.handed_in }
+        // What each feed keeps.
+        ensures queue { TakesFront self.old self.new queue.old queue.new }
         ensures rules { self.new.rules ≡ self.old.rules }
         ensures going_on { self.new.ended ≡ false }
     {

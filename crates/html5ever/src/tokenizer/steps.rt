@@ -2,13 +2,11 @@
 ghost use Rattle.std.specs.Prelude.{◌≡◌, ◌+◌, ◌↔◌, [], true, false, IsOk, OnOk, IfErr, is_err, map};
 ghost use Rattle.html5ever_interface.specs.Options.{options_of};
 ghost use Rattle.html5ever_interface.specs.Token.{Reply};
-ghost use Rattle.html5reading.specs.Start.{held_len};
-ghost use Rattle.html5feed.specs.Feed.{IsEndOf, IsLinear};
 ghost use Rattle.html5states.specs.Telling.{faults_of};
 ghost use Rattle.html5ever.specs.RunSteps.{step_of, waiting_with, text_of_steps, FinishesRun, StopsRun, RunsItems};
 ghost use Rattle.html5feed.specs.Starting.{CanStart};
 ghost use Rattle.html5ever.specs.Tokenizer.{finished_reading, StoppedReading, ReadsOn, ReadsItems, StopsReading};
-ghost use Rattle.html5ever.specs.Tokenizer.{Feeds, StopsFeeding};
+ghost use Rattle.html5ever.specs.Tokenizer.{Feeds, StopsFeeding, TakesFront};
 
 use crate::tokenizer::{Tokenizer, table_laws};
 use html5ever_interface::interface::sink::TokenSink;
@@ -38,13 +36,10 @@ pub fn feed_until_done<S: TokenSink<Token<A>>, A: Allocator + Copy>(
         StopsReading S.means error tokenizer.old queue.old.text (S.means.state tokenizer.new.sink)) }
     ensures faults { S.faults tokenizer.new.sink ≡ S.faults tokenizer.old.sink + faults_of result }
     ensures failed { tokenizer.new.failed ≡ is_err result }
-    ensures end_of_queue { IsEndOf queue.new.text queue.old.text }
     ensures empty { queue.old.text ≡ [] → tokenizer.old.failed ≡ false → IsOk result }
 
     // What it keeps.
-    ensures linear { IsLinear (held_len tokenizer.old.position.opened) queue.old
-        (held_len tokenizer.new.position.opened) queue.new }
-    ensures handed_in { queue.new.handed_in ≡ queue.old.handed_in }
+    ensures queue { TakesFront tokenizer.old tokenizer.new queue.old queue.new }
     ensures rules { tokenizer.new.rules ≡ tokenizer.old.rules }
     ensures going_on { tokenizer.new.ended ≡ false }
 {
@@ -93,7 +88,7 @@ fn feed_once<S: TokenSink<Token<A>>, A: Allocator + Copy>(
     ensures stops { IfErr result (λ error. StopsFeeding S.means error tokenizer.old
         queue.old.text queue.new.text (S.means.state tokenizer.new.sink)) }
     ensures faults { S.faults tokenizer.new.sink ≡ S.faults tokenizer.old.sink + faults_of result }
-    ensures end_of_queue { IsEndOf queue.new.text queue.old.text }
+    ensures queue { TakesFront tokenizer.old tokenizer.new queue.old queue.new }
     ensures rules { tokenizer.new.rules ≡ tokenizer.old.rules }
     ensures going_on { tokenizer.new.ended ≡ false }
     ensures not_failed { OnOk result (tokenizer.new.failed ≡ false) }

@@ -6,7 +6,7 @@ ghost use Rattle.html5ever_interface.specs.Sink.{Message};
 ghost use Rattle.html5ever_interface.specs.Token.Told.{Text};
 ghost use Rattle.html5reading.specs.Characters.{carriage_return};
 ghost use Rattle.html5reading.specs.NormalisedText.{input_after};
-ghost use Rattle.html5reading.specs.Start.{is_between, held_len};
+ghost use Rattle.html5reading.specs.Start.{held_len};
 ghost use Rattle.html5partial.specs.CharRef.{BeginsInAscii};
 ghost use Rattle.html5partial.specs.Undecided.{is_reference};
 ghost use Rattle.html5partial.specs.CurrentTag.{is_between};

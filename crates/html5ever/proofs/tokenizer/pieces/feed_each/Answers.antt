@@ -24,7 +24,7 @@ loop-piece-preserved g c = (
       _ (map string_bytes (into_iter_items c.next.new.self)) (string_bytes c.in-Some.piece)
       (rw c.in-Some.ensures.steps.0 at c.loop-piece.invariant.0) c.in-Ok.ensures.ok
       c.in_ok-feed_until_done.ensures.reads c.in_ok-feed_until_done.ensures.taken c.in_ok-feed_until_done.ensures.rules
-      c.in_ok-feed_until_done.ensures.linear c.in_ok-feed_until_done.ensures.handed_in,
+      c.in_ok-feed_until_done.ensures.queue.linear c.in_ok-feed_until_done.ensures.queue.handed_in,
   c.in_ok-feed_until_done.ensures.going_on,
   c.in_ok-feed_until_done.ensures.failed,
   omega (arith, c.in_ok-feed_until_done.ensures.faults, c.loop-piece.invariant.3),
@@ -55,4 +55,4 @@ pub returns-in_err-feed_until_done-clause-linear : goal.returns-in_err-feed_unti
 returns-in_err-feed_until_done-clause-linear g c =
     HasFed-linear g.S.TokenSink.means
     c.args.tokenizer.now c.loop-piece.tokenizer c.args.queue.now c.loop-piece.queue c.push_back.new.self c.feed_until_done.new.queue _ _ (string_bytes c.in-Some.piece) _
-    c.loop-piece.invariant.0 c.in-Ok.ensures.ok c.feed_until_done.ensures.linear c.feed_until_done.ensures.handed_in
+    c.loop-piece.invariant.0 c.in-Ok.ensures.ok c.feed_until_done.ensures.queue.linear c.feed_until_done.ensures.queue.handed_in

@@ -20,7 +20,7 @@ returns-in_err-feed_once-clause-stops g c =
 pub loop-step-preserved : goal.loop-step-preserved
 loop-step-preserved g c = (
   HasTaken-more g.S.TokenSink.means _ _ _ _ _ (step_of c.in-Some.step) _ _ _ c.in_ok-feed_once.ensures.reads.0 (rw c.in-Some.ensures.steps.0 at c.loop-step.invariant.0) c.in_ok-hand_in.ensures.ok
-      c.in_ok-feed_once.ensures.reads.1 c.feed_once.ensures.end_of_queue
+      c.in_ok-feed_once.ensures.reads.1 c.feed_once.ensures.queue.end_of_queue
       c.feed_once.ensures.rules c.feed_once.ensures.going_on c.in_ok-feed_once.ensures.not_failed,
   omega (arith, c.in_ok-feed_once.ensures.faults, c.loop-step.invariant.1),
   (let short = ap length c.in-Some.ensures.steps.0 in
