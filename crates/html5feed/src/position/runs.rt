@@ -6,10 +6,9 @@ ghost use Rattle.html5ever_interface.specs.Sink.{Message};
 ghost use Rattle.html5ever_interface.specs.Token.Told.{Text};
 ghost use Rattle.html5reading.specs.Characters.{carriage_return};
 ghost use Rattle.html5reading.specs.NormalisedText.{input_after};
-ghost use Rattle.html5reading.specs.Start.{held_len};
+ghost use Rattle.html5reading.specs.Start.{nothing_open, held_len};
 ghost use Rattle.html5partial.specs.CharRef.{BeginsInAscii};
 ghost use Rattle.html5partial.specs.Undecided.{is_reference};
-ghost use Rattle.html5partial.specs.CurrentTag.{is_between};
 ghost use Rattle.html5feed.specs.Refused.{IsRun};
 ghost use Rattle.html5partial.specs.Runs.{IsRunAt, other_run_ends, run_ends, opened_after_run};
 ghost use Rattle.std.specs.Str.{IsUtf8, chars};
@@ -148,7 +147,7 @@ impl<A: Allocator + Copy> Position<A> {
     #[inline(always)]
     pub fn push_run(&mut self, run: &str) -> Result<(), TokenizerError>
         requires is_run { IsRunAt self.old.opened (chars run.now) }
-        requires within { is_between self.old.opened ≡ false }
+        requires within { nothing_open self.old.opened ≡ false }
         ensures opened { OnOk result
             (self.new.opened ≡ opened_after_run self.old.opened (chars run.now)) }
         ensures last { self.new.last_start_tag ≡ self.old.last_start_tag }
