@@ -5,6 +5,7 @@ use Rattle.std.specs.List.{list_all}
 use Rattle.std.proofs.lemmas.List.{append-nil}
 use Rattle.html5ever_interface.specs.Options.{default_options}
 use Rattle.html5ever_interface.specs.Sink.{Message}
+use Rattle.html5ever_interface.specs.Token.{keeps_state}
 use Rattle.html5ever_interface.specs.Token.Told.{End}
 use Rattle.html5reading.specs.NormalisedText.{normalised, line_after}
 use Rattle.html5reading.specs.Reading.{all_messages}
@@ -16,7 +17,7 @@ use Rattle.html5stream.specs.Pages.{runs_handed, runs_means, runs_page, runs_sta
 use Rattle.markup5ever.specs.NamedReferences.{NamedReference, IsTable}
 use Rattle.html5write.specs.Pieces.{Piece, pieces_text}
 use Rattle.html5write.specs.Told.{pieces_tokens, proper}
-use Rattle.html5write.proofs.Pages.{page-reading}
+use Rattle.html5write.proofs.Pages.{pieces-reading}
 use Rattle.html5write.proofs.ProperTokens.{proper-whole}
 use Rattle.html5cleaner.specs.Allowed.{is_clean}
 use Rattle.html5cleaner.specs.Balance.{end_tags}
@@ -41,8 +42,8 @@ proper-page policy references pieces sound table clean =
     let means = runs_means {X = Running Cleaned} (λ t. t) clean_step in
     ap (λ text. proper (all_messages means rules K (runs_start (at_start policy)) text)) (chars-encoded (pieces_text pieces))
     ∙ ap proper
-    (page-reading means rules K (runs_start (at_start policy)) pieces table (record { starts = refl; no_break = refl }) (can-clean policy pieces clean)
-    (keeps_on-page policy sound means.reply (λ s tag line keeps. keeps) pieces clean))
+    (pieces-reading means rules K (runs_start (at_start policy)) pieces table (record { starts = refl; no_break = refl }) (can-clean policy pieces clean)
+    (keeps_on-page policy sound means.reply (λ s tag line keeps. ap keeps_state keeps) pieces clean))
     ∙ proper-whole rules.exact K.input pieces (line_after K.input (normalised K.input (pieces_text pieces)))
 
 kept-again : (policy : PolicyOf) (references : List NamedReference) (pieces : List Piece) (opened : List (List ℕ)) → IsSound policy → IsTable references

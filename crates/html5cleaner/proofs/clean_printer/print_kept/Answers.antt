@@ -10,6 +10,6 @@ pub returns-in-Ok-print-clause-printed : goal.returns-in-Ok-print-clause-printed
 returns-in-Ok-print-clause-printed g c =
     let told = told_by c.args.token.now in
     let keeps = written_by c.args.policy.now.balance (is_end told) c.args.opened.now (kept_where c.args.policy.now c.args.depth c.args.run.now told) in
-    let encoded = sym (encodes-chars c.as_str.result.now c.as_str.utf8) ∙ ap encode_utf8_all c.as_str.ensures.page in
+    let encoded = sym (encodes-chars c.as_str.result.now c.as_str.utf8) ∙ ap encode_utf8_all c.as_str.ensures.written in
     let written = ap page_bytes (c.in-Ok.ensures.written ∙ ap (λ pieces. pieces ++ keeps) c.new-page.ensures) in
     c.in-Ok-print.ensures.ok ∙ ap (λ bytes. c.args.printer.now.printed ++ bytes) (c.as_bytes.ensures.value ∙ encoded ∙ written)
