@@ -16,14 +16,15 @@ use Rattle.html5write.specs.Told.{IsReadBack, KeepsOn, KeepsOnAfterPiece, start_
 use Rattle.html5rewrite.specs.Plain.{IsReadBackPlain, is_before_markup, is_plain}
 use Rattle.html5rewrite.specs.Rewriter.{reads_markup_after}
 
-keeps_on-by_tests : (raw : Option RawKind) (plaintext : Bool) → (is_none raw && not plaintext) ≡ true → (if plaintext then ReadPlainText else reply_to_raw_text raw) ≡ KeepOn
-keeps_on-by_tests None false reads = refl
-keeps_on-by_tests None true reads = absurd (false≢true reads)
-keeps_on-by_tests (Some kind) plaintext reads = absurd (false≢true reads)
+keeps_on-by_tests : (raw : Option RawKind) (plaintext noscript : Bool) → (is_none raw && not plaintext && not noscript) ≡ true
+    → (if plaintext then ReadPlainText else reply_to_raw_text raw) ≡ KeepOn
+keeps_on-by_tests None false noscript reads = refl
+keeps_on-by_tests None true noscript reads = absurd (false≢true reads)
+keeps_on-by_tests (Some kind) plaintext noscript reads = absurd (false≢true reads)
 
 keeps_on-name : (name : List ℕ) → reads_markup_after name ≡ true → standard_reply_to_start name ≡ KeepOn
 unfolding standard_reply_to_start
-keeps_on-name name reads = keeps_on-by_tests (raw_text_in name) (bytes_eq name (codes "plaintext")) reads
+keeps_on-name name reads = keeps_on-by_tests (raw_text_in name) (bytes_eq name (codes "plaintext")) (bytes_eq name (codes "noscript")) reads
 
 module _ {S H : Type 0} (reply : S → Told → ℕ → Reply H) (follows : FollowsStandard {S = S} reply) where
   keeps_on-piece : (piece : Piece) → is_before_markup piece ≡ true → KeepsOnAfterPiece {S = S} reply piece

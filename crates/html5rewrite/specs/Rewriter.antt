@@ -15,9 +15,10 @@ pub record Rewriter : Type 0 where
   pub keeps : TagOf → Keep
   pub rewritten : TagOf → TagOf
 
--- whether what stands after a start tag of this name is read as markup
+-- whether what stands after a start tag of this name is read as markup, also by a reader with scripting, for whom a noscript is raw
+-- text
 abbrev pub reads_markup_after : List ℕ → Bool
-reads_markup_after name = is_none (raw_text_in name) && not (bytes_eq name (codes "plaintext"))
+reads_markup_after name = is_none (raw_text_in name) && not (bytes_eq name (codes "plaintext")) && not (bytes_eq name (codes "noscript"))
 
 abbrev pub reads_markup_by_kind : TagKind → List ℕ → Bool
 reads_markup_by_kind StartTag name = reads_markup_after name

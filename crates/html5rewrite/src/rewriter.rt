@@ -40,11 +40,12 @@ pub trait TagRewriter<T: SaysTag>: Drop {
         ensures { OnOk result (T.tag tag.new ≡ (means self.now).rewritten (T.tag tag.old)) };
 }
 
-/// Whether what stands after a start tag of this name is read as markup.
+/// Whether what stands after a start tag of this name is read as markup, also by a reader with
+/// scripting, for whom a `noscript` is raw text.
 pub fn reads_markup_after(name: &str) -> bool
     ensures { result ≡ reads_markup_after name.now }
 {
-    raw_text_in(name).is_none() && name != "plaintext"
+    raw_text_in(name).is_none() && name != "plaintext" && name != "noscript"
 }
 
 // Whether what stands after a tag is read as markup.

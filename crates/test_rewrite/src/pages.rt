@@ -9,7 +9,7 @@ use testing_devices::PieceSource;
 const BASE: &str = "https://a.example";
 
 // Pages, and what is written of them. References are numbers, since the table is empty.
-const CASES: [(&str, &str); 18] = [
+const CASES: [(&str, &str); 19] = [
     ("", ""),
     ("a < b & c", "a &#60; b &#38; c"),
     (
@@ -30,6 +30,7 @@ const CASES: [(&str, &str); 18] = [
     ("a</nav>b<img src=c>d", "abd"),
     ("a<script>if (b < c) d</script>e", "ae"),
     ("a<title>b</title><plaintext>c", "a"),
+    ("a<noscript><p>b</p></noscript>c", "ac"),
     ("<!DOCTYPE html>a<!--b-->c<?d>e", "ace"),
     ("<p a\"b=c d=e>", "<p d=\"e\">"),
     ("<br/><svg/>a", "<br><svg>a"),
