@@ -82,8 +82,8 @@ module _ {X S H : Type 0} (means : Means X S H) where
     end_of_queue = record {
       front = drained.front ++ takes.end_of_queue.front;
       parts =
-        drained.parts ∙ ap (λ l. drained.front ++ l) takes.end_of_queue.parts
-        ∙ sym (append_assoc drained.front takes.end_of_queue.front new.text);
+          drained.parts ∙ ap (λ l. drained.front ++ l) takes.end_of_queue.parts
+          ∙ sym (append_assoc drained.front takes.end_of_queue.front new.text);
     };
     handed_in = takes.handed_in ∙ drained.handed_in;
     linear = omega (arith, takes.linear, drained.linear);
@@ -94,24 +94,25 @@ module _ {X S H : Type 0} (means : Means X S H) where
       → Feeds means now next mid.text new.text reply → TakesFront now next mid new
       → next.rules ≡ now.rules → next.ended ≡ false → next.failed ≡ now.failed
       → HasDrained first next old new
+  unfolding HasDrained-takes
   HasDrained-more first now next old mid new reply drained feeds takes rules going_on failed =
       let is_end : IsEndOf new.text mid.text = takes.end_of_queue in
       let all : TakesFront first next old new = HasDrained-takes first now next old mid new drained takes in
       record {
-    front = all.end_of_queue.front;
-    parts = all.end_of_queue.parts;
-    reads = λ K s text stands.
-        let fed = feeds K s (text ++ drained.front) (drained.reads K s text stands) in
-        subst (λ l. StandsAt means next K s l)
-        (ap (λ l. (text ++ drained.front) ++ l) (taken-is now.rules K s (text ++ drained.front) is_end.front new.text mid.text is_end.parts fed.left)
-        ∙ append_assoc text drained.front is_end.front)
-        fed.stands;
-    rules = rules ∙ drained.rules;
-    going_on = going_on;
-    failed = failed ∙ drained.failed;
-    linear = all.linear;
-    handed_in = all.handed_in;
-  }
+        front = all.end_of_queue.front;
+        parts = all.end_of_queue.parts;
+        reads = λ K s text stands.
+            let fed = feeds K s (text ++ drained.front) (drained.reads K s text stands) in
+            subst (λ l. StandsAt means next K s l)
+            (ap (λ l. (text ++ drained.front) ++ l) (taken-is now.rules K s (text ++ drained.front) is_end.front new.text mid.text is_end.parts fed.left)
+            ∙ append_assoc text drained.front is_end.front)
+            fed.stands;
+        rules = rules ∙ drained.rules;
+        going_on = going_on;
+        failed = failed ∙ drained.failed;
+        linear = all.linear;
+        handed_in = all.handed_in;
+      }
 
   -- the queue is empty, so all was read
   pub HasDrained-all : (first now : Tokenizing X) (old new : TextQueue) → HasDrained first now old new → new.text ≡ [] → ReadsOn means first now old.text
