@@ -94,6 +94,7 @@ module _ {X S H : Type 0} (means : Means X S H) where
       → Feeds means now next mid.text new.text reply → TakesFront now next mid new
       → next.rules ≡ now.rules → next.ended ≡ false → next.failed ≡ now.failed
       → HasDrained first next old new
+  unfolding HasDrained-takes
   HasDrained-more first now next old mid new reply drained feeds takes rules going_on failed =
       let is_end : IsEndOf new.text mid.text = takes.end_of_queue in
       let all : TakesFront first next old new = HasDrained-takes first now next old mid new drained takes in

@@ -1,6 +1,6 @@
 //! A tokenizer between two calls, which borrows no table.
 ghost use Rattle.std.specs.Prelude.{◌≡◌};
-ghost use Rattle.html5ever.specs.DetachedTokenizer.{tokenizing};
+ghost use Rattle.html5ever.specs.Detached.{tokenizing};
 
 use crate::tokenizer::Tokenizer;
 use html5feed::position::Position;
@@ -23,7 +23,7 @@ pub struct DetachedTokenizer<Sink, A: Allocator = Global> {
 }
 
 impl<Sink, A: Allocator> Model for DetachedTokenizer<Sink, A> {
-    ghost use Rattle.html5ever.specs.DetachedTokenizer.{DetachedOf};
+    ghost use Rattle.html5ever.specs.Detached.{DetachedOf};
 
     ghost Value = { DetachedOf Sink };
 
