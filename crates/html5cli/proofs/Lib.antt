@@ -1,5 +1,5 @@
-pub mod Cuts
-pub mod Feeding
+pub mod TextCuts
+pub mod FeedingText
 pub mod PrintedOutput
 pub mod SettingsLemmas
 pub mod PrintedItems

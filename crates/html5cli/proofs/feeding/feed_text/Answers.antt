@@ -5,8 +5,8 @@ use Rattle.devices.specs.Device.{AppendsBeginning}
 use Rattle.html5ever.specs.Tokenizer.{Tokenizing}
 use Rattle.token_printer.specs.Output.{Printer}
 use Rattle.html5cli.specs.Printing.{WritesFront}
-use Rattle.html5cli.proofs.Cuts.{IsCut, IsPiece-sliced, IsCut-further, IsCut-boundary}
-use Rattle.html5cli.proofs.Feeding.{FedTo, FedTo-start, FedTo-more, FedTo-all, FedTo-short, FedTo-unwritten, WritesFront-none, on_err-anyway}
+use Rattle.html5cli.proofs.TextCuts.{IsCut, IsPiece-sliced, IsCut-further, IsCut-boundary}
+use Rattle.html5cli.proofs.FeedingText.{FedTo, FedTo-start, FedTo-more, FedTo-all, FedTo-short, FedTo-unwritten, WritesFront-none, on_err-anyway}
 use Rattle.html5cli.proofs.feeding.feed_text.Goals as goal
 
 pub loop-start-init : goal.loop-start-init

@@ -1,5 +1,5 @@
 use Rattle.std.proofs.Common.{◌≡◌, ◌-◌, length}
-use Rattle.html5cli.proofs.Feeding.{FedTo}
+use Rattle.html5cli.proofs.FeedingText.{FedTo}
 use Rattle.html5cli.proofs.feeding.feed_text.Given as goal
 
 abbrev pub invariant-loop-start : goal.invariant-loop-start

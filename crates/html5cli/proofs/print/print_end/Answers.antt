@@ -6,7 +6,7 @@ use Rattle.html5ever.proofs.Standing.{StandsAt-start}
 use Rattle.html5ever.specs.Tokenizer.{Tokenizing}
 use Rattle.token_printer.specs.Output.{Output, Printer}
 use Rattle.html5cli.specs.Printing.{printer_means, output_at_end}
-use Rattle.html5cli.proofs.Feeding.{AppendsBeginning-nothing, some-at_end}
+use Rattle.html5cli.proofs.FeedingText.{AppendsBeginning-nothing, some-at_end}
 use Rattle.html5cli.proofs.print.print_end.Goals as goal
 
 pub returns-in-Ok-clause-ok : goal.returns-in-Ok-clause-ok

@@ -8,7 +8,7 @@ use Rattle.html5ever_interface.specs.Options.{options_of}
 use Rattle.html5reading.specs.Start.{start_of}
 use Rattle.html5cli.specs.Printing.{output_at_end, printed_reading}
 use Rattle.html5cli.specs.Settings.{said_by}
-use Rattle.html5cli.proofs.Feeding.{AppendsBeginning-nothing, AppendsBeginning-after, on_err-anyway, printed-whole, printed-parts, some-printed}
+use Rattle.html5cli.proofs.FeedingText.{AppendsBeginning-nothing, AppendsBeginning-after, on_err-anyway, printed-whole, printed-parts, some-printed}
 use Rattle.html5cli.proofs.print.print_text.Goals as goal
 
 pub returns-in_err-opts-clause-err : goal.returns-in_err-opts-clause-err

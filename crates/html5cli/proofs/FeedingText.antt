@@ -20,7 +20,7 @@ use Rattle.devices.specs.Device.{AppendsBeginning}
 use Rattle.devices.specs.declared.fault.Fault.{Fault}
 use Rattle.html5cli.specs.Printing.{printer_means, printed_reading, after_bytes, after_written, output_at_end, WritesFront, PrintsOn, PrintsShort}
 use Rattle.html5cli.specs.Settings.{SettingsOf}
-use Rattle.html5cli.proofs.Cuts.{IsCut, IsPiece, IsCut-start, IsCut-front}
+use Rattle.html5cli.proofs.TextCuts.{IsCut, IsPiece, IsCut-start, IsCut-front}
 use Rattle.html5cli.proofs.PrintedOutput.{Keeps-same, printed-output}
 use Rattle.html5cli.proofs.WrittenOutput.{IsLonger, further-output, further-start, ended-output, decided-short}
 
