@@ -66,7 +66,7 @@ WritesFront-all before after output left written cleared = record {
 
 -- ---- where the tokenizer stands
 
--- it read on from a output of which a front was written, and some more was written then
+-- it read on from an output of which a front was written, and some more was written then
 StandsAt-written : (front : List ℕ) (before after : Option (List ℕ)) (now next : Tokenizing Printer) (left : Printer) (K : Start) (p : Output) (text piece : List ℕ)
     → StandsAt printer_means (after_written front now) K p text → ReadsOn printer_means now next piece → next.rules ≡ now.rules
     → (w : WritesFront before after next.sink.output left.output)

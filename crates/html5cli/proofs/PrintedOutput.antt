@@ -113,7 +113,7 @@ end-is_last rules K p X =
       parts = reading-ends rules K p X ends.0 ends.1 ∙ append_assoc front late (record { token = End; line = line_after K.input (normalised K.input X) } ∷ []);
     }
 
--- a output that a reading was printed to has its lines
+-- an output that a reading was printed to has its lines
 pub printed-output : (rules : Rules) (settings : SettingsOf) (references : List NamedReference) (p : Output) (bytes : List ℕ)
     → rules ≡ rules_of settings.opts references → p ≡ blank_output settings.foreign
     → (stepped output_step p (messages (reading output_step output_reply output_foreign rules (start_of settings.opts) p (chars bytes)))).lines ≡ printed_reading settings references bytes

@@ -1,4 +1,4 @@
--- How a text is read does not depend on what a output has printed.
+-- How a text is read does not depend on what an output has printed.
 use Rattle.std.proofs.Common.{◌≡◌, ℕ, List, [], ◌∷◌, ◌++◌, refl, ap, sym, ◌∙◌}
 use Rattle.html5ever_interface.specs.Sink.{Message, stepped, on_line}
 use Rattle.html5ever_interface.specs.Token.{Told}

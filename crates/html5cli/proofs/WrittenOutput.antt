@@ -1,4 +1,4 @@
--- A output that is written piece by piece: what was written and what is left of it make the output of the whole reading.
+-- An output that is written piece by piece: what was written and what is left of it make the output of the whole reading.
 use Rattle.std.proofs.Common.{◌≡◌, ℕ, ◌<◌, Bool, true, false, List, [], ◌∷◌, ◌++◌, length, refl, ap, sym, ◌∙◌, arith}
 use Rattle.std.proofs.lemmas.List.{append-nil, append_assoc, length-append}
 use Rattle.html5ever_interface.proofs.Steppings.{stepped-append}
@@ -20,7 +20,7 @@ use Rattle.html5cli.specs.Printing.{printer_means, after_bytes}
 use Rattle.html5cli.proofs.PrintedOutput.{end-is_last}
 use Rattle.html5cli.proofs.SameReadings.{told-same, start-same}
 
--- ---- what messages add to a output
+-- ---- what messages add to an output
 
 step-after : (front : List ℕ) (p : Output) (token : Told) (line : ℕ) → output_step (after_bytes front p) token line ≡ after_bytes front (output_step p token line)
 unfolding output_step
@@ -100,7 +100,7 @@ module _ (R : Rules) (K : Start) where
       ∙ ap (λ M. M ++ on_line (line_after K.input (normalised K.input [])) (tokens_at_end R (start_after printer_means R K p []).opened)) (told-nil output_step output_reply output_foreign R K p)
       ∙ ap (λ (P : Start). on_line (line_after K.input (normalised K.input [])) (tokens_at_end R P.opened)) (after-nil output_step output_reply output_foreign R K p)
 
--- ---- a output of which a front was written
+-- ---- an output of which a front was written
 
 module _ (R : Rules) (K : Start) (p : Output) (text : List ℕ) where
   -- where what follows the text is read from

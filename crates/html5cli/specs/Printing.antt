@@ -25,7 +25,7 @@ printer_means = record {
   end_faulted = λ output. output;
 }
 
--- a output where these bytes come before its lines
+-- an output where these bytes come before its lines
 abbrev pub after_bytes : List ℕ → Output → Output
 after_bytes bytes output = record output { lines = bytes ++ output.lines }
 

@@ -25,7 +25,7 @@ pub fn write_output<W: Target, A: Allocator>(
     Ok(())
 }
 
-// How many bytes wait on a output before it is written.
+// How many bytes wait on an output before it is written.
 const OUTPUT: usize = 65_536;
 
 /// Writes the output and clears it, where it is full.

@@ -36,15 +36,13 @@ use Rattle.html5grammar.specs.Doctype as one_doctype
 use Rattle.html5reading.specs.Doctype as doctype_words
 use Rattle.html5grammar.specs.Instruction as one_instruction
 use Rattle.html5reading.specs.Instruction as instruction_words
-use Rattle.html5reading.specs.Slice as slice
-use Rattle.html5reading.specs.Reference as reference_words
-use Rattle.markup5ever.specs.NamedReferences as named_references
 use Rattle.html5reading.specs.RawText as raw_text
 use Rattle.html5grammar.specs.Cdata as one_cdata
 use Rattle.html5reading.specs.EndOfInput as end_of_input
 use Rattle.html5reading.specs.Comment as comment_words
 use Rattle.html5grammar.specs.Declarations as declarations
 use Rattle.markup5ever.specs.NamedReferences.{NamedReference}
+use Rattle.html5reading.proofs.OnLiterals.{reading_on_literals, reference_on_literals}
 use Rattle.html5grammar.proofs.OnLiterals.{raw_item_on_literals, tag_item_on_literals, doctype_item_on_literals, comment_item_on_literals}
 
 -- a sink that goes on after each tag, with this answer about foreign content
@@ -117,11 +115,11 @@ unfolding encode one_instruction.is_written instruction_words.in_instruction one
 instruction = OneInstruction (record { content = codes "xml?"; is_ended = true }) (record { starts = refl; is_instruction = refl; text = refl }) refl
 
 reference : Tells false Data (codes "&not") (codes " x") (Error (codes "Character reference does not end with semicolon") ∷ Text (0xC2 ∷ 0xAC ∷ []) ∷ []) Data
-unfolding encode slice.after_while reference_words.is_undecided named_references.begins_name normalised_text.normalised normalised_text.with_line_feeds normalised_text.without_dropped_first reference_words.reference slice.run_while reference_words.named_reference reference_words.longest_name reference_words.is_ended normalised_text.input_after normalised_text.ends_with_carriage_return normalised_text.line_after
+unfolding reading_on_literals reference_on_literals
 reference = OneReferenceIn Data (codes "not x") (record { starts = refl; has = refl; decided = refl; text = refl; next = refl })
 
 reference_in_rcdata : Tells false title (codes "&amp;") (codes "b") (Text (codes "&") ∷ []) title
-unfolding encode slice.after_while reference_words.is_undecided named_references.begins_name normalised_text.normalised normalised_text.with_line_feeds normalised_text.without_dropped_first reference_words.reference slice.run_while reference_words.named_reference reference_words.longest_name reference_words.is_ended normalised_text.input_after normalised_text.ends_with_carriage_return normalised_text.line_after
+unfolding reading_on_literals reference_on_literals
 reference_in_rcdata = OneReferenceIn title (codes "amp;b") (record { starts = refl; has = refl; decided = refl; text = refl; next = refl })
 
 raw_character : Tells false title (codes ">") [] (Text (codes ">") ∷ []) title
@@ -185,7 +183,7 @@ unfolding raw_item_on_literals
 open_raw_end = OpenRawEnd Rcdata (codes "title") (record { kind = EndTag; first = 116; rest = codes "itle"; parts = Blank 32 ∷ Name 97 [] ∷ [] }) None (record { starts = refl; ends = refl; has_parts = refl; is_open = refl; text = refl })
 
 open_reference : TellsOpen false Data (codes "&am") [] (Text (codes "&") ∷ Text (codes "a") ∷ Text (codes "m") ∷ End ∷ [])
-unfolding encode slice.after_while reference_words.is_undecided named_references.begins_name normalised_text.normalised normalised_text.with_line_feeds normalised_text.without_dropped_first reference_words.reference reference_words.named_reference reference_words.longest_name reference_words.no_name normalised_text.line_after normalised_text.input_after slice.run_while
+unfolding reading_on_literals reference_on_literals
 open_reference = OpenReference Data (codes "am") (record { starts = refl; has = refl; undecided = refl; text = refl })
 
 open_instruction : TellsOpen false Data (codes "<?x") [] (Error (codes "Unexpected EOF") ∷ Instruction (codes "x") ∷ End ∷ [])

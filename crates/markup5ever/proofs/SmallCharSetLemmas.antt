@@ -13,7 +13,8 @@ use Rattle.std.proofs.lemmas.Str.{chars-nil, char_from_byte, encode_ascii, encod
 use Rattle.std.proofs.lemmas.Simd.{get_or-chunk}
 use lib.Lanes.{chunk}
 use Rattle.markup5ever.specs.Lanes.{bit_of}
-use Rattle.markup5ever.specs.SmallCharSet.{IsMember, IsOutside, NoneWithin, BeginsOutside}
+use Rattle.markup5ever.specs.Blocks.{NoneWithin, IsFirstFrom}
+use Rattle.markup5ever.specs.SmallCharSet.{IsMember, IsOutside, BeginsOutside}
 
 -- a bit that is set is 1, and a bit that is 1 is set
 bit_at-set : (n k : ℕ) → IsBitSet n k → bit_at n k ≡ 1
@@ -114,16 +115,14 @@ outside_from_bytes set (c ∷ cs) outside =
     All-cons Other c cs outside_c (outside_from_bytes set cs others)
 
 -- the first bytes are outside, and the next is a member where there is one
-pub record StopsAt (set : ℕ) (text : List ℕ) (len : ℕ) : Type 0 where
-  pub within : len ≤ length text
-  pub outside : NoneWithin set text 0 len
-  pub stops : len < length text → IsMember set (slice_index text len)
+abbrev StopsAt : ℕ → List ℕ → ℕ → Type 0
+StopsAt set text len = IsFirstFrom (IsMember set) text 0 len
 
 StopsAt-boundary : (set : ℕ) (text : List ℕ) (len : ℕ) → IsUtf8 text → StopsAt set text len → IsCharBoundary text len
 StopsAt-boundary set text len utf8 stops =
     elim (cases_lt len (length text)) [
       | inl less ↦ let member = stops.stops less in IsCharBoundary-before_ascii text len less (omega (arith, member.0))
-      | inr all ↦ let same : len ≡ length text = omega (arith, stops.within, all) in rw same (IsCharBoundary-end text)
+      | inr all ↦ let same : len ≡ length text = omega (arith, stops.high, all) in rw same (IsCharBoundary-end text)
     ]
 
 -- where bytes outside a set stop, characters outside the set do
@@ -131,10 +130,10 @@ pub BeginsOutside-bytes : (set : ℕ) (text : List ℕ) (len : ℕ) → IsUtf8 t
 BeginsOutside-bytes set text len utf8 stops =
     let Other : ℕ → Type 0 = λ b. ¬ IsMember set b in
     let boundary = StopsAt-boundary set text len utf8 stops in
-    let size : length (take len text) ≡ len = length-take-le len text stops.within in
-    let bytes : IsOutside set (take len text) = All-from_get_or Other (take len text) 0 (λ k less. rw (get_or-take len text k 0 (omega (arith, less, size))) (stops.outside k (omega arith) (omega (arith, less, size)))) in
+    let size : length (take len text) ≡ len = length-take-le len text stops.high in
+    let bytes : IsOutside set (take len text) = All-from_get_or Other (take len text) 0 (λ k less. rw (get_or-take len text k 0 (omega (arith, less, size))) (stops.none_before k (omega arith) (omega (arith, less, size)))) in
     record {
-      within = stops.within;
+      within = stops.high;
       rest_utf8 = IsUtf8-drop text len utf8 boundary;
       outside = outside_from_bytes set (chars (take len text)) (rw (encodes-chars (take len text) (IsUtf8-take text len utf8 boundary)) bytes);
     }
@@ -161,7 +160,7 @@ MarksBlock set bytes at marks = (k : ℕ) → k < 16 → (slice_index marks k �
 marks_at : (set : ℕ) (bytes : List ℕ) (at : ℕ) (marks : List ℕ) → MarksBlock set bytes at marks → (k : ℕ) → k < 16 → (slice_index marks k ≢ 0) ↔ IsMember set (slice_index bytes (at + k))
 marks_at set bytes at marks marked k less = subst (λ x. (slice_index marks k ≢ 0) ↔ IsMember set x) (get_or-chunk at 16 bytes k 0 less) (marked k less)
 
-pub NoneWithin-unmarked : (set : ℕ) (bytes : List ℕ) (at : ℕ) (marks : List ℕ) (step : ℕ) → step ≤ 16 → MarksBlock set bytes at marks → ((k : ℕ) → k < step → slice_index marks k ≡ 0) → NoneWithin set bytes at (at + step)
+pub NoneWithin-unmarked : (set : ℕ) (bytes : List ℕ) (at : ℕ) (marks : List ℕ) (step : ℕ) → step ≤ 16 → MarksBlock set bytes at marks → ((k : ℕ) → k < step → slice_index marks k ≡ 0) → NoneWithin (IsMember set) bytes at (at + step)
 NoneWithin-unmarked set bytes at marks step within marked none k low high member =
     let place : at + (k - at) ≡ k = omega (arith, low) in
     (marks_at set bytes at marks marked (k - at) (omega (arith, low, high, within))).1 (rw place member) (none (k - at) (omega (arith, low, high)))

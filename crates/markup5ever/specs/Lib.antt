@@ -1,6 +1,7 @@
 pub mod BufferQueue
 pub mod Case
 pub mod SetResult
+pub mod Blocks
 pub mod SmallCharSet
 pub mod Lanes
 pub mod Names

@@ -1,5 +1,5 @@
 -- Sets of characters below 64, and texts that begin with characters outside one.
-use Rattle.std.specs.Prelude.{ℕ, ◌<◌, ◌≤◌, List, length, take, drop, slice_index, All}
+use Rattle.std.specs.Prelude.{ℕ, ◌<◌, ◌≤◌, List, length, take, drop, All}
 use Rattle.std.specs.Int.{IsBitSet}
 use Rattle.std.specs.Str.{IsUtf8, chars}
 
@@ -10,10 +10,6 @@ IsMember set c = (c < 64) × IsBitSet set c
 -- no character of the list is in the set
 abbrev pub IsOutside : ℕ → List ℕ → Type 0
 IsOutside set cs = All (λ c. ¬ IsMember set c) cs
-
--- none of the bytes from one place up to another is in the set
-abbrev pub NoneWithin : ℕ → List ℕ → ℕ → ℕ → Type 0
-NoneWithin set bytes from to = (k : ℕ) → from ≤ k → k < to → ¬ IsMember set (slice_index bytes k)
 
 -- the text begins with characters outside the set, which take so many bytes
 pub record BeginsOutside (set : ℕ) (text : List ℕ) (len : ℕ) : Type 0 where

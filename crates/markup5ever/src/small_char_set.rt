@@ -2,9 +2,10 @@
 ghost use Rattle.std.specs.Prelude.{◌≡◌, ◌≢◌, ℕ, ◌+◌, ◌/◌, ◌%◌, ◌^◌, ◌<◌, ◌≤◌, ◌↔◌, List, ◌∷◌, length, drop, slice_index, IsTrue, All, Contains};
 ghost use Rattle.std.specs.Str.{chars};
 ghost use Rattle.markup5ever.specs.Lanes.{HasLanes, bit_of};
-ghost use Rattle.markup5ever.specs.SmallCharSet.{IsMember, NoneWithin, BeginsOutside};
+ghost use Rattle.markup5ever.specs.Blocks.{IsFirstFrom};
+ghost use Rattle.markup5ever.specs.SmallCharSet.{IsMember, BeginsOutside};
 
-use crate::blocks::{BLOCK, lowest_bit};
+use crate::blocks::{BLOCK, Sought, first_from, lowest_bit};
 use std::marker::Model;
 use std::simd::prelude::*;
 
@@ -61,61 +62,31 @@ impl SmallCharSet {
     // The place of the first byte that is in the set, or the end. One byte is looked at without a search.
     #[inline(always)]
     fn first_member(&self, bytes: &[u8]) -> usize
-        ensures within { result ≤ length bytes.now }
-        ensures outside { NoneWithin self.now bytes.now 0 result }
-        ensures stops { result < length bytes.now → IsMember self.now (slice_index bytes.now result) }
+        ensures { IsFirstFrom (IsMember self.now) bytes.now 0 result }
     {
         if bytes.len() == 1 {
             return usize::from(!self.contains(char::from(bytes[0])));
         }
-        self.first_member_by_blocks(bytes)
+        first_from(self, bytes, 0)
     }
+}
 
-    // The same, by blocks.
-    #[inline(always)]
-    fn first_member_by_blocks(&self, bytes: &[u8]) -> usize
-        ensures within { result ≤ length bytes.now }
-        ensures outside { NoneWithin self.now bytes.now 0 result }
-        ensures stops { result < length bytes.now → IsMember self.now (slice_index bytes.now result) }
-    {
-        let mut at = 0;
-        while BLOCK <= bytes.len() - at {
-            let step = self.first_in_block(bytes, at);
-            if step < BLOCK {
-                return at + step;
-            }
-            // A constant, so that no block waits for the one before it.
-            at += BLOCK;
-        }
-        self.first_member_within(bytes, at, bytes.len())
-    }
+impl Sought for SmallCharSet {
+    ghost is_sought = { IsMember };
 
-    // How many of the 16 bytes from this place on come before the first that is in the set.
     #[inline(always)]
-    fn first_in_block(&self, bytes: &[u8], at: usize) -> usize
-        requires { at + BLOCK ≤ length bytes.now }
-        ensures within { result ≤ BLOCK }
-        ensures outside { NoneWithin self.now bytes.now at (at + result) }
-        ensures stops { result < BLOCK → IsMember self.now (slice_index bytes.now (at + result)) }
-    {
+    fn first_in_block(&self, bytes: &[u8], at: usize) -> usize {
         first_marked(marks(self.bits, u8x16::from_slice(&bytes[at..])))
     }
 
-    // The place of the first byte of these that is in the set, or `to`.
-    fn first_member_within(&self, bytes: &[u8], from: usize, to: usize) -> usize
-        requires in_order { from ≤ to }
-        requires within { to ≤ length bytes.now }
-        ensures low { from ≤ result }
-        ensures high { result ≤ to }
-        ensures outside { NoneWithin self.now bytes.now from result }
-        ensures stops { result < to → IsMember self.now (slice_index bytes.now result) }
-    {
-        for at in from..to {
+    #[inline(always)]
+    fn first_in_rest(&self, bytes: &[u8], from: usize) -> usize {
+        for at in from..bytes.len() {
             if self.contains(char::from(bytes[at])) {
                 return at;
             }
         }
-        to
+        bytes.len()
     }
 }
 

@@ -10,7 +10,7 @@ pub open_attributes-none : (old : List ℕ) → old ≡ old ++ open_attributes [
 unfolding open_attributes
 open_attributes-none old = sym (append-nil old)
 
--- a output that has the first `i` attributes, and then one more
+-- an output that has the first `i` attributes, and then one more
 pub open_attributes-more : {Z : Type 0} (old output next : List ℕ) (attributes : List (Attribute Z)) (i : ℕ) (attribute : Attribute Z)
     → output ≡ old ++ open_attributes (map attribute_of (take i attributes))
     → attribute ≡ get_or attributes i attribute

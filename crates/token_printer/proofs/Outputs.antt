@@ -1,4 +1,4 @@
--- What a output reads that was sent messages.
+-- What an output reads that was sent messages.
 use Rattle.std.proofs.Common.{◌≡◌, ℕ, Bool, true, false, List, [], ◌∷◌, ◌++◌, refl, ap, sym, ◌∙◌, codes}
 use Rattle.std.proofs.lemmas.List.{append-nil, append_assoc}
 use Rattle.token_printer.specs.Output.{Output, text_opening, text_closing, added_by_text, added_by, open_after, output_step}
@@ -9,12 +9,12 @@ use Rattle.html5ever_interface.specs.Sink.{Message, stepped}
 use Rattle.html5ever_interface.specs.Token.{is_text, Told}
 use Rattle.html5ever_interface.specs.Token.Told.{Text, End}
 
--- what joined messages add to a output, where `in_text` says that a text is open
+-- what joined messages add to an output, where `in_text` says that a text is open
 unfoldable pub added : Bool → List Message → List ℕ
 added false M = printed_lines M
 added true M = quoted_bytes (first_text M) ++ (codes "\"\n" ++ printed_lines (after_first_text M))
 
--- the bytes of a output once its text is closed
+-- the bytes of an output once its text is closed
 unfoldable pub closed_lines : Output → List ℕ
 closed_lines p = p.lines ++ text_closing p.in_text
 
@@ -68,7 +68,7 @@ unfolding stepped joined closed_lines
 stepped-added p [] = ap (λ l. p.lines ++ l) (added-nil p.in_text)
 stepped-added p (m ∷ M) = stepped-added (output_step p m.token m.line) M ∙ step-added p m.token m.line (joined M)
 
--- a output with no open text that is sent all of M, and whose text is closed then, has the lines of M
+-- an output with no open text that is sent all of M, and whose text is closed then, has the lines of M
 pub closed_lines-stepped : (p : Output) (M : List Message) → p.in_text ≡ false
     → closed_lines (stepped output_step p M) ≡ p.lines ++ printed M
 unfolding printed added

@@ -4,7 +4,7 @@ use Rattle.std.specs.List.{slice_index, prefix_len}
 use lib.Count.{count_trailing_zeros}
 use lib.Lanes.{chunk, zip2, mask_l, top}
 use Rattle.std.proofs.lemmas.Simd.{map-map, length-chunk, zip2_splat, zip2_of_maps, mask_l-mod, first_set_mask_l, run_in_chunk_le, run_in_chunk_fails, run_in_chunk_stops}
-use Rattle.std.proofs.lemmas.Bool.{agree_below_at, cases_eq}
+use Rattle.std.proofs.lemmas.Bool.{agree_below_at, cases_eq, false_from_ne_true, true≢false}
 use Rattle.std.proofs.lemmas.List.{append-nil, append_assoc, take_more, drop-append-le, drop-take, length-take-le, drop_all, length-map}
 use Rattle.token_printer.specs.OutputLaws.{quoted_bytes-append}
 use Rattle.token_printer.specs.Printed.{needs_escape, IsPlainWithin, escape, quoted_byte, quoted_bytes}
@@ -17,7 +17,7 @@ quoted_bytes-more text i h =
     ∙ quoted_bytes-append (take i text) (get_or text i 0 ∷ [])
     ∙ ap (λ l. quoted_bytes (take i text) ++ l) (append-nil (quoted_byte (get_or text i 0)))
 
--- a output that has the bytes before an index, and then one more
+-- an output that has the bytes before an index, and then one more
 pub quoted_bytes-next : (old output next text : List ℕ) (i : ℕ) → output ≡ old ++ quoted_bytes (take i text) → i < length text
     → next ≡ output ++ quoted_byte (get_or text i 0) → next ≡ old ++ quoted_bytes (take (i + 1) text)
 quoted_bytes-next old output next text i before within printed =
@@ -71,12 +71,12 @@ quoted_bytes-plain text start (suc count) high plain =
     let same : start + suc count ≡ end + 1 = omega arith in
     rw same
     (quoted_bytes-more text end within
-    ∙ ap (λ l. quoted_bytes (take end text) ++ l) (quoted_byte-plain byte (plain end (omega arith) (omega arith)))
+    ∙ ap (λ l. quoted_bytes (take end text) ++ l) (quoted_byte-plain byte (false_from_ne_true _ (plain end (omega arith) (omega arith))))
     ∙ ap (λ l. l ++ byte ∷ []) (quoted_bytes-plain text start count (omega (arith, high)) (λ k low less. plain k low (omega (arith, less))))
     ∙ append_assoc (quoted_bytes (take start text)) (run text start end) (byte ∷ [])
     ∙ ap (λ l. quoted_bytes (take start text) ++ l) (sym (run-more text start end (omega arith) within)))
 
--- a output that has the bytes before an index, and then a run of those
+-- an output that has the bytes before an index, and then a run of those
 pub quoted_bytes-run : (old output next text : List ℕ) (start end : ℕ) → output ≡ old ++ quoted_bytes (take start text)
     → start ≤ end → end ≤ length text → IsPlainWithin text start end
     → next ≡ output ++ take (end - start) (drop start text) → next ≡ old ++ quoted_bytes (take end text)
@@ -102,7 +102,7 @@ quoted_bytes-escape old output next text i before within special printed =
 IsPlainWithin-more : (bytes : List ℕ) (from at : ℕ) → IsPlainWithin bytes from at → needs_escape (slice_index bytes at) ≡ false → IsPlainWithin bytes from (at + 1)
 IsPlainWithin-more bytes from at plain last k low high =
     elim (cases_eq k at) [
-      | inl same ↦ rw same last
+      | inl same ↦ rw same (λ special. true≢false (sym special ∙ last))
       | inr earlier ↦ plain k low (omega (arith, high, earlier))
     ]
 
@@ -165,6 +165,6 @@ StopsWithin-lowest bytes at step room fits found =
     let counted : step ≡ prefix_len (λ x. not (stops x)) v = found ∙ ap lowest mask ∙ first_set_mask_l stops v 16 long (omega arith) in
     record {
       within = run_in_chunk_le stops bytes at 16 step 0 room counted;
-      plain = λ k low less. sym (stops_tells (get_or bytes k 0) (fits k).fits) ∙ run_in_chunk_fails stops bytes at 16 step 0 room counted k low less;
+      plain = λ k low less special. true≢false (sym special ∙ sym (stops_tells (get_or bytes k 0) (fits k).fits) ∙ run_in_chunk_fails stops bytes at 16 step 0 room counted k low less);
       stops = λ less. sym (stops_tells (get_or bytes (at + step) 0) (fits (at + step)).fits) ∙ run_in_chunk_stops stops bytes at 16 step 0 room counted less;
     }

@@ -1,5 +1,5 @@
--- A output of printed lines, and what each token does to it.
-use Rattle.std.specs.Prelude.{◌≡◌, ℕ, Bool, true, false, List, [], ◌∷◌, ◌++◌, codes}
+-- An output of printed lines, and what each token does to it.
+use Rattle.std.specs.Prelude.{ℕ, Bool, true, false, List, [], ◌∷◌, ◌++◌, codes}
 use Rattle.token_printer.specs.Printed.{quoted_bytes, printed_line}
 use Rattle.html5sinks.specs.Pausing.{pausing_reply}
 use Rattle.html5ever_interface.specs.Token.{Told, Reply}
@@ -13,16 +13,16 @@ pub record Output : Type 0 where
   -- the answer to the question about foreign content
   pub foreign : Bool
 
--- a output, and how many tokens could not be printed on it
+-- an output, and how many tokens could not be printed on it
 pub record Printer : Type 0 where
   pub output : Output
   pub faults : ℕ
 
--- a output with nothing printed
+-- an output with nothing printed
 abbrev pub blank_output : Bool → Output
 blank_output foreign = record { lines = []; in_text = false; foreign = foreign }
 
--- a output whose lines were taken off
+-- an output whose lines were taken off
 abbrev pub without_lines : Output → Output
 without_lines output = record output { lines = [] }
 
@@ -40,12 +40,12 @@ abbrev pub text_closing : Bool → List ℕ
 text_closing true = codes "\"\n"
 text_closing false = []
 
--- what a text adds to a output
+-- what a text adds to an output
 unfoldable pub added_by_text : Bool → List ℕ → List ℕ
 added_by_text in_text [] = []
 added_by_text in_text (b ∷ bs) = text_opening in_text ++ quoted_bytes (b ∷ bs)
 
--- what a token adds to a output
+-- what a token adds to an output
 unfoldable pub added_by : Bool → Told → ℕ → List ℕ
 added_by in_text (Text text) line = added_by_text in_text text
 added_by in_text other line = text_closing in_text ++ printed_line other line

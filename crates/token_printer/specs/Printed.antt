@@ -1,7 +1,8 @@
 -- The lines that are printed for messages, in bytes.
-use Rattle.std.specs.Prelude.{◌≡◌, ℕ, ◌<◌, ◌≤◌, Bool, true, false, List, [], ◌∷◌, ◌++◌, Option, None, Some, slice_index, ◌==◌, ◌||◌, nat_lt, codes, if◌then◌else◌}
+use Rattle.std.specs.Prelude.{◌≡◌, ℕ, Bool, true, false, List, [], ◌∷◌, ◌++◌, Option, None, Some, ◌==◌, ◌||◌, nat_lt, codes, if◌then◌else◌}
 use Rattle.std.specs.List.{flat_map}
 use Rattle.std.specs.Fmt.{decimal, digits}
+use Rattle.markup5ever.specs.Blocks.{NoneWithin}
 use Rattle.markup5ever.specs.Names.{AttributeOf}
 use Rattle.html5sinks.specs.Pausing.{pausing_reply_to_tag}
 use Rattle.html5ever_interface.specs.Sink.{Message}
@@ -15,9 +16,13 @@ use Rattle.html5ever_interface.specs.declared.interface.token.TagKind.TheVariant
 unfoldable pub needs_escape : ℕ → Bool
 needs_escape byte = nat_lt byte 0x20 || (byte == 0x22) || (byte == 0x5C) || (byte == 0x7F)
 
+-- the same, as a kind of bytes
+abbrev pub NeedsEscape : ℕ → Type 0
+NeedsEscape byte = needs_escape byte ≡ true
+
 -- none of the bytes from one place up to another needs an escape
 abbrev pub IsPlainWithin : List ℕ → ℕ → ℕ → Type 0
-IsPlainWithin bytes from to = (k : ℕ) → from ≤ k → k < to → needs_escape (slice_index bytes k) ≡ false
+IsPlainWithin bytes from to = NoneWithin NeedsEscape bytes from to
 
 -- what stands in quotes for such a byte
 unfoldable pub escape : ℕ → List ℕ

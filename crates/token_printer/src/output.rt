@@ -1,4 +1,4 @@
-//! What each token adds to a output.
+//! What each token adds to an output.
 ghost use Rattle.std.specs.Prelude.{◌≡◌, [], ◌++◌, string_bytes, OnOk, OnErr, decimal, codes};
 ghost use Rattle.token_printer.specs.Output.{text_closing, added_by_text, added_by, open_after};
 ghost use Rattle.markup5ever.specs.Lists.{BeginsWith};
@@ -228,7 +228,7 @@ fn push_doctype<A: Allocator + Copy>(
     output.extend_from_slice(b"\n")
 }
 
-/// Appends what a token adds to a output, where `reply` is what is replied to it.
+/// Appends what a token adds to an output, where `reply` is what is replied to it.
 #[inline(always)]
 #[tactic(auto, unfolding(crate::specs::Output::added_by, crate::specs::Printed::printed_line))]
 pub fn push_token<A: Allocator + Copy>(

@@ -14,7 +14,7 @@ use html5sinks::pausing::pausing_reply;
 use std::alloc::{AllocError, Allocator, Global};
 use std::marker::Model;
 
-// Appends what a token adds to a output, and replies to it.
+// Appends what a token adds to an output, and replies to it.
 #[inline(always)]
 fn print_and_reply<A: Allocator + Copy>(
     output: &mut Vec<u8, A>,
@@ -137,7 +137,7 @@ impl<A: Allocator + Copy> TokenSink<Token<A>> for PrintSink<A> {
         }
     }
 
-    // Prints the text where it lies. A output that finds no memory is a fault of the sink.
+    // Prints the text where it lies. An output that finds no memory is a fault of the sink.
     #[inline(always)]
     fn process_text(&mut self, _alloc: A, text: &str, _line_number: u64) -> Result<(), TextFault>
         ensures prints { OnOk result (self.new ≡ record self.old { output = output_step self.old.output (Text text.now) _line_number }) }

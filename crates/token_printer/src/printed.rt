@@ -2,13 +2,13 @@
 ghost use Rattle.std.specs.Prelude.{◌≡◌, ◌≢◌, ◌+◌, ◌<◌, ◌≤◌, ◌++◌, true, false, length, slice_index, map, option_map, string_bytes, OnOk, OnErr, codes};
 ghost use Rattle.std.specs.Fmt.{digit_glyph};
 ghost use Rattle.markup5ever.specs.Lists.{BeginsWith};
-ghost use Rattle.token_printer.specs.Printed.{needs_escape, IsPlainWithin, escape, quoted_byte, quoted_bytes, quoted, mark_where, open_attribute, open_attributes, printed_option, tag_marks, pause_line};
+ghost use Rattle.token_printer.specs.Printed.{needs_escape, NeedsEscape, IsPlainWithin, escape, quoted_byte, quoted_bytes, quoted, mark_where, open_attribute, open_attributes, printed_option, tag_marks, pause_line};
 ghost use Rattle.html5ever_interface.specs.Token.{tag_of, reply_of};
 ghost use Rattle.html5ever_interface.specs.Token.Reply.{SwitchEncoding};
 ghost use Rattle.markup5ever.specs.Names.{attribute_of};
 
 use html5ever_interface::interface::token::{Tag, TokenSinkResult};
-use markup5ever::blocks::{BLOCK, lowest_bit};
+use markup5ever::blocks::{BLOCK, Sought, first_from, lowest_bit};
 use markup5ever::interface::Attribute;
 use std::alloc::{AllocError, Allocator};
 use std::simd::prelude::*;
@@ -43,20 +43,6 @@ fn is_escaped(byte: u8) -> bool
     ensures { result ≡ needs_escape byte }
 {
     !matches!(byte, b'a'..=b'z') && needs_escape(byte)
-}
-
-// How many of the 16 bytes from this place on come before the first that needs an escape. All are looked at at once.
-#[inline(always)]
-fn first_in_block(bytes: &[u8], at: usize) -> usize
-    requires { at + BLOCK ≤ length bytes.now }
-    ensures within { result ≤ BLOCK }
-    ensures plain { IsPlainWithin bytes.now at (at + result) }
-    ensures stops { result < BLOCK → needs_escape (slice_index bytes.now (at + result)) ≡ true }
-{
-    let block = u8x16::from_slice(&bytes[at..]);
-    let controls = block.simd_lt(u8x16::splat(0x20)) | block.simd_eq(u8x16::splat(0x7F));
-    let marks = block.simd_eq(u8x16::splat(b'"')) | block.simd_eq(u8x16::splat(b'\\'));
-    lowest_bit((controls | marks).to_bitmask())
 }
 
 // Whether one of the next half of a block needs an escape. It looks at each byte, so that the compiler makes it one step
@@ -103,45 +89,32 @@ fn has_plain_end(bytes: &[u8], from: usize) -> bool
     !has_end(bytes, len - HALF)
 }
 
-// The place of the first of the last bytes, from this one on, that needs an escape, or the end.
-#[inline(always)]
-fn last_run_end(bytes: &[u8], from: usize) -> usize
-    requires { from ≤ length bytes.now }
-    ensures low { from ≤ result }
-    ensures high { result ≤ length bytes.now }
-    ensures plain { IsPlainWithin bytes.now from result }
-    ensures stops { result < length bytes.now → needs_escape (slice_index bytes.now result) ≡ true }
-{
-    if has_plain_end(bytes, from) {
-        return bytes.len();
-    }
-    for at in from..bytes.len() {
-        if is_escaped(bytes[at]) {
-            return at;
-        }
-    }
-    bytes.len()
-}
+// The bytes that need an escape.
+struct Escaped {}
 
-// The place of the first byte from this one on that needs an escape, or the end.
-#[inline(always)]
-fn run_end(bytes: &[u8], from: usize) -> usize
-    requires { from ≤ length bytes.now }
-    ensures low { from ≤ result }
-    ensures high { result ≤ length bytes.now }
-    ensures plain { IsPlainWithin bytes.now from result }
-    ensures stops { result < length bytes.now → needs_escape (slice_index bytes.now result) ≡ true }
-{
-    let mut at = from;
-    while BLOCK <= bytes.len() - at {
-        let step = first_in_block(bytes, at);
-        if step < BLOCK {
-            return at + step;
-        }
-        // A constant, so that no block waits for the one before it.
-        at += BLOCK;
+impl Sought for Escaped {
+    ghost is_sought = { λ _. NeedsEscape };
+
+    #[inline(always)]
+    fn first_in_block(&self, bytes: &[u8], at: usize) -> usize {
+        let block = u8x16::from_slice(&bytes[at..]);
+        let controls = block.simd_lt(u8x16::splat(0x20)) | block.simd_eq(u8x16::splat(0x7F));
+        let marks = block.simd_eq(u8x16::splat(b'"')) | block.simd_eq(u8x16::splat(b'\\'));
+        lowest_bit((controls | marks).to_bitmask())
     }
-    last_run_end(bytes, at)
+
+    #[inline(always)]
+    fn first_in_rest(&self, bytes: &[u8], from: usize) -> usize {
+        if has_plain_end(bytes, from) {
+            return bytes.len();
+        }
+        for at in from..bytes.len() {
+            if is_escaped(bytes[at]) {
+                return at;
+            }
+        }
+        bytes.len()
+    }
 }
 
 // Appends what stands in quotes for a byte that may not stand there as it is, but for a line feed.
@@ -196,7 +169,7 @@ fn push_quoted_runs<A: Allocator>(output: &mut Vec<u8, A>, text: &[u8]) -> Resul
 {
     let mut start = 0;
     loop {
-        let end = run_end(text, start);
+        let end = first_from(&Escaped {}, text, start);
         output.extend_from_slice(&text[start..end])?;
         if end == text.len() {
             return Ok(());

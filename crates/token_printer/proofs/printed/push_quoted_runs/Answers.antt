@@ -17,22 +17,22 @@ returns-in_err-extend_from_slice-clause-err g c =
 pub returns-then-end-text-clause-ok : goal.returns-then-end-text-clause-ok
 returns-then-end-text-clause-ok g c =
     let text = c.args.text.now in
-    let end = c.run_end-end.result in
+    let end = c.first_from-end.result in
     quoted_bytes-run c.args.output.now.items _ _ text c.loop-output.start end c.loop-output.invariant.1
-    c.run_end-end.ensures.low c.run_end-end.ensures.high c.run_end-end.ensures.plain c.in_ok-extend_from_slice.ensures.items
+    c.first_from-end.ensures.low c.first_from-end.ensures.high c.first_from-end.ensures.none_before c.in_ok-extend_from_slice.ensures.items
     ∙ ap (λ l. c.args.output.now.items ++ quoted_bytes l) (take_all end text (omega arith))
 
 pub returns-in_err-push_escape-clause-err : goal.returns-in_err-push_escape-clause-err
 returns-in_err-push_escape-clause-err g c =
     let failed = err_from_is_err_and c.from_residual-in_err-push_escape.result c.from_residual-in_err-push_escape.ensures.1 in
-    let ran = quoted_bytes-run c.args.output.now.items _ _ c.args.text.now c.loop-output.start c.run_end-end.result c.loop-output.invariant.1
-    c.run_end-end.ensures.low c.run_end-end.ensures.high c.run_end-end.ensures.plain c.in_ok-extend_from_slice.ensures.items in
+    let ran = quoted_bytes-run c.args.output.now.items _ _ c.args.text.now c.loop-output.start c.first_from-end.result c.loop-output.invariant.1
+    c.first_from-end.ensures.low c.first_from-end.ensures.high c.first_from-end.ensures.none_before c.in_ok-extend_from_slice.ensures.items in
     rw failed.1 (BeginsWith-less _ _ _ _ ran c.in_err-push_escape.ensures.err)
 
 pub loop-output-preserved : goal.loop-output-preserved
 loop-output-preserved g c =
     let text = c.args.text.now in
-    let end = c.run_end-end.result in
+    let end = c.first_from-end.result in
     let ran = quoted_bytes-run c.args.output.now.items _ _ text c.loop-output.start end c.loop-output.invariant.1
-    c.run_end-end.ensures.low c.run_end-end.ensures.high c.run_end-end.ensures.plain c.in_ok-extend_from_slice.ensures.items in
-    (omega arith, quoted_bytes-escape c.args.output.now.items _ _ text end ran (omega arith) (c.run_end-end.ensures.stops (omega arith)) c.in_ok-push_escape.ensures.ok)
+    c.first_from-end.ensures.low c.first_from-end.ensures.high c.first_from-end.ensures.none_before c.in_ok-extend_from_slice.ensures.items in
+    (omega arith, quoted_bytes-escape c.args.output.now.items _ _ text end ran (omega arith) (c.first_from-end.ensures.stops (omega arith)) c.in_ok-push_escape.ensures.ok)

@@ -14,7 +14,7 @@ use Rattle.std_heap.specs.declared.Global.{Global}
 use Rattle.html5c.specs.Held.{held}
 use Rattle.html5c.specs.contracts.slot.SessionSlot as SessionSlot
 use Rattle.html5c.specs.declared.slot.SessionSlot.{SessionSlot as Session}
-use Rattle.html5c.proofs.SlotSend.{slot}
+use Rattle.html5c.proofs.slot.SessionSlot.TheSendSync.{the_send as slot}
 use Rattle.html5c.specs.contracts.handle.Owned.{the_row, the_type}
 
 crosses : (alloc : Global) (at : Ptr) (value : Option Session) → Keyless (held alloc at value)

@@ -1,11 +1,11 @@
 use Rattle.token_printer.proofs.Quotes.{StopsWithin-lowest}
-use Rattle.token_printer.proofs.printed.first_in_block.Goals as goal
+use Rattle.token_printer.proofs.printed.EscapedSought.first_in_block.Goals as goal
 
 pub returns-clause-within : goal.returns-clause-within
 returns-clause-within c = (StopsWithin-lowest c.args.bytes.now c.args.at c.lowest_bit.result c.requires c.type_inv.bytes c.lowest_bit.ensures).within
 
-pub returns-clause-plain : goal.returns-clause-plain
-returns-clause-plain c = (StopsWithin-lowest c.args.bytes.now c.args.at c.lowest_bit.result c.requires c.type_inv.bytes c.lowest_bit.ensures).plain
+pub returns-clause-none_before : goal.returns-clause-none_before
+returns-clause-none_before c = (StopsWithin-lowest c.args.bytes.now c.args.at c.lowest_bit.result c.requires c.type_inv.bytes c.lowest_bit.ensures).plain
 
 pub returns-clause-stops : goal.returns-clause-stops
 returns-clause-stops c = (StopsWithin-lowest c.args.bytes.now c.args.at c.lowest_bit.result c.requires c.type_inv.bytes c.lowest_bit.ensures).stops
