@@ -4,3 +4,4 @@ pub mod Tags
 pub mod TagLaws
 pub mod Runs
 pub mod RunLaws
+pub mod Lending

@@ -1,6 +1,8 @@
 //! A sink that joins texts, and what it hands them to.
+ghost use Rattle.std.specs.Borrow.{sem};
 ghost use Rattle.std.specs.Prelude.{◌≡◌, ◌≢◌, ◌+◌, ◌++◌, Err, false, [], string_bytes, IfOk, OnOk, OnErr};
 ghost use Rattle.html5ever_interface.specs.Token.{told_by, reply_of};
+ghost use Rattle.html5sinks.specs.Lending.{LendsHandler};
 ghost use Rattle.html5sinks.specs.Replies.{standard_reply};
 ghost use Rattle.html5sinks.specs.Runs.{joined_of, joined_step, joined_reply, reply_where_tag};
 
@@ -166,6 +168,14 @@ impl<H, A: Allocator> TextRuns<H, A> {
         ensures { result.now ≡ self.now.handler }
     {
         &self.handler
+    }
+
+    /// The handler, to change it between two calls, such as to take what it made of its runs.
+    pub fn handler_mut(&mut self) -> &mut H
+        ensures* writes_back { sem 𝓛 (LendsHandler H.row A.row A.Allocator self.entry result) }
+        ensures value { result.now ≡ self.old.handler }
+    {
+        &mut self.handler
     }
 
     /// The handler, with what it was handed. A run that no token ended is dropped: there is none
