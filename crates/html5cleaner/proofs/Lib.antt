@@ -7,6 +7,8 @@ pub mod Links
 pub mod Replies
 pub mod Tokens
 pub mod SchemeBytes
+pub mod SchemeOf
+pub mod ParsedSchemes
 pub mod Schemes
 pub mod SameReadings
 pub mod Ends

@@ -1,11 +1,11 @@
 -- Bytes of addresses by their tests.
 use Rattle.std.proofs.Common.{◌≡◌, ℕ, Bool, true, false, List, [], ◌∷◌, refl, arith}
-use Rattle.std.specs.Prelude.{◌||◌, ◌&&◌, ◌==◌, nat_lt, not}
+use Rattle.std.specs.Prelude.{◌||◌, ◌&&◌, ◌==◌, nat_lt, nat_le, not}
 use Rattle.std.proofs.lemmas.Bool.Decides.{nat_tests}
-use Rattle.std.specs.Char.{is_ascii_lowercase, to_ascii_lowercase}
+use Rattle.std.specs.Char.{is_ascii_alphabetic, is_ascii_lowercase, to_ascii_lowercase}
 use Rattle.std.specs.List.{list_all}
 use Rattle.html5policy.specs.Names.{is_scheme_byte as is_small_byte}
-use Rattle.html5cleaner.specs.Browsers.{is_no_break, is_scheme_byte}
+use Rattle.html5cleaner.proofs.SchemeOf.{is_no_break, is_scheme_byte}
 use Rattle.html5cleaner.proofs.Replies.{and-left, and-right}
 
 -- a byte after which no scheme can end
@@ -38,6 +38,33 @@ lower-no_colon byte letter same other = grind (arith, nat_tests)
 
 pub lower-same : (byte letter : ℕ) → (to_ascii_lowercase byte == letter) ≡ true → to_ascii_lowercase byte ≡ letter
 lower-same byte letter same = grind (arith, nat_tests)
+
+pub passed-no_letter : (byte : ℕ) → nat_lt byte 33 ≡ true → is_ascii_alphabetic byte ≡ false
+passed-no_letter byte passed = grind (arith, nat_tests)
+
+pub letter-scheme : (byte : ℕ) → is_ascii_alphabetic byte ≡ true → is_scheme_byte byte ≡ true
+letter-scheme byte is = grind (arith, nat_tests)
+
+pub passed-trimmed : (byte : ℕ) → nat_lt byte 33 ≡ nat_le byte 32
+passed-trimmed byte = grind (arith, nat_tests)
+
+pub question-no_scheme : (byte : ℕ) → (byte == 63) ≡ true → is_scheme_byte byte ≡ false
+question-no_scheme byte is = grind (arith, nat_tests)
+
+pub hash-no_scheme : (byte : ℕ) → (byte == 35) ≡ true → is_scheme_byte byte ≡ false
+hash-no_scheme byte is = grind (arith, nat_tests)
+
+pub question-no_colon : (byte : ℕ) → (byte == 63) ≡ true → (byte == 58) ≡ false
+question-no_colon byte is = grind (arith, nat_tests)
+
+pub hash-no_colon : (byte : ℕ) → (byte == 35) ≡ true → (byte == 58) ≡ false
+hash-no_colon byte is = grind (arith, nat_tests)
+
+pub no_scheme-no_letter : (byte : ℕ) → is_scheme_byte byte ≡ false → is_ascii_alphabetic byte ≡ false
+no_scheme-no_letter byte other = grind (arith, nat_tests)
+
+pub scheme_byte-no_colon : (byte : ℕ) → is_scheme_byte byte ≡ true → (byte == 58) ≡ false
+scheme_byte-no_colon byte is = grind (arith, nat_tests)
 
 -- ---- no colon stands in a scheme
 

@@ -1,6 +1,6 @@
--- An address that is kept has no scheme, or one that is kept, as a browser reads it.
+-- An address that is kept has no scheme, or one that is kept. So has each URL that it leads to, or its base's.
 use Rattle.std.proofs.Common.{◌≡◌, ℕ, Bool, true, false, List, [], ◌∷◌, ◌++◌, Option, Some, None, refl, sym, ap, ◌∙◌}
-use Rattle.std.specs.Prelude.{◌||◌, ◌&&◌, ◌==◌, not, nat_lt, option_map, if◌then◌else◌}
+use Rattle.std.specs.Prelude.{◌||◌, ◌&&◌, ◌==◌, not, nat_lt, option_map, Ok, IfSome, if◌then◌else◌}
 use Rattle.std.specs.List.{list_all}
 use Rattle.std.specs.Str.{bytes_eq}
 use Rattle.std.specs.Char.{to_ascii_lowercase, is_ascii_alphabetic}
@@ -11,8 +11,14 @@ use Rattle.html5policy.specs.Policy.{PolicyOf}
 use Rattle.html5policy.specs.Rules.{IsSound, may_keep_scheme}
 use Rattle.html5policy.proofs.Soundness.{listed-runs_nothing}
 use Rattle.markup5ever.proofs.NameOrder.{bytes_eq-itself}
-use Rattle.html5cleaner.specs.Browsers.{is_no_break, is_scheme_byte, scheme_from, scheme_of, scheme_where, without_breaks, without_front, RunsNothing}
-use Rattle.html5cleaner.specs.Browsers.RunsNothing.{Relative, Listed}
+use Rattle.html5cleaner.proofs.SchemeOf.{is_no_break, is_scheme_byte, scheme_from, scheme_of, scheme_where, without_breaks, without_front, RunsNothing}
+use Rattle.html5cleaner.proofs.SchemeOf.RunsNothing.{Relative, OneOf}
+use Rattle.html5cleaner.specs.Urls.{HasBaseScheme, HasSafeScheme}
+use Rattle.html5cleaner.specs.Urls.HasSafeScheme.{OfBase, Listed}
+use Rattle.url.specs.Parser.{parse_url}
+use Rattle.url.specs.Parts.{Parts}
+use Rattle.html5cleaner.proofs.ParsedSchemes.{HasOwnOrBase, parsed-scheme}
+use Rattle.html5cleaner.proofs.ParsedSchemes.HasOwnOrBase.{Own, Inherited}
 use Rattle.html5cleaner.proofs.Replies.{and-left, and-right}
 use Rattle.html5cleaner.proofs.SchemeBytes.{is_stop, passed-no_colon, passed-no_scheme, passed-no_stop, break-no_stop, stop-no_scheme, other-no_break, lower-colon, lower-no_colon, lower-same, scheme-no_colon}
 
@@ -202,7 +208,7 @@ scheme-found (letter ∷ word) address scheme has = has-found letter word addres
 
 listed : {schemes : List (List ℕ)} {scheme : Option (List ℕ)} (word : List ℕ) → is_one_of schemes word ≡ true → Finds word scheme → RunsNothing schemes scheme
 listed word one (Nothing none) = Relative none
-listed word one (Word found) = Listed word one found
+listed word one (Word found) = OneOf word one found
 
 one-here : (word : List ℕ) (words : List (List ℕ)) → is_one_of (word ∷ words) word ≡ true
 unfolding is_one_of
@@ -234,16 +240,33 @@ safe-cases schemes address true is sound safe =
     Relative (none-where (without_breaks (without_front address)) (no-scheme (without_breaks (without_front address)) (relative-breaks (without_front address) (relative-front address is))))
 safe-cases schemes address false is sound safe = some-listed schemes schemes address (λ word one. one) sound safe
 
-pub safe-runs_nothing : (policy : PolicyOf) (address : List ℕ) → IsSound policy → is_safe_address policy.schemes address ≡ true → RunsNothing policy.schemes (scheme_of address)
+own-safe : (policy : PolicyOf) (address : List ℕ) → IsSound policy → is_safe_address policy.schemes address ≡ true → RunsNothing policy.schemes (scheme_of address)
 unfolding is_safe_address
-safe-runs_nothing policy address sound safe = safe-cases policy.schemes address (is_relative address) refl sound.schemes safe
+own-safe policy address sound safe = safe-cases policy.schemes address (is_relative address) refl sound.schemes safe
 
-runs-where : (policy : PolicyOf) (found : Option (List ℕ)) (scheme : List ℕ) → IsSound policy → RunsNothing policy.schemes found → found ≡ Some scheme → runs_address scheme ≡ false
-runs-where policy found scheme sound (Relative none) is = absurd cc
-runs-where policy found scheme sound (Listed word one found_is) is =
-    let same : scheme ≡ word = cc in
-    ap runs_address same ∙ listed-runs_nothing policy word sound one
+-- ---- where it leads
 
-pub safe-scheme : (policy : PolicyOf) (address scheme : List ℕ) → IsSound policy → is_safe_address policy.schemes address ≡ true → scheme_of address ≡ Some scheme
-    → runs_address scheme ≡ false
-safe-scheme policy address scheme sound safe is = runs-where policy (scheme_of address) scheme sound (safe-runs_nothing policy address sound safe) is
+leads-where : (schemes : List (List ℕ)) (word : Option (List ℕ)) (base : Option Parts) (scheme : List ℕ) → RunsNothing schemes word → HasOwnOrBase word base scheme → HasSafeScheme schemes base scheme
+leads-where schemes word base scheme safe (Inherited none of_base) = OfBase of_base
+leads-where schemes word base scheme (Relative none) (Own is) = absurd cc
+leads-where schemes word base scheme (OneOf found_word one found) (Own is) =
+    let same : scheme ≡ found_word = cc in
+    Listed (ap (is_one_of schemes) same ∙ one)
+
+pub safe-scheme : (policy : PolicyOf) (address : List ℕ) (base : Option Parts) (url : Parts) → IsSound policy → is_safe_address policy.schemes address ≡ true → parse_url base address ≡ Ok url
+    → HasSafeScheme policy.schemes base url.scheme
+safe-scheme policy address base url sound safe is =
+    leads-where policy.schemes (scheme_of address) base url.scheme (own-safe policy address sound safe) (parsed-scheme base address url is)
+
+of_base-runs : (base : Option Parts) (scheme : List ℕ) → IfSome base (λ b. runs_address b.scheme ≡ false) → HasBaseScheme base scheme → runs_address scheme ≡ false
+of_base-runs None scheme runs same = absurd same
+of_base-runs (Some base) scheme runs same = ap runs_address (sym same) ∙ runs
+
+safe-runs : (policy : PolicyOf) (base : Option Parts) (scheme : List ℕ) → IsSound policy → IfSome base (λ b. runs_address b.scheme ≡ false) → HasSafeScheme policy.schemes base scheme → runs_address scheme ≡ false
+safe-runs policy base scheme sound runs (OfBase same) = of_base-runs base scheme runs same
+safe-runs policy base scheme sound runs (Listed one) = listed-runs_nothing policy scheme sound one
+
+pub safe-runs_nothing : (policy : PolicyOf) (address : List ℕ) (base : Option Parts) (url : Parts) → IsSound policy → is_safe_address policy.schemes address ≡ true → parse_url base address ≡ Ok url
+    → IfSome base (λ b. runs_address b.scheme ≡ false) → runs_address url.scheme ≡ false
+safe-runs_nothing policy address base url sound safe is runs =
+    safe-runs policy base url.scheme sound runs (safe-scheme policy address base url sound safe is)

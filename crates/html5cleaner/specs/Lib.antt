@@ -5,5 +5,5 @@ pub mod Balance
 pub mod Clean
 pub mod Kept
 pub mod Reading
-pub mod Browsers
+pub mod Urls
 pub mod Cleaning

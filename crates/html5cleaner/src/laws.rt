@@ -1,5 +1,5 @@
 //! How a cleaned page is read.
-ghost use Rattle.std.specs.Prelude.{◌≡◌, ℕ, List, [], ◌∷◌, ◌++◌, Some, false, filter, true};
+ghost use Rattle.std.specs.Prelude.{◌≡◌, ℕ, List, [], ◌∷◌, ◌++◌, Option, Ok, IfSome, false, filter, true};
 ghost use Rattle.std.specs.List.{list_all};
 ghost use Rattle.html5ever_interface.specs.Sink.{Message};
 ghost use Rattle.html5ever_interface.specs.Token.{Told};
@@ -16,12 +16,14 @@ ghost use Rattle.html5policy.specs.Policy.{PolicyOf};
 ghost use Rattle.html5policy.specs.Rules.{IsSound};
 ghost use Rattle.html5cleaner.specs.Allowed.{is_clean};
 ghost use Rattle.html5cleaner.specs.Balance.{AreClean, is_nested, is_no_end_tag, without_balance};
-ghost use Rattle.html5cleaner.specs.Browsers.{RunsNothing, scheme_of};
+ghost use Rattle.html5cleaner.specs.Urls.{HasSafeScheme};
 ghost use Rattle.html5cleaner.specs.Clean.{Cleaned, at_start, clean_step};
 ghost use Rattle.html5cleaner.specs.Cleaning as cleaning;
 ghost use Rattle.html5cleaner.specs.Cleaning.{Standing, kept_of_page, page_bytes, printed_and_closed, printed_of};
 ghost use Rattle.html5cleaner.specs.Reading.{IsReadBackClean, is_allowed_token};
 ghost use Rattle.html5sinks.specs.Replies.{FollowsStandard};
+ghost use Rattle.url.specs.Parser.{parse_url};
+ghost use Rattle.url.specs.Parts.{Parts};
 
 use html5ever_interface::interface::sink::TokenSink;
 use html5ever_interface::interface::token::Token;
@@ -97,14 +99,15 @@ pub fn cleaning_twice()
         → printed_and_closed s M ≡ printed_of s M }
 {}
 
-/// In an address that is kept a browser finds no scheme, or one of the policy's: it passes over white
-/// space and controls in front, and over tabs and line breaks anywhere. None of these runs the address.
+/// Where an address that is kept leads, by the URL Standard's parser and from whatever base: to a URL of one
+/// of the policy's schemes, or of the base's scheme. Where the base's runs nothing, neither does the URL's.
 pub fn safe_addresses()
-    ensures scheme { (policy : PolicyOf) (address : List ℕ) → IsSound policy
-        → is_safe_address policy.schemes address ≡ true → RunsNothing policy.schemes (scheme_of address) }
-    ensures runs_nothing { (policy : PolicyOf) (address scheme : List ℕ) → IsSound policy
-        → is_safe_address policy.schemes address ≡ true → scheme_of address ≡ Some scheme
-        → runs_address scheme ≡ false }
+    ensures scheme { (policy : PolicyOf) (address : List ℕ) (base : Option Parts) (url : Parts) → IsSound policy
+        → is_safe_address policy.schemes address ≡ true → parse_url base address ≡ Ok url
+        → HasSafeScheme policy.schemes base url.scheme }
+    ensures runs_nothing { (policy : PolicyOf) (address : List ℕ) (base : Option Parts) (url : Parts) → IsSound policy
+        → is_safe_address policy.schemes address ≡ true → parse_url base address ≡ Ok url
+        → IfSome base (λ b. runs_address b.scheme ≡ false) → runs_address url.scheme ≡ false }
 {}
 
 /// A sink of runs of text keeps on where the standard does, whatever its handler: so a reading by any

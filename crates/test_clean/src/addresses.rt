@@ -1,5 +1,6 @@
-//! Which addresses the standard policy keeps, and which attributes.
+//! Which addresses the standard policy keeps, where they lead, and which attributes it keeps.
 use html5policy::Policy;
+use url::Url;
 
 const SAFE: [&str; 12] = [
     "",
@@ -16,7 +17,7 @@ const SAFE: [&str; 12] = [
     "\u{e9}",
 ];
 
-const UNSAFE: [&str; 12] = [
+const UNSAFE: [&str; 15] = [
     "javascript:x",
     "JAVASCRIPT:x",
     " javascript:x",
@@ -29,6 +30,9 @@ const UNSAFE: [&str; 12] = [
     "htt:p:",
     ":x",
     "a:b",
+    "blob:https://h/1",
+    "filesystem:https://h/temporary/x",
+    "view-source:https://h/",
 ];
 
 #[test]
@@ -39,6 +43,49 @@ fn keeps_safe_addresses(rt: HostRuntime) {
     }
     for address in UNSAFE {
         assert!(rt; !policy.is_kept("a", "href", address), "{address}");
+    }
+}
+
+const BASES: [&str; 3] = ["https://h/a", "file:///x", "mailto:x"];
+
+// Addresses that are kept, and the schemes of the URLs that they lead to from these bases: "" where there is none.
+const LEADS_TO: [(&str, [&str; 3]); 15] = [
+    ("", ["https", "file", ""]),
+    ("x", ["https", "file", ""]),
+    ("/x:y", ["https", "file", ""]),
+    ("?x:y", ["https", "file", ""]),
+    ("#x:y", ["https", "file", "mailto"]),
+    ("//host/x", ["https", "file", ""]),
+    ("./a:b", ["https", "file", ""]),
+    ("http://host/", ["http", "http", "http"]),
+    ("HTTPS:x", ["https", "https", "https"]),
+    (" \n mailto:a@b", ["mailto", "mailto", "mailto"]),
+    ("h\tt\r\ntp:x", ["http", "http", "http"]),
+    ("\u{1}https:x", ["https", "https", "https"]),
+    ("ht\u{0}tp:x", ["https", "file", ""]),
+    ("htt p:x", ["https", "file", ""]),
+    ("x\u{0}", ["https", "file", ""]),
+];
+
+// Whether an address leads from a base to a URL of this scheme, or to none where that is "".
+fn leads_to(rt: &HostRuntime, base: &str, address: &str, scheme: &str) -> bool {
+    match Url::parse(rt.alloc(), base)
+        .expect(rt, "a base")
+        .join(address)
+    {
+        Ok(url) => url.scheme() == scheme,
+        Err(_) => scheme.is_empty(),
+    }
+}
+
+#[test]
+fn kept_addresses_lead_to_safe_schemes(rt: HostRuntime) {
+    let policy = Policy::standard(rt.alloc()).expect(&rt, "memory");
+    for (address, schemes) in LEADS_TO {
+        assert!(rt; policy.is_kept("a", "href", address), "{address}");
+        for k in 0..3 {
+            assert!(rt; leads_to(&rt, BASES[k], address, schemes[k]), "{address}");
+        }
     }
 }
 

@@ -1,4 +1,4 @@
--- The scheme that a browser finds in an address, by its bytes.
+-- The scheme of an address, by its bytes: vocabulary of proofs. That it is the one of the URL Standard's parser, `ParsedSchemes` says.
 use Rattle.std.specs.Prelude.{◌≡◌, ℕ, Bool, not, List, [], ◌∷◌, ◌||◌, ◌==◌, filter, Option, None, Some, option_map, nat_lt, true, if◌then◌else◌}
 use Rattle.std.specs.Char.{to_ascii_lowercase, is_ascii_alphabetic, is_ascii_alphanumeric}
 use Rattle.html5policy.specs.Names.{is_one_of}
@@ -36,7 +36,7 @@ scheme_where (byte ∷ address) = if is_ascii_alphabetic byte then scheme_from (
 abbrev pub scheme_of : List ℕ → Option (List ℕ)
 scheme_of address = scheme_where (without_breaks (without_front address))
 
--- an address of no scheme, or of one of these
+-- no scheme, or one of these
 pub data RunsNothing (schemes : List (List ℕ)) (scheme : Option (List ℕ)) : Type 0 where
   Relative : scheme ≡ None → RunsNothing schemes scheme
-  Listed : (word : List ℕ) → is_one_of schemes word ≡ true → scheme ≡ Some word → RunsNothing schemes scheme
+  OneOf : (word : List ℕ) → is_one_of schemes word ≡ true → scheme ≡ Some word → RunsNothing schemes scheme
