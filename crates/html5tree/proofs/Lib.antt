@@ -1,0 +1,5 @@
+pub mod Lists
+pub mod Steps
+pub mod Documents
+pub mod Texts
+pub mod Built

@@ -1,0 +1,4 @@
+//! Trees.
+#![tactic(auto)]
+
+pub mod laws;
