@@ -14,7 +14,7 @@ use Rattle.html5tree.proofs.Steps.{in-step, start-good, names-after-all}
 use Rattle.html5tree.proofs.Documents.{shown-start, shows-each, shows-whole, closed-path}
 use Rattle.html5tree.proofs.Texts.{nested-whole, nested-newlines, keeps-whole, fits-whole, fits-newlines, open-whole, open-newlines}
 
-fits-read : (fresh : Bool) (items : List Item) (stack : List (List ℕ)) → each_fits stack items ≡ true → each_fits stack (read_items fresh items) ≡ true
+pub fits-read : (fresh : Bool) (items : List Item) (stack : List (List ℕ)) → each_fits stack items ≡ true → each_fits stack (read_items fresh items) ≡ true
 fits-read fresh items stack h = fits-newlines fresh (whole_texts items) stack (fits-whole items stack h)
 
 open-read : (fresh : Bool) (items : List Item) (stack : List (List ℕ)) → all_open_after stack (read_items fresh items) ≡ all_open_after stack items
@@ -23,7 +23,7 @@ open-read fresh items stack = open-newlines fresh (whole_texts items) stack ∙ 
 pub nested-read : (fresh : Bool) (items : List Item) (path : Path) → keeps_newlines fresh items ≡ true → nested path (read_items fresh items) ≡ nested path items
 nested-read fresh items path h = nested-newlines fresh (whole_texts items) path (keeps-whole fresh items h) ∙ nested-whole items path
 
-start-form : start_parser ≡ parser start_page []
+pub start-form : start_parser ≡ parser start_page []
 unfolding mode_of form_of
 start-form = refl
 

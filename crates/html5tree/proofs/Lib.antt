@@ -3,3 +3,6 @@ pub mod Steps
 pub mod Documents
 pub mod Texts
 pub mod Built
+pub mod InPlace
+pub mod Hosted
+pub mod FlowHosts

@@ -12,3 +12,4 @@ pub mod Tables
 pub mod Construction
 pub mod Lockstep
 pub mod Shown
+pub mod Hosts
