@@ -216,12 +216,28 @@ cell-calm : (k : Kind) (name : List ℕ) (stack : List (List ℕ)) → kind_of n
     → Calm (name ∷ stack)
 unfolding near
 cell-calm Caption name stack is h none = record {
-  holder = rw is refl; heading = rw is refl; paragraph = rw is refl; anchor = rw is refl; no_break = rw is refl; button = rw is refl;
-  list_item = rw is refl; description = rw is refl; ruby = rw is refl; form = rw is none;
+  holder = rw is refl;
+  heading = rw is refl;
+  paragraph = rw is refl;
+  anchor = rw is refl;
+  no_break = rw is refl;
+  button = rw is refl;
+  list_item = rw is refl;
+  description = rw is refl;
+  ruby = rw is refl;
+  form = rw is none;
 }
 cell-calm Cell name stack is h none = record {
-  holder = rw is refl; heading = rw is refl; paragraph = rw is refl; anchor = rw is refl; no_break = rw is refl; button = rw is refl;
-  list_item = rw is refl; description = rw is refl; ruby = rw is refl; form = rw is none;
+  holder = rw is refl;
+  heading = rw is refl;
+  paragraph = rw is refl;
+  anchor = rw is refl;
+  no_break = rw is refl;
+  button = rw is refl;
+  list_item = rw is refl;
+  description = rw is refl;
+  ruby = rw is refl;
+  form = rw is none;
 }
 cell-calm other name stack is h none = absurd (false≢true h)
 

@@ -6,3 +6,4 @@ pub mod Built
 pub mod InPlace
 pub mod Hosted
 pub mod FlowHosts
+pub mod RandomCases

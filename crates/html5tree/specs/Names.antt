@@ -41,21 +41,21 @@ row kind names = record { kind = kind; names = names }
 unfoldable pub all_names : List NamesOf
 all_names =
     row Ordinary (codes "abbr" ∷ codes "bdi" ∷ codes "bdo" ∷ codes "cite" ∷ codes "data" ∷ codes "del" ∷ codes "dfn" ∷ codes "ins"
-        ∷ codes "kbd" ∷ codes "label" ∷ codes "map" ∷ codes "mark" ∷ codes "picture" ∷ codes "q" ∷ codes "samp" ∷ codes "span"
-        ∷ codes "sub" ∷ codes "sup" ∷ codes "time" ∷ codes "var" ∷ [])
+    ∷ codes "kbd" ∷ codes "label" ∷ codes "map" ∷ codes "mark" ∷ codes "picture" ∷ codes "q" ∷ codes "samp" ∷ codes "span"
+    ∷ codes "sub" ∷ codes "sup" ∷ codes "time" ∷ codes "var" ∷ [])
     ∷ row Ruby (codes "ruby" ∷ [])
     ∷ row Anchor (codes "a" ∷ [])
     ∷ row NoBreak (codes "nobr" ∷ [])
     ∷ row Formatting (codes "b" ∷ codes "big" ∷ codes "code" ∷ codes "em" ∷ codes "font" ∷ codes "i" ∷ codes "s" ∷ codes "small"
-        ∷ codes "strike" ∷ codes "strong" ∷ codes "tt" ∷ codes "u" ∷ [])
+    ∷ codes "strike" ∷ codes "strong" ∷ codes "tt" ∷ codes "u" ∷ [])
     ∷ row Paragraph (codes "p" ∷ [])
     ∷ row Division (codes "address" ∷ codes "div" ∷ [])
     ∷ row Search (codes "search" ∷ [])
     ∷ row Dialog (codes "dialog" ∷ [])
     ∷ row ListBlock (codes "ol" ∷ codes "ul" ∷ [])
     ∷ row Block (codes "article" ∷ codes "aside" ∷ codes "blockquote" ∷ codes "center" ∷ codes "details" ∷ codes "dir" ∷ codes "dl"
-        ∷ codes "fieldset" ∷ codes "figcaption" ∷ codes "figure" ∷ codes "footer" ∷ codes "header" ∷ codes "hgroup" ∷ codes "main"
-        ∷ codes "menu" ∷ codes "nav" ∷ codes "section" ∷ codes "summary" ∷ [])
+    ∷ codes "fieldset" ∷ codes "figcaption" ∷ codes "figure" ∷ codes "footer" ∷ codes "header" ∷ codes "hgroup" ∷ codes "main"
+    ∷ codes "menu" ∷ codes "nav" ∷ codes "section" ∷ codes "summary" ∷ [])
     ∷ row ListItem (codes "li" ∷ [])
     ∷ row Description (codes "dd" ∷ codes "dt" ∷ [])
     ∷ row Heading (codes "h1" ∷ codes "h2" ∷ codes "h3" ∷ codes "h4" ∷ codes "h5" ∷ codes "h6" ∷ [])
