@@ -43,10 +43,10 @@ BATCH = 10
 HEAD = """-- Random items, with the trees that a model of the standard's tree construction builds of them, and with whether they all fit: by
 -- `python3 tools/tree_cases.py`, and not by hand.
 use Rattle.std.proofs.Common.{◌≡◌, Bool, true, false, List, [], ◌∷◌, refl}
-use Rattle.std.specs.Prelude.{ℕ, codes, map}
+use Rattle.std.specs.Prelude.{codes, map}
 use Rattle.html5tree.specs.Names.{is_among, kind_in, all_names, kind_of}
-use Rattle.html5tree.specs.Items.{Item, Attribute, in_front, whole_texts, without_newlines}
-use Rattle.html5tree.specs.Items.Item.{StartTag, EndTag, Text}
+use Rattle.html5tree.specs.Items.{Item, in_front, whole_texts, without_newlines}
+use Rattle.html5tree.specs.Items.Item.{StartTag, Text}
 use Rattle.html5tree.specs.Tree.{Tree}
 use Rattle.html5tree.specs.Tree.Tree.{Nothing, Element, Characters}
 use Rattle.html5tree.specs.Scopes.{near}
@@ -57,15 +57,7 @@ use Rattle.html5tree.specs.Adoption.{ended_by, furthest_block, replaced, inner_l
 use Rattle.html5tree.specs.InBody.{innermost}
 use Rattle.html5tree.specs.Tables.{mode_of, back_to, is_hidden, leading_space, after_space}
 use Rattle.html5tree.specs.Construction.{process, run, tree_of}
-
-abbrev start : List ℕ → Item
-start name = StartTag name []
-
-abbrev end : List ℕ → Item
-end name = EndTag name
-
-abbrev attribute : List ℕ → List ℕ → Attribute
-attribute name value = record { name = name; value = value }
+use Rattle.html5tree.proofs.Shorthand.{start, end, attribute}
 """
 TREES = (
     "is_among kind_in all_names kind_of in_front whole_texts without_newlines near joined changed changed_before found without applied built"
@@ -123,6 +115,20 @@ class Maker:
         for _ in range(self.choices.randrange(3, 18)):
             items.append(self.item())
             self.note(items[-1])
+        return items
+
+    def misnested_items(self):
+        """Formatting elements with blocks in them, which are closed in another order."""
+        formatting = self.choices.sample(["a", "b", "i", "u", "nobr"], self.choices.randrange(1, 4))
+        blocks = self.choices.choice([["div"], ["p", "div"], ["div", "ul", "li"], ["table", "tr", "td"], ["span", "div", "b"]])
+        items = []
+        for _ in range(self.choices.randrange(1, 6)):
+            items += [Start(name) for name in self.choices.choices(formatting, k=self.choices.randrange(1, 4))]
+            items += [Start(name) for name in self.choices.choices(blocks, k=self.choices.choice([1, 1, 2, 3, 9]))]
+            items.append(Text(self.choices.choice("xy")))
+            closed = self.choices.choices([*formatting, *formatting, *blocks], k=self.choices.randrange(1, 4))
+            items += [End(name) for name in closed]
+            items.append(Text(self.choices.choice("xy")))
         return items
 
     def fitting_items(self):
@@ -198,7 +204,7 @@ def lemma(name: str, function: str, kind: str, cases: list[tuple[str, str]], unf
 
 def tree_cases(number: int) -> list[tuple[str, str]]:
     made = [Maker(f"tree {at}") for at in range(number)]
-    several = [it.fitting_items() if at % 4 == 0 else it.items() for at, it in enumerate(made)]
+    several = [(it.items, it.misnested_items, it.items, it.fitting_items)[at % 4]() for at, it in enumerate(made)]
     return [(items_term(items), tree_term(tree.tree_of(items))) for items in several]
 
 
@@ -210,7 +216,7 @@ def fitting_cases(number: int) -> list[tuple[str, str]]:
 
 def proofs() -> str:
     parts = [HEAD, "-- ---- trees\n"]
-    for at, batch in enumerate(batches(tree_cases(150))):
+    for at, batch in enumerate(batches(tree_cases(200))):
         parts.append(lemma(f"trees_{at}", "tree_of", "Tree", batch, TREES))
     parts.append("-- ---- which items all fit\n")
     for at, batch in enumerate(batches(fitting_cases(150))):

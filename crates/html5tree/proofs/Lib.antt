@@ -6,4 +6,6 @@ pub mod Built
 pub mod InPlace
 pub mod Hosted
 pub mod FlowHosts
+pub mod Shorthand
 pub mod RandomCases
+pub mod Cases

@@ -1,10 +1,10 @@
 -- Random items, with the trees that a model of the standard's tree construction builds of them, and with whether they all fit: by
 -- `python3 tools/tree_cases.py`, and not by hand.
 use Rattle.std.proofs.Common.{◌≡◌, Bool, true, false, List, [], ◌∷◌, refl}
-use Rattle.std.specs.Prelude.{ℕ, codes, map}
+use Rattle.std.specs.Prelude.{codes, map}
 use Rattle.html5tree.specs.Names.{is_among, kind_in, all_names, kind_of}
-use Rattle.html5tree.specs.Items.{Item, Attribute, in_front, whole_texts, without_newlines}
-use Rattle.html5tree.specs.Items.Item.{StartTag, EndTag, Text}
+use Rattle.html5tree.specs.Items.{Item, in_front, whole_texts, without_newlines}
+use Rattle.html5tree.specs.Items.Item.{StartTag, Text}
 use Rattle.html5tree.specs.Tree.{Tree}
 use Rattle.html5tree.specs.Tree.Tree.{Nothing, Element, Characters}
 use Rattle.html5tree.specs.Scopes.{near}
@@ -15,44 +15,36 @@ use Rattle.html5tree.specs.Adoption.{ended_by, furthest_block, replaced, inner_l
 use Rattle.html5tree.specs.InBody.{innermost}
 use Rattle.html5tree.specs.Tables.{mode_of, back_to, is_hidden, leading_space, after_space}
 use Rattle.html5tree.specs.Construction.{process, run, tree_of}
-
-abbrev start : List ℕ → Item
-start name = StartTag name []
-
-abbrev end : List ℕ → Item
-end name = EndTag name
-
-abbrev attribute : List ℕ → List ℕ → Attribute
-attribute name value = record { name = name; value = value }
+use Rattle.html5tree.proofs.Shorthand.{start, end, attribute}
 
 -- ---- trees
 
 trees_0_items : List (List Item)
 trees_0_items =
-    (Text (10 ∷ []) ∷ Text [] ∷ Text (codes " ") ∷ StartTag (codes "figure") (attribute (codes "class") (codes "1") ∷ []) ∷ start (codes "figure") ∷ Text (10 ∷ 120 ∷ []) ∷ end (codes "figure") ∷ end (codes "figure") ∷ StartTag (codes "b") (attribute (codes "class") (codes "1") ∷ []) ∷ end (codes "b") ∷ start (codes "b") ∷ Text [] ∷ end (codes "b") ∷ [])
-    ∷ (StartTag (codes "table") (attribute (codes "class") (codes "2") ∷ attribute (codes "id") (codes "1") ∷ []) ∷ start (codes "pre") ∷ StartTag (codes "pre") (attribute (codes "class") (codes "1") ∷ []) ∷ Text (10 ∷ 10 ∷ []) ∷ start (codes "table") ∷ end (codes "pre") ∷ StartTag (codes "thead") (attribute (codes "id") (codes "1") ∷ attribute (codes "class") (codes "2") ∷ []) ∷ StartTag (codes "pre") (attribute (codes "class") (codes "1") ∷ []) ∷ end (codes "pre") ∷ [])
+    (end (codes "b") ∷ end (codes "figure") ∷ Text (codes " x") ∷ end (codes "figure") ∷ StartTag (codes "figure") (attribute (codes "class") (codes "2") ∷ attribute (codes "id") (codes "1") ∷ []) ∷ StartTag (codes "button") (attribute (codes "class") (codes "1") ∷ []) ∷ Text (codes " ") ∷ StartTag (codes "figure") (attribute (codes "class") (codes "1") ∷ []) ∷ start (codes "figure") ∷ end (codes "b") ∷ [])
+    ∷ (start (codes "u") ∷ start (codes "i") ∷ start (codes "i") ∷ start (codes "p") ∷ start (codes "p") ∷ start (codes "div") ∷ Text (codes "x") ∷ end (codes "div") ∷ end (codes "u") ∷ Text (codes "y") ∷ start (codes "i") ∷ start (codes "div") ∷ start (codes "p") ∷ start (codes "p") ∷ start (codes "div") ∷ start (codes "p") ∷ start (codes "div") ∷ start (codes "div") ∷ start (codes "p") ∷ start (codes "div") ∷ Text (codes "y") ∷ end (codes "p") ∷ Text (codes "y") ∷ [])
     ∷ (start (codes "dt") ∷ start (codes "table") ∷ Text (10 ∷ 10 ∷ []) ∷ StartTag (codes "caption") (attribute (codes "class") (codes "1") ∷ []) ∷ Text (codes " x") ∷ start (codes "dt") ∷ end (codes "dt") ∷ start (codes "td") ∷ Text (codes "y") ∷ start (codes "button") ∷ Text (codes " ") ∷ end (codes "button") ∷ start (codes "dl") ∷ Text (10 ∷ 120 ∷ []) ∷ StartTag (codes "dt") (attribute (codes "id") (codes "1") ∷ attribute (codes "class") (codes "2") ∷ []) ∷ [])
-    ∷ (start (codes "var") ∷ start (codes "var") ∷ Text (10 ∷ 120 ∷ []) ∷ Text (codes " x") ∷ Text (codes "x") ∷ Text (codes "x ") ∷ end (codes "var") ∷ Text (codes "x y") ∷ end (codes "var") ∷ Text (10 ∷ 10 ∷ []) ∷ end (codes "var") ∷ start (codes "dl") ∷ [])
-    ∷ (start (codes "dd") ∷ StartTag (codes "search") (attribute (codes "class") (codes "2") ∷ attribute (codes "id") (codes "1") ∷ []) ∷ end (codes "search") ∷ end (codes "dd") ∷ [])
-    ∷ (start (codes "blockquote") ∷ end (codes "blockquote") ∷ StartTag (codes "rb") (attribute (codes "id") (codes "1") ∷ attribute (codes "class") (codes "2") ∷ []) ∷ end (codes "rb") ∷ [])
+    ∷ (start (codes "var") ∷ start (codes "var") ∷ Text (10 ∷ 120 ∷ []) ∷ Text (codes " x") ∷ Text (codes "x") ∷ Text (codes "x ") ∷ end (codes "var") ∷ Text (codes "x y") ∷ end (codes "var") ∷ Text (10 ∷ 10 ∷ []) ∷ [])
+    ∷ (Text (10 ∷ 10 ∷ []) ∷ Text (10 ∷ 10 ∷ []) ∷ end (codes "button") ∷ end (codes "search") ∷ end (codes "dd") ∷ StartTag (codes "button") (attribute (codes "class") (codes "2") ∷ attribute (codes "id") (codes "1") ∷ []) ∷ [])
+    ∷ (start (codes "i") ∷ start (codes "i") ∷ start (codes "div") ∷ start (codes "p") ∷ start (codes "p") ∷ Text (codes "y") ∷ end (codes "div") ∷ Text (codes "x") ∷ [])
     ∷ (end (codes "mark") ∷ end (codes "td") ∷ StartTag (codes "form") (attribute (codes "class") (codes "1") ∷ []) ∷ start (codes "td") ∷ Text (codes "y") ∷ Text (10 ∷ 120 ∷ []) ∷ Text (codes "x y") ∷ start (codes "form") ∷ Text (codes "x y") ∷ end (codes "h6") ∷ Text (10 ∷ 10 ∷ []) ∷ end (codes "figcaption") ∷ [])
-    ∷ (end (codes "a") ∷ StartTag (codes "a") (attribute (codes "class") (codes "2") ∷ attribute (codes "id") (codes "1") ∷ []) ∷ start (codes "form") ∷ Text (10 ∷ 10 ∷ []) ∷ start (codes "var") ∷ start (codes "small") ∷ end (codes "small") ∷ Text (codes " ") ∷ end (codes "small") ∷ [])
-    ∷ (start (codes "table") ∷ start (codes "tfoot") ∷ end (codes "tfoot") ∷ Text [] ∷ start (codes "tfoot") ∷ end (codes "tfoot") ∷ end (codes "table") ∷ [])
-    ∷ (StartTag (codes "table") (attribute (codes "class") (codes "1") ∷ []) ∷ Text (codes "x y") ∷ end (codes "table") ∷ StartTag (codes "em") (attribute (codes "class") (codes "1") ∷ []) ∷ end (codes "em") ∷ start (codes "table") ∷ [])
+    ∷ (StartTag (codes "a") (attribute (codes "class") (codes "2") ∷ attribute (codes "id") (codes "1") ∷ []) ∷ start (codes "form") ∷ Text (10 ∷ 10 ∷ []) ∷ start (codes "var") ∷ start (codes "small") ∷ end (codes "small") ∷ Text (codes " ") ∷ end (codes "var") ∷ end (codes "form") ∷ end (codes "a") ∷ [])
+    ∷ (Text (codes "y") ∷ Text (codes "x y") ∷ end (codes "table") ∷ Text [] ∷ Text (codes " x") ∷ end (codes "ul") ∷ Text (codes " ") ∷ [])
+    ∷ (start (codes "u") ∷ start (codes "b") ∷ Text (codes "y") ∷ end (codes "div") ∷ end (codes "b") ∷ Text (codes "y") ∷ start (codes "u") ∷ start (codes "u") ∷ start (codes "div") ∷ start (codes "b") ∷ start (codes "div") ∷ Text (codes "x") ∷ end (codes "u") ∷ end (codes "span") ∷ Text (codes "x") ∷ start (codes "u") ∷ start (codes "b") ∷ start (codes "div") ∷ start (codes "span") ∷ start (codes "div") ∷ start (codes "div") ∷ start (codes "b") ∷ start (codes "span") ∷ start (codes "span") ∷ start (codes "div") ∷ Text (codes "x") ∷ end (codes "u") ∷ Text (codes "y") ∷ start (codes "u") ∷ start (codes "u") ∷ start (codes "div") ∷ start (codes "b") ∷ Text (codes "x") ∷ end (codes "u") ∷ end (codes "b") ∷ end (codes "b") ∷ Text (codes "y") ∷ start (codes "u") ∷ start (codes "u") ∷ start (codes "b") ∷ start (codes "div") ∷ Text (codes "x") ∷ end (codes "b") ∷ Text (codes "y") ∷ [])
     ∷ []
 
 trees_0_answers : List Tree
 trees_0_answers =
-    (Element (Element (Element (Characters Nothing (10 ∷ 32 ∷ [])) (codes "figure") (attribute (codes "class") (codes "1") ∷ []) (Element Nothing (codes "figure") [] (Characters Nothing (10 ∷ 120 ∷ [])))) (codes "b") (attribute (codes "class") (codes "1") ∷ []) Nothing) (codes "b") [] Nothing)
-    ∷ (Element (Element (Element (Element Nothing (codes "pre") [] (Element Nothing (codes "pre") (attribute (codes "class") (codes "1") ∷ []) (Characters Nothing (10 ∷ [])))) (codes "table") (attribute (codes "class") (codes "2") ∷ attribute (codes "id") (codes "1") ∷ []) Nothing) (codes "pre") (attribute (codes "class") (codes "1") ∷ []) Nothing) (codes "table") [] (Element Nothing (codes "thead") (attribute (codes "id") (codes "1") ∷ attribute (codes "class") (codes "2") ∷ []) Nothing))
+    (Element (Characters Nothing (codes " x")) (codes "figure") (attribute (codes "class") (codes "2") ∷ attribute (codes "id") (codes "1") ∷ []) (Element Nothing (codes "button") (attribute (codes "class") (codes "1") ∷ []) (Element (Characters Nothing (codes " ")) (codes "figure") (attribute (codes "class") (codes "1") ∷ []) (Element Nothing (codes "figure") [] Nothing))))
+    ∷ (Element (Element Nothing (codes "u") [] (Element Nothing (codes "i") [] (Element Nothing (codes "i") [] (Element (Element (Element Nothing (codes "p") [] Nothing) (codes "p") [] Nothing) (codes "div") [] (Characters Nothing (codes "x")))))) (codes "i") [] (Element Nothing (codes "i") [] (Element (Characters Nothing (codes "y")) (codes "i") [] (Element Nothing (codes "div") [] (Element (Element (Element Nothing (codes "p") [] Nothing) (codes "p") [] Nothing) (codes "div") [] (Element (Element Nothing (codes "p") [] Nothing) (codes "div") [] (Element Nothing (codes "div") [] (Element (Element Nothing (codes "p") [] Nothing) (codes "div") [] (Characters (Element (Characters Nothing (codes "y")) (codes "p") [] Nothing) (codes "y"))))))))))
     ∷ (Element Nothing (codes "dt") [] (Element Nothing (codes "table") [] (Element (Element (Characters Nothing (10 ∷ 10 ∷ [])) (codes "caption") (attribute (codes "class") (codes "1") ∷ []) (Element (Characters Nothing (codes " x")) (codes "dt") [] Nothing)) (codes "tbody") [] (Element Nothing (codes "tr") [] (Element Nothing (codes "td") [] (Element (Element (Characters Nothing (codes "y")) (codes "button") [] (Characters Nothing (codes " "))) (codes "dl") [] (Element (Characters Nothing (10 ∷ 120 ∷ [])) (codes "dt") (attribute (codes "id") (codes "1") ∷ attribute (codes "class") (codes "2") ∷ []) Nothing)))))))
-    ∷ (Element (Characters (Element Nothing (codes "var") [] (Characters (Element Nothing (codes "var") [] (Characters Nothing (10 ∷ 120 ∷ 32 ∷ 120 ∷ 120 ∷ 120 ∷ 32 ∷ []))) (codes "x y"))) (10 ∷ 10 ∷ [])) (codes "dl") [] Nothing)
-    ∷ (Element Nothing (codes "dd") [] (Element Nothing (codes "search") (attribute (codes "class") (codes "2") ∷ attribute (codes "id") (codes "1") ∷ []) Nothing))
-    ∷ (Element (Element Nothing (codes "blockquote") [] Nothing) (codes "rb") (attribute (codes "id") (codes "1") ∷ attribute (codes "class") (codes "2") ∷ []) Nothing)
+    ∷ (Characters (Element Nothing (codes "var") [] (Characters (Element Nothing (codes "var") [] (Characters Nothing (10 ∷ 120 ∷ 32 ∷ 120 ∷ 120 ∷ 120 ∷ 32 ∷ []))) (codes "x y"))) (10 ∷ 10 ∷ []))
+    ∷ (Element (Characters Nothing (10 ∷ 10 ∷ 10 ∷ 10 ∷ [])) (codes "button") (attribute (codes "class") (codes "2") ∷ attribute (codes "id") (codes "1") ∷ []) Nothing)
+    ∷ (Element Nothing (codes "i") [] (Element Nothing (codes "i") [] (Characters (Element Nothing (codes "div") [] (Element (Element Nothing (codes "p") [] Nothing) (codes "p") [] (Characters Nothing (codes "y")))) (codes "x"))))
     ∷ (Element Nothing (codes "form") (attribute (codes "class") (codes "1") ∷ []) (Characters Nothing (121 ∷ 10 ∷ 120 ∷ 120 ∷ 32 ∷ 121 ∷ 120 ∷ 32 ∷ 121 ∷ 10 ∷ 10 ∷ [])))
     ∷ (Element Nothing (codes "a") (attribute (codes "class") (codes "2") ∷ attribute (codes "id") (codes "1") ∷ []) (Element Nothing (codes "form") [] (Element (Characters Nothing (10 ∷ 10 ∷ [])) (codes "var") [] (Characters (Element Nothing (codes "small") [] Nothing) (codes " ")))))
-    ∷ (Element Nothing (codes "table") [] (Element (Element Nothing (codes "tfoot") [] Nothing) (codes "tfoot") [] Nothing))
-    ∷ (Element (Element (Element (Characters Nothing (codes "x y")) (codes "table") (attribute (codes "class") (codes "1") ∷ []) Nothing) (codes "em") (attribute (codes "class") (codes "1") ∷ []) Nothing) (codes "table") [] Nothing)
+    ∷ (Characters Nothing (codes "yx y x "))
+    ∷ (Element Nothing (codes "u") [] (Element (Characters (Element Nothing (codes "b") [] (Characters Nothing (codes "y"))) (codes "y")) (codes "u") [] (Element (Element Nothing (codes "u") [] Nothing) (codes "div") [] (Element (Element Nothing (codes "u") [] (Element Nothing (codes "b") [] Nothing)) (codes "b") [] (Element Nothing (codes "div") [] (Element (Element (Characters (Element Nothing (codes "u") [] (Characters Nothing (codes "x"))) (codes "x")) (codes "u") [] (Element Nothing (codes "b") [] Nothing)) (codes "b") [] (Element Nothing (codes "div") [] (Element (Element Nothing (codes "u") [] (Element Nothing (codes "span") [] Nothing)) (codes "div") [] (Element (Element Nothing (codes "u") [] Nothing) (codes "div") [] (Element (Element (Element Nothing (codes "u") [] (Element Nothing (codes "b") [] (Element Nothing (codes "span") [] (Element Nothing (codes "span") [] Nothing)))) (codes "b") [] Nothing) (codes "div") [] (Element (Element Nothing (codes "b") [] (Element (Characters (Element Nothing (codes "u") [] (Characters Nothing (codes "x"))) (codes "y")) (codes "u") [] (Element Nothing (codes "u") [] Nothing))) (codes "u") [] (Element Nothing (codes "div") [] (Element (Characters (Element Nothing (codes "b") [] (Element Nothing (codes "u") [] (Element Nothing (codes "b") [] (Characters Nothing (codes "x"))))) (codes "y")) (codes "u") [] (Element Nothing (codes "u") [] (Element (Element Nothing (codes "b") [] Nothing) (codes "div") [] (Characters (Element Nothing (codes "b") [] (Characters Nothing (codes "x"))) (codes "y")))))))))))))))))
     ∷ []
 
 trees_0 : map tree_of trees_0_items ≡ trees_0_answers
@@ -62,29 +54,29 @@ trees_0 = refl
 trees_1_items : List (List Item)
 trees_1_items =
     (StartTag (codes "nobr") (attribute (codes "class") (codes "1") ∷ []) ∷ Text (codes "x ") ∷ end (codes "nobr") ∷ start (codes "cite") ∷ StartTag (codes "table") (attribute (codes "id") (codes "1") ∷ attribute (codes "class") (codes "2") ∷ []) ∷ Text (10 ∷ 10 ∷ []) ∷ end (codes "table") ∷ end (codes "form") ∷ end (codes "cite") ∷ end (codes "sup") ∷ [])
-    ∷ (Text (codes "x y") ∷ end (codes "fieldset") ∷ start (codes "tr") ∷ Text (codes "x") ∷ start (codes "td") ∷ Text (codes "x") ∷ end (codes "td") ∷ end (codes "fieldset") ∷ start (codes "fieldset") ∷ start (codes "samp") ∷ start (codes "pre") ∷ start (codes "tr") ∷ [])
-    ∷ (StartTag (codes "pre") (attribute (codes "class") (codes "1") ∷ []) ∷ end (codes "pre") ∷ StartTag (codes "pre") (attribute (codes "id") (codes "1") ∷ attribute (codes "class") (codes "2") ∷ []) ∷ start (codes "nobr") ∷ Text (10 ∷ 120 ∷ []) ∷ Text [] ∷ StartTag (codes "button") (attribute (codes "id") (codes "1") ∷ attribute (codes "class") (codes "2") ∷ []) ∷ Text (codes "x y") ∷ Text (10 ∷ []) ∷ end (codes "button") ∷ Text (codes "x") ∷ StartTag (codes "button") (attribute (codes "class") (codes "1") ∷ []) ∷ end (codes "button") ∷ end (codes "nobr") ∷ end (codes "pre") ∷ [])
-    ∷ (start (codes "li") ∷ start (codes "tr") ∷ start (codes "li") ∷ start (codes "rt") ∷ start (codes "td") ∷ start (codes "table") ∷ [])
+    ∷ (start (codes "samp") ∷ end (codes "samp") ∷ [])
+    ∷ (end (codes "table") ∷ StartTag (codes "tr") (attribute (codes "id") (codes "1") ∷ attribute (codes "class") (codes "2") ∷ []) ∷ start (codes "pre") ∷ [])
+    ∷ (start (codes "i") ∷ start (codes "div") ∷ start (codes "div") ∷ start (codes "div") ∷ start (codes "div") ∷ start (codes "div") ∷ start (codes "div") ∷ start (codes "div") ∷ start (codes "div") ∷ start (codes "div") ∷ Text (codes "x") ∷ end (codes "i") ∷ end (codes "i") ∷ Text (codes "y") ∷ start (codes "i") ∷ start (codes "i") ∷ start (codes "i") ∷ start (codes "div") ∷ start (codes "div") ∷ start (codes "div") ∷ start (codes "div") ∷ start (codes "div") ∷ start (codes "div") ∷ start (codes "div") ∷ start (codes "div") ∷ start (codes "div") ∷ Text (codes "y") ∷ end (codes "div") ∷ end (codes "i") ∷ end (codes "div") ∷ Text (codes "x") ∷ [])
     ∷ (Text (10 ∷ 120 ∷ []) ∷ StartTag (codes "dl") (attribute (codes "class") (codes "2") ∷ attribute (codes "id") (codes "1") ∷ []) ∷ StartTag (codes "dl") (attribute (codes "id") (codes "1") ∷ attribute (codes "class") (codes "2") ∷ []) ∷ StartTag (codes "embed") (attribute (codes "class") (codes "1") ∷ []) ∷ start (codes "dl") ∷ end (codes "dl") ∷ [])
-    ∷ (end (codes "label") ∷ end (codes "u") ∷ StartTag (codes "thead") (attribute (codes "class") (codes "2") ∷ attribute (codes "id") (codes "1") ∷ []) ∷ end (codes "thead") ∷ StartTag (codes "listing") (attribute (codes "id") (codes "1") ∷ attribute (codes "class") (codes "2") ∷ []) ∷ StartTag (codes "label") (attribute (codes "id") (codes "1") ∷ attribute (codes "class") (codes "2") ∷ []) ∷ Text (codes "x") ∷ StartTag (codes "u") (attribute (codes "id") (codes "1") ∷ attribute (codes "class") (codes "2") ∷ []) ∷ end (codes "label") ∷ StartTag (codes "listing") (attribute (codes "id") (codes "1") ∷ attribute (codes "class") (codes "2") ∷ []) ∷ end (codes "u") ∷ StartTag (codes "label") (attribute (codes "class") (codes "2") ∷ attribute (codes "id") (codes "1") ∷ []) ∷ StartTag (codes "u") (attribute (codes "id") (codes "1") ∷ attribute (codes "class") (codes "2") ∷ []) ∷ start (codes "u") ∷ Text (codes "x") ∷ end (codes "label") ∷ [])
-    ∷ (start (codes "table") ∷ Text (10 ∷ []) ∷ end (codes "table") ∷ Text (codes "x y") ∷ start (codes "dir") ∷ start (codes "table") ∷ end (codes "table") ∷ end (codes "dir") ∷ [])
-    ∷ (start (codes "listing") ∷ end (codes "hr") ∷ end (codes "listing") ∷ end (codes "listing") ∷ start (codes "rt") ∷ start (codes "listing") ∷ end (codes "rt") ∷ start (codes "search") ∷ end (codes "listing") ∷ end (codes "search") ∷ end (codes "rt") ∷ StartTag (codes "search") (attribute (codes "class") (codes "2") ∷ attribute (codes "id") (codes "1") ∷ []) ∷ Text (codes " ") ∷ start (codes "search") ∷ [])
+    ∷ (StartTag (codes "u") (attribute (codes "class") (codes "1") ∷ []) ∷ start (codes "listing") ∷ StartTag (codes "listing") (attribute (codes "id") (codes "1") ∷ attribute (codes "class") (codes "2") ∷ []) ∷ StartTag (codes "label") (attribute (codes "id") (codes "1") ∷ attribute (codes "class") (codes "2") ∷ []) ∷ Text (codes "x") ∷ StartTag (codes "u") (attribute (codes "id") (codes "1") ∷ attribute (codes "class") (codes "2") ∷ []) ∷ Text (10 ∷ 10 ∷ []) ∷ end (codes "u") ∷ end (codes "label") ∷ end (codes "listing") ∷ end (codes "listing") ∷ end (codes "u") ∷ [])
+    ∷ (start (codes "dir") ∷ start (codes "table") ∷ Text (10 ∷ []) ∷ [])
+    ∷ (start (codes "u") ∷ start (codes "div") ∷ start (codes "p") ∷ start (codes "p") ∷ start (codes "p") ∷ start (codes "div") ∷ start (codes "p") ∷ start (codes "p") ∷ start (codes "p") ∷ start (codes "p") ∷ Text (codes "y") ∷ end (codes "div") ∷ end (codes "div") ∷ end (codes "p") ∷ Text (codes "x") ∷ start (codes "b") ∷ start (codes "i") ∷ start (codes "p") ∷ Text (codes "x") ∷ end (codes "p") ∷ end (codes "i") ∷ end (codes "b") ∷ Text (codes "y") ∷ start (codes "u") ∷ start (codes "div") ∷ start (codes "p") ∷ start (codes "p") ∷ Text (codes "x") ∷ end (codes "u") ∷ end (codes "u") ∷ end (codes "i") ∷ Text (codes "x") ∷ start (codes "u") ∷ start (codes "b") ∷ start (codes "b") ∷ start (codes "div") ∷ start (codes "p") ∷ start (codes "div") ∷ start (codes "p") ∷ start (codes "p") ∷ start (codes "div") ∷ start (codes "p") ∷ start (codes "div") ∷ start (codes "p") ∷ Text (codes "x") ∷ end (codes "b") ∷ end (codes "u") ∷ Text (codes "x") ∷ [])
     ∷ (StartTag (codes "i") (attribute (codes "class") (codes "1") ∷ []) ∷ Text (codes "x y") ∷ StartTag (codes "rtc") (attribute (codes "id") (codes "1") ∷ attribute (codes "class") (codes "2") ∷ []) ∷ end (codes "rtc") ∷ StartTag (codes "i") (attribute (codes "class") (codes "1") ∷ []) ∷ Text (codes "x ") ∷ Text (10 ∷ 10 ∷ []) ∷ start (codes "area") ∷ StartTag (codes "area") (attribute (codes "class") (codes "2") ∷ attribute (codes "id") (codes "1") ∷ []) ∷ end (codes "i") ∷ end (codes "i") ∷ [])
-    ∷ (start (codes "pre") ∷ end (codes "pre") ∷ end (codes "col") ∷ start (codes "area") ∷ [])
+    ∷ (StartTag (codes "del") (attribute (codes "id") (codes "1") ∷ attribute (codes "class") (codes "2") ∷ []) ∷ StartTag (codes "area") (attribute (codes "id") (codes "1") ∷ attribute (codes "class") (codes "2") ∷ []) ∷ Text (codes "x y") ∷ Text (10 ∷ []) ∷ Text (10 ∷ 10 ∷ []) ∷ start (codes "i") ∷ Text (codes " x") ∷ Text (10 ∷ 10 ∷ []) ∷ Text (codes "x y") ∷ start (codes "pre") ∷ Text (codes "y") ∷ end (codes "pre") ∷ end (codes "i") ∷ end (codes "del") ∷ [])
     ∷ []
 
 trees_1_answers : List Tree
 trees_1_answers =
     (Element (Element Nothing (codes "nobr") (attribute (codes "class") (codes "1") ∷ []) (Characters Nothing (codes "x "))) (codes "cite") [] (Element Nothing (codes "table") (attribute (codes "id") (codes "1") ∷ attribute (codes "class") (codes "2") ∷ []) (Characters Nothing (10 ∷ 10 ∷ []))))
-    ∷ (Element (Characters Nothing (codes "x yxx")) (codes "fieldset") [] (Element Nothing (codes "samp") [] (Element Nothing (codes "pre") [] Nothing)))
-    ∷ (Element (Element Nothing (codes "pre") (attribute (codes "class") (codes "1") ∷ []) Nothing) (codes "pre") (attribute (codes "id") (codes "1") ∷ attribute (codes "class") (codes "2") ∷ []) (Element Nothing (codes "nobr") [] (Element (Characters (Element (Characters Nothing (10 ∷ 120 ∷ [])) (codes "button") (attribute (codes "id") (codes "1") ∷ attribute (codes "class") (codes "2") ∷ []) (Characters Nothing (120 ∷ 32 ∷ 121 ∷ 10 ∷ []))) (codes "x")) (codes "button") (attribute (codes "class") (codes "1") ∷ []) Nothing)))
-    ∷ (Element (Element Nothing (codes "li") [] Nothing) (codes "li") [] (Element Nothing (codes "rt") [] (Element Nothing (codes "table") [] Nothing)))
+    ∷ (Element Nothing (codes "samp") [] Nothing)
+    ∷ (Element Nothing (codes "pre") [] Nothing)
+    ∷ (Element (Element Nothing (codes "i") [] Nothing) (codes "div") [] (Element (Element Nothing (codes "i") [] Nothing) (codes "div") [] (Element (Element Nothing (codes "i") [] Nothing) (codes "div") [] (Element (Element Nothing (codes "i") [] Nothing) (codes "div") [] (Element (Element Nothing (codes "i") [] Nothing) (codes "div") [] (Element (Element Nothing (codes "i") [] Nothing) (codes "div") [] (Element (Element Nothing (codes "i") [] Nothing) (codes "div") [] (Element (Element Nothing (codes "i") [] Nothing) (codes "div") [] (Element (Element Nothing (codes "i") [] Nothing) (codes "div") [] (Element (Characters (Element Nothing (codes "i") [] (Characters Nothing (codes "x"))) (codes "y")) (codes "i") [] (Element Nothing (codes "i") [] (Element (Element Nothing (codes "i") [] Nothing) (codes "div") [] (Element (Element Nothing (codes "i") [] Nothing) (codes "div") [] (Element (Element Nothing (codes "i") [] Nothing) (codes "div") [] (Element (Element Nothing (codes "i") [] Nothing) (codes "div") [] (Element (Element Nothing (codes "i") [] Nothing) (codes "div") [] (Element (Element Nothing (codes "i") [] Nothing) (codes "div") [] (Element (Element Nothing (codes "i") [] Nothing) (codes "div") [] (Element (Element (Element Nothing (codes "i") [] Nothing) (codes "div") [] (Element Nothing (codes "i") [] (Element Nothing (codes "div") [] (Characters Nothing (codes "y"))))) (codes "i") [] (Characters Nothing (codes "x")))))))))))))))))))))
     ∷ (Element (Characters Nothing (10 ∷ 120 ∷ [])) (codes "dl") (attribute (codes "class") (codes "2") ∷ attribute (codes "id") (codes "1") ∷ []) (Element Nothing (codes "dl") (attribute (codes "id") (codes "1") ∷ attribute (codes "class") (codes "2") ∷ []) (Element (Element Nothing (codes "embed") (attribute (codes "class") (codes "1") ∷ []) Nothing) (codes "dl") [] Nothing)))
-    ∷ (Element Nothing (codes "listing") (attribute (codes "id") (codes "1") ∷ attribute (codes "class") (codes "2") ∷ []) (Element (Element Nothing (codes "label") (attribute (codes "id") (codes "1") ∷ attribute (codes "class") (codes "2") ∷ []) (Element (Characters Nothing (codes "x")) (codes "u") (attribute (codes "id") (codes "1") ∷ attribute (codes "class") (codes "2") ∷ []) Nothing)) (codes "listing") (attribute (codes "id") (codes "1") ∷ attribute (codes "class") (codes "2") ∷ []) (Element Nothing (codes "label") (attribute (codes "class") (codes "2") ∷ attribute (codes "id") (codes "1") ∷ []) (Element Nothing (codes "u") (attribute (codes "id") (codes "1") ∷ attribute (codes "class") (codes "2") ∷ []) (Element Nothing (codes "u") [] (Characters Nothing (codes "x")))))))
-    ∷ (Element (Characters (Element Nothing (codes "table") [] (Characters Nothing (10 ∷ []))) (codes "x y")) (codes "dir") [] (Element Nothing (codes "table") [] Nothing))
-    ∷ (Element (Element (Element Nothing (codes "listing") [] Nothing) (codes "rt") [] (Element Nothing (codes "listing") [] (Element Nothing (codes "search") [] Nothing))) (codes "search") (attribute (codes "class") (codes "2") ∷ attribute (codes "id") (codes "1") ∷ []) (Element (Characters Nothing (codes " ")) (codes "search") [] Nothing))
+    ∷ (Element Nothing (codes "u") (attribute (codes "class") (codes "1") ∷ []) (Element Nothing (codes "listing") [] (Element Nothing (codes "listing") (attribute (codes "id") (codes "1") ∷ attribute (codes "class") (codes "2") ∷ []) (Element Nothing (codes "label") (attribute (codes "id") (codes "1") ∷ attribute (codes "class") (codes "2") ∷ []) (Element (Characters Nothing (codes "x")) (codes "u") (attribute (codes "id") (codes "1") ∷ attribute (codes "class") (codes "2") ∷ []) (Characters Nothing (10 ∷ 10 ∷ [])))))))
+    ∷ (Element Nothing (codes "dir") [] (Element Nothing (codes "table") [] (Characters Nothing (10 ∷ []))))
+    ∷ (Element (Element Nothing (codes "u") [] (Element (Characters (Element (Characters (Element (Element Nothing (codes "div") [] (Element (Element (Element (Element Nothing (codes "p") [] Nothing) (codes "p") [] Nothing) (codes "p") [] Nothing) (codes "div") [] (Element (Element (Element (Element Nothing (codes "p") [] Nothing) (codes "p") [] Nothing) (codes "p") [] Nothing) (codes "p") [] (Characters Nothing (codes "y"))))) (codes "p") [] Nothing) (codes "x")) (codes "b") [] (Element Nothing (codes "i") [] (Element Nothing (codes "p") [] (Characters Nothing (codes "x"))))) (codes "y")) (codes "u") [] Nothing)) (codes "div") [] (Element (Element (Element Nothing (codes "u") [] (Element Nothing (codes "u") [] (Element Nothing (codes "p") [] Nothing))) (codes "p") [] (Element (Characters (Element Nothing (codes "u") [] (Element Nothing (codes "u") [] (Characters Nothing (codes "x")))) (codes "x")) (codes "u") [] (Element Nothing (codes "b") [] (Element Nothing (codes "b") [] Nothing)))) (codes "div") [] (Element (Element Nothing (codes "p") [] Nothing) (codes "div") [] (Element (Element (Element Nothing (codes "p") [] Nothing) (codes "p") [] Nothing) (codes "div") [] (Element (Element Nothing (codes "p") [] Nothing) (codes "div") [] (Element Nothing (codes "p") [] (Element (Element Nothing (codes "u") [] (Element Nothing (codes "b") [] (Element Nothing (codes "b") [] (Characters Nothing (codes "x"))))) (codes "b") [] (Characters Nothing (codes "x")))))))))
     ∷ (Element Nothing (codes "i") (attribute (codes "class") (codes "1") ∷ []) (Element (Element (Characters Nothing (codes "x y")) (codes "rtc") (attribute (codes "id") (codes "1") ∷ attribute (codes "class") (codes "2") ∷ []) Nothing) (codes "i") (attribute (codes "class") (codes "1") ∷ []) (Element (Element (Characters Nothing (120 ∷ 32 ∷ 10 ∷ 10 ∷ [])) (codes "area") [] Nothing) (codes "area") (attribute (codes "class") (codes "2") ∷ attribute (codes "id") (codes "1") ∷ []) Nothing)))
-    ∷ (Element (Element Nothing (codes "pre") [] Nothing) (codes "area") [] Nothing)
+    ∷ (Element Nothing (codes "del") (attribute (codes "id") (codes "1") ∷ attribute (codes "class") (codes "2") ∷ []) (Element (Characters (Element Nothing (codes "area") (attribute (codes "id") (codes "1") ∷ attribute (codes "class") (codes "2") ∷ []) Nothing) (120 ∷ 32 ∷ 121 ∷ 10 ∷ 10 ∷ 10 ∷ [])) (codes "i") [] (Element (Characters Nothing (32 ∷ 120 ∷ 10 ∷ 10 ∷ 120 ∷ 32 ∷ 121 ∷ [])) (codes "pre") [] (Characters Nothing (codes "y")))))
     ∷ []
 
 trees_1 : map tree_of trees_1_items ≡ trees_1_answers
@@ -93,30 +85,30 @@ trees_1 = refl
 
 trees_2_items : List (List Item)
 trees_2_items =
-    (Text (10 ∷ 10 ∷ []) ∷ StartTag (codes "section") (attribute (codes "class") (codes "2") ∷ attribute (codes "id") (codes "1") ∷ []) ∷ end (codes "section") ∷ Text (10 ∷ 120 ∷ []) ∷ StartTag (codes "section") (attribute (codes "id") (codes "1") ∷ attribute (codes "class") (codes "2") ∷ []) ∷ end (codes "section") ∷ [])
-    ∷ (end (codes "table") ∷ end (codes "table") ∷ start (codes "h4") ∷ end (codes "h4") ∷ [])
+    (end (codes "sub") ∷ end (codes "section") ∷ StartTag (codes "td") (attribute (codes "id") (codes "1") ∷ attribute (codes "class") (codes "2") ∷ []) ∷ StartTag (codes "h3") (attribute (codes "class") (codes "1") ∷ []) ∷ start (codes "tr") ∷ end (codes "td") ∷ start (codes "td") ∷ end (codes "td") ∷ end (codes "tr") ∷ Text (codes " ") ∷ start (codes "section") ∷ [])
+    ∷ (start (codes "nobr") ∷ start (codes "nobr") ∷ start (codes "nobr") ∷ start (codes "div") ∷ start (codes "b") ∷ start (codes "div") ∷ Text (codes "x") ∷ end (codes "div") ∷ end (codes "nobr") ∷ end (codes "span") ∷ Text (codes "x") ∷ start (codes "nobr") ∷ start (codes "div") ∷ start (codes "b") ∷ start (codes "span") ∷ Text (codes "x") ∷ end (codes "nobr") ∷ end (codes "div") ∷ Text (codes "y") ∷ start (codes "nobr") ∷ start (codes "nobr") ∷ start (codes "nobr") ∷ start (codes "div") ∷ Text (codes "x") ∷ end (codes "nobr") ∷ Text (codes "y") ∷ start (codes "nobr") ∷ start (codes "nobr") ∷ start (codes "nobr") ∷ start (codes "div") ∷ Text (codes "y") ∷ end (codes "nobr") ∷ end (codes "nobr") ∷ Text (codes "y") ∷ start (codes "nobr") ∷ start (codes "nobr") ∷ start (codes "span") ∷ start (codes "span") ∷ start (codes "span") ∷ start (codes "b") ∷ start (codes "div") ∷ start (codes "span") ∷ start (codes "span") ∷ start (codes "span") ∷ start (codes "span") ∷ Text (codes "x") ∷ end (codes "nobr") ∷ end (codes "nobr") ∷ end (codes "nobr") ∷ Text (codes "x") ∷ [])
     ∷ (start (codes "h4") ∷ start (codes "dd") ∷ Text (codes " x") ∷ end (codes "dd") ∷ start (codes "article") ∷ end (codes "article") ∷ start (codes "dd") ∷ end (codes "dd") ∷ Text (10 ∷ 10 ∷ []) ∷ Text (codes "x y") ∷ [])
-    ∷ (start (codes "caption") ∷ Text (10 ∷ 10 ∷ []) ∷ Text (10 ∷ 10 ∷ []) ∷ end (codes "caption") ∷ [])
-    ∷ (Text (codes " x") ∷ Text (codes " ") ∷ StartTag (codes "table") (attribute (codes "class") (codes "1") ∷ []) ∷ end (codes "table") ∷ Text (codes "x ") ∷ start (codes "picture") ∷ end (codes "picture") ∷ [])
-    ∷ (start (codes "table") ∷ end (codes "table") ∷ end (codes "table") ∷ start (codes "tr") ∷ [])
+    ∷ (StartTag (codes "h4") (attribute (codes "id") (codes "1") ∷ attribute (codes "class") (codes "2") ∷ []) ∷ StartTag (codes "table") (attribute (codes "class") (codes "2") ∷ attribute (codes "id") (codes "1") ∷ []) ∷ start (codes "caption") ∷ Text (codes "y") ∷ Text (codes "x") ∷ end (codes "caption") ∷ StartTag (codes "tbody") (attribute (codes "id") (codes "1") ∷ attribute (codes "class") (codes "2") ∷ []) ∷ end (codes "tbody") ∷ end (codes "table") ∷ Text (codes "x") ∷ StartTag (codes "table") (attribute (codes "class") (codes "2") ∷ attribute (codes "id") (codes "1") ∷ []) ∷ start (codes "tbody") ∷ end (codes "tbody") ∷ end (codes "table") ∷ end (codes "h4") ∷ [])
+    ∷ (start (codes "tr") ∷ end (codes "picture") ∷ start (codes "thead") ∷ StartTag (codes "table") (attribute (codes "id") (codes "1") ∷ attribute (codes "class") (codes "2") ∷ []) ∷ Text [] ∷ end (codes "thead") ∷ end (codes "tr") ∷ StartTag (codes "caption") (attribute (codes "class") (codes "1") ∷ []) ∷ start (codes "rb") ∷ end (codes "rb") ∷ start (codes "picture") ∷ end (codes "caption") ∷ Text (codes "x ") ∷ [])
+    ∷ (start (codes "nobr") ∷ start (codes "li") ∷ start (codes "li") ∷ start (codes "div") ∷ start (codes "ul") ∷ start (codes "li") ∷ start (codes "div") ∷ start (codes "li") ∷ start (codes "li") ∷ start (codes "div") ∷ Text (codes "x") ∷ end (codes "ul") ∷ end (codes "div") ∷ end (codes "nobr") ∷ Text (codes "y") ∷ start (codes "nobr") ∷ start (codes "div") ∷ Text (codes "x") ∷ end (codes "nobr") ∷ end (codes "nobr") ∷ end (codes "div") ∷ Text (codes "y") ∷ start (codes "nobr") ∷ start (codes "nobr") ∷ start (codes "nobr") ∷ start (codes "ul") ∷ start (codes "div") ∷ Text (codes "y") ∷ end (codes "nobr") ∷ end (codes "ul") ∷ Text (codes "y") ∷ [])
     ∷ (StartTag (codes "tfoot") (attribute (codes "class") (codes "2") ∷ attribute (codes "id") (codes "1") ∷ []) ∷ end (codes "tfoot") ∷ start (codes "listing") ∷ end (codes "listing") ∷ Text (10 ∷ []) ∷ end (codes "listing") ∷ start (codes "listing") ∷ end (codes "listing") ∷ Text (codes "y") ∷ Text (codes "x ") ∷ Text (codes "x") ∷ Text [] ∷ Text (codes " x") ∷ Text (codes " ") ∷ start (codes "listing") ∷ [])
-    ∷ (start (codes "a") ∷ StartTag (codes "small") (attribute (codes "class") (codes "1") ∷ []) ∷ end (codes "small") ∷ [])
-    ∷ (start (codes "a") ∷ Text [] ∷ end (codes "a") ∷ Text [] ∷ Text [] ∷ StartTag (codes "bdi") (attribute (codes "class") (codes "2") ∷ attribute (codes "id") (codes "1") ∷ []) ∷ Text (10 ∷ []) ∷ end (codes "bdi") ∷ [])
-    ∷ (end (codes "details") ∷ end (codes "ul") ∷ Text (codes "x y") ∷ start (codes "b") ∷ end (codes "b") ∷ start (codes "b") ∷ start (codes "details") ∷ StartTag (codes "b") (attribute (codes "id") (codes "1") ∷ attribute (codes "class") (codes "2") ∷ []) ∷ end (codes "details") ∷ start (codes "b") ∷ start (codes "ul") ∷ start (codes "ul") ∷ start (codes "details") ∷ end (codes "details") ∷ end (codes "ul") ∷ [])
+    ∷ (StartTag (codes "small") (attribute (codes "class") (codes "1") ∷ []) ∷ end (codes "small") ∷ StartTag (codes "ul") (attribute (codes "class") (codes "1") ∷ []) ∷ StartTag (codes "a") (attribute (codes "class") (codes "2") ∷ attribute (codes "id") (codes "1") ∷ []) ∷ end (codes "a") ∷ end (codes "ul") ∷ start (codes "rt") ∷ Text (codes "x ") ∷ start (codes "form") ∷ StartTag (codes "dd") (attribute (codes "class") (codes "1") ∷ []) ∷ start (codes "ol") ∷ end (codes "ol") ∷ end (codes "dd") ∷ end (codes "form") ∷ end (codes "rt") ∷ [])
+    ∷ (Text (10 ∷ 10 ∷ []) ∷ start (codes "bdi") ∷ end (codes "bdi") ∷ start (codes "bdi") ∷ StartTag (codes "a") (attribute (codes "id") (codes "1") ∷ attribute (codes "class") (codes "2") ∷ []) ∷ [])
+    ∷ (start (codes "a") ∷ start (codes "a") ∷ start (codes "a") ∷ start (codes "div") ∷ start (codes "p") ∷ Text (codes "x") ∷ end (codes "p") ∷ end (codes "a") ∷ end (codes "a") ∷ Text (codes "x") ∷ start (codes "a") ∷ start (codes "a") ∷ start (codes "a") ∷ start (codes "p") ∷ start (codes "div") ∷ start (codes "p") ∷ start (codes "div") ∷ start (codes "p") ∷ start (codes "p") ∷ start (codes "div") ∷ start (codes "p") ∷ start (codes "div") ∷ Text (codes "y") ∷ end (codes "a") ∷ Text (codes "y") ∷ [])
     ∷ []
 
 trees_2_answers : List Tree
 trees_2_answers =
-    (Element (Characters (Element (Characters Nothing (10 ∷ 10 ∷ [])) (codes "section") (attribute (codes "class") (codes "2") ∷ attribute (codes "id") (codes "1") ∷ []) Nothing) (10 ∷ 120 ∷ [])) (codes "section") (attribute (codes "id") (codes "1") ∷ attribute (codes "class") (codes "2") ∷ []) Nothing)
-    ∷ (Element Nothing (codes "h4") [] Nothing)
+    (Element Nothing (codes "h3") (attribute (codes "class") (codes "1") ∷ []) (Element (Characters Nothing (codes " ")) (codes "section") [] Nothing))
+    ∷ (Element (Element (Element (Element Nothing (codes "nobr") [] Nothing) (codes "nobr") [] Nothing) (codes "nobr") [] Nothing) (codes "div") [] (Element (Element Nothing (codes "nobr") [] (Element Nothing (codes "b") [] (Element Nothing (codes "div") [] (Characters Nothing (codes "x"))))) (codes "b") [] (Element (Element (Element (Characters Nothing (codes "x")) (codes "nobr") [] Nothing) (codes "div") [] (Element Nothing (codes "nobr") [] (Element Nothing (codes "b") [] (Element Nothing (codes "span") [] (Characters Nothing (codes "x")))))) (codes "b") [] (Element (Element (Element (Element (Characters Nothing (codes "y")) (codes "nobr") [] Nothing) (codes "nobr") [] Nothing) (codes "nobr") [] Nothing) (codes "div") [] (Element (Element (Element (Element (Characters (Element Nothing (codes "nobr") [] (Characters Nothing (codes "x"))) (codes "y")) (codes "nobr") [] Nothing) (codes "nobr") [] Nothing) (codes "nobr") [] Nothing) (codes "div") [] (Element (Element (Element (Characters (Element Nothing (codes "nobr") [] (Characters Nothing (codes "y"))) (codes "y")) (codes "nobr") [] Nothing) (codes "nobr") [] (Element Nothing (codes "span") [] (Element Nothing (codes "span") [] (Element Nothing (codes "span") [] (Element Nothing (codes "b") [] Nothing))))) (codes "b") [] (Element Nothing (codes "div") [] (Characters (Element Nothing (codes "nobr") [] (Element Nothing (codes "span") [] (Element Nothing (codes "span") [] (Element Nothing (codes "span") [] (Element Nothing (codes "span") [] (Characters Nothing (codes "x"))))))) (codes "x")))))))))
     ∷ (Element Nothing (codes "h4") [] (Characters (Element (Element (Element Nothing (codes "dd") [] (Characters Nothing (codes " x"))) (codes "article") [] Nothing) (codes "dd") [] Nothing) (10 ∷ 10 ∷ 120 ∷ 32 ∷ 121 ∷ [])))
-    ∷ (Characters Nothing (10 ∷ 10 ∷ 10 ∷ 10 ∷ []))
-    ∷ (Element (Characters (Element (Characters Nothing (codes " x ")) (codes "table") (attribute (codes "class") (codes "1") ∷ []) Nothing) (codes "x ")) (codes "picture") [] Nothing)
-    ∷ (Element Nothing (codes "table") [] Nothing)
+    ∷ (Element Nothing (codes "h4") (attribute (codes "id") (codes "1") ∷ attribute (codes "class") (codes "2") ∷ []) (Element (Characters (Element Nothing (codes "table") (attribute (codes "class") (codes "2") ∷ attribute (codes "id") (codes "1") ∷ []) (Element (Element Nothing (codes "caption") [] (Characters Nothing (codes "yx"))) (codes "tbody") (attribute (codes "id") (codes "1") ∷ attribute (codes "class") (codes "2") ∷ []) Nothing)) (codes "x")) (codes "table") (attribute (codes "class") (codes "2") ∷ attribute (codes "id") (codes "1") ∷ []) (Element Nothing (codes "tbody") [] Nothing)))
+    ∷ (Element (Characters Nothing (codes "x ")) (codes "table") (attribute (codes "id") (codes "1") ∷ attribute (codes "class") (codes "2") ∷ []) (Element Nothing (codes "caption") (attribute (codes "class") (codes "1") ∷ []) (Element (Element Nothing (codes "rb") [] Nothing) (codes "picture") [] Nothing)))
+    ∷ (Element (Element Nothing (codes "nobr") [] (Element Nothing (codes "li") [] Nothing)) (codes "li") [] (Characters (Element (Element (Element (Element (Characters (Element (Element (Characters (Element Nothing (codes "nobr") [] (Element Nothing (codes "div") [] (Element Nothing (codes "ul") [] (Element (Element (Element Nothing (codes "li") [] (Element Nothing (codes "div") [] Nothing)) (codes "li") [] Nothing) (codes "li") [] (Element Nothing (codes "div") [] (Characters Nothing (codes "x"))))))) (codes "y")) (codes "nobr") [] Nothing) (codes "div") [] (Element Nothing (codes "nobr") [] (Characters Nothing (codes "x")))) (codes "y")) (codes "nobr") [] Nothing) (codes "nobr") [] Nothing) (codes "nobr") [] Nothing) (codes "ul") [] (Element (Element Nothing (codes "nobr") [] Nothing) (codes "div") [] (Element Nothing (codes "nobr") [] (Characters Nothing (codes "y"))))) (codes "y")))
     ∷ (Element (Characters (Element (Characters (Element Nothing (codes "listing") [] Nothing) (10 ∷ [])) (codes "listing") [] Nothing) (codes "yx x x ")) (codes "listing") [] Nothing)
-    ∷ (Element Nothing (codes "a") [] (Element Nothing (codes "small") (attribute (codes "class") (codes "1") ∷ []) Nothing))
-    ∷ (Element (Element Nothing (codes "a") [] Nothing) (codes "bdi") (attribute (codes "class") (codes "2") ∷ attribute (codes "id") (codes "1") ∷ []) (Characters Nothing (10 ∷ [])))
-    ∷ (Element (Element (Characters Nothing (codes "x y")) (codes "b") [] Nothing) (codes "b") [] (Element (Element Nothing (codes "details") [] (Element Nothing (codes "b") (attribute (codes "id") (codes "1") ∷ attribute (codes "class") (codes "2") ∷ []) Nothing)) (codes "b") (attribute (codes "id") (codes "1") ∷ attribute (codes "class") (codes "2") ∷ []) (Element Nothing (codes "b") [] (Element Nothing (codes "ul") [] (Element Nothing (codes "ul") [] (Element Nothing (codes "details") [] Nothing))))))
+    ∷ (Element (Element (Element Nothing (codes "small") (attribute (codes "class") (codes "1") ∷ []) Nothing) (codes "ul") (attribute (codes "class") (codes "1") ∷ []) (Element Nothing (codes "a") (attribute (codes "class") (codes "2") ∷ attribute (codes "id") (codes "1") ∷ []) Nothing)) (codes "rt") [] (Element (Characters Nothing (codes "x ")) (codes "form") [] (Element Nothing (codes "dd") (attribute (codes "class") (codes "1") ∷ []) (Element Nothing (codes "ol") [] Nothing))))
+    ∷ (Element (Element (Characters Nothing (10 ∷ 10 ∷ [])) (codes "bdi") [] Nothing) (codes "bdi") [] (Element Nothing (codes "a") (attribute (codes "id") (codes "1") ∷ attribute (codes "class") (codes "2") ∷ []) Nothing))
+    ∷ (Element (Element (Element (Element Nothing (codes "a") [] Nothing) (codes "a") [] Nothing) (codes "a") [] Nothing) (codes "div") [] (Element (Element (Element (Element (Characters (Element Nothing (codes "a") [] (Element Nothing (codes "p") [] (Characters Nothing (codes "x")))) (codes "x")) (codes "a") [] Nothing) (codes "a") [] Nothing) (codes "a") [] (Element Nothing (codes "p") [] Nothing)) (codes "div") [] (Element (Element Nothing (codes "a") [] (Element Nothing (codes "p") [] Nothing)) (codes "div") [] (Element (Element Nothing (codes "a") [] (Element (Element Nothing (codes "p") [] Nothing) (codes "p") [] Nothing)) (codes "div") [] (Element (Element Nothing (codes "a") [] (Element Nothing (codes "p") [] Nothing)) (codes "div") [] (Characters (Element Nothing (codes "a") [] (Characters Nothing (codes "y"))) (codes "y")))))))
     ∷ []
 
 trees_2 : map tree_of trees_2_items ≡ trees_2_answers
@@ -126,29 +118,29 @@ trees_2 = refl
 trees_3_items : List (List Item)
 trees_3_items =
     (StartTag (codes "nobr") (attribute (codes "class") (codes "2") ∷ attribute (codes "id") (codes "1") ∷ []) ∷ end (codes "nobr") ∷ start (codes "table") ∷ StartTag (codes "colgroup") (attribute (codes "class") (codes "2") ∷ attribute (codes "id") (codes "1") ∷ []) ∷ StartTag (codes "col") (attribute (codes "class") (codes "2") ∷ attribute (codes "id") (codes "1") ∷ []) ∷ end (codes "table") ∷ StartTag (codes "col") (attribute (codes "class") (codes "1") ∷ []) ∷ end (codes "colgroup") ∷ start (codes "rb") ∷ start (codes "rb") ∷ StartTag (codes "rb") (attribute (codes "class") (codes "2") ∷ attribute (codes "id") (codes "1") ∷ []) ∷ start (codes "nobr") ∷ StartTag (codes "nobr") (attribute (codes "class") (codes "1") ∷ []) ∷ StartTag (codes "table") (attribute (codes "id") (codes "1") ∷ attribute (codes "class") (codes "2") ∷ []) ∷ [])
-    ∷ (Text (codes " ") ∷ start (codes "tr") ∷ start (codes "td") ∷ Text (codes "x y") ∷ end (codes "td") ∷ start (codes "p") ∷ start (codes "p") ∷ end (codes "p") ∷ start (codes "col") ∷ end (codes "p") ∷ end (codes "tr") ∷ StartTag (codes "tr") (attribute (codes "id") (codes "1") ∷ attribute (codes "class") (codes "2") ∷ []) ∷ [])
-    ∷ (Text (codes "y") ∷ Text (10 ∷ 10 ∷ []) ∷ Text (codes "x") ∷ StartTag (codes "li") (attribute (codes "id") (codes "1") ∷ attribute (codes "class") (codes "2") ∷ []) ∷ StartTag (codes "table") (attribute (codes "class") (codes "2") ∷ attribute (codes "id") (codes "1") ∷ []) ∷ end (codes "table") ∷ end (codes "li") ∷ StartTag (codes "table") (attribute (codes "class") (codes "1") ∷ []) ∷ StartTag (codes "thead") (attribute (codes "class") (codes "1") ∷ []) ∷ StartTag (codes "tr") (attribute (codes "class") (codes "1") ∷ []) ∷ Text [] ∷ end (codes "tr") ∷ end (codes "thead") ∷ end (codes "table") ∷ [])
-    ∷ (Text (codes "y") ∷ start (codes "dt") ∷ end (codes "dt") ∷ StartTag (codes "ol") (attribute (codes "class") (codes "2") ∷ attribute (codes "id") (codes "1") ∷ []) ∷ StartTag (codes "button") (attribute (codes "class") (codes "2") ∷ attribute (codes "id") (codes "1") ∷ []) ∷ Text [] ∷ Text (codes "x y") ∷ StartTag (codes "dt") (attribute (codes "class") (codes "1") ∷ []) ∷ Text [] ∷ StartTag (codes "input") (attribute (codes "type") (codes "text") ∷ []) ∷ end (codes "button") ∷ StartTag (codes "dt") (attribute (codes "id") (codes "1") ∷ attribute (codes "class") (codes "2") ∷ []) ∷ end (codes "dt") ∷ end (codes "dt") ∷ start (codes "dt") ∷ end (codes "ol") ∷ end (codes "dt") ∷ [])
+    ∷ (start (codes "h3") ∷ end (codes "h3") ∷ [])
+    ∷ (StartTag (codes "li") (attribute (codes "class") (codes "2") ∷ attribute (codes "id") (codes "1") ∷ []) ∷ end (codes "li") ∷ StartTag (codes "tr") (attribute (codes "class") (codes "2") ∷ attribute (codes "id") (codes "1") ∷ []) ∷ end (codes "table") ∷ [])
+    ∷ (start (codes "nobr") ∷ start (codes "div") ∷ Text (codes "x") ∷ end (codes "nobr") ∷ Text (codes "y") ∷ start (codes "nobr") ∷ start (codes "nobr") ∷ start (codes "nobr") ∷ start (codes "div") ∷ start (codes "div") ∷ start (codes "div") ∷ start (codes "div") ∷ start (codes "div") ∷ start (codes "div") ∷ start (codes "div") ∷ start (codes "div") ∷ start (codes "div") ∷ Text (codes "y") ∷ end (codes "nobr") ∷ end (codes "div") ∷ Text (codes "y") ∷ start (codes "nobr") ∷ start (codes "nobr") ∷ start (codes "nobr") ∷ start (codes "div") ∷ start (codes "div") ∷ start (codes "div") ∷ Text (codes "y") ∷ end (codes "nobr") ∷ end (codes "nobr") ∷ end (codes "div") ∷ Text (codes "y") ∷ [])
     ∷ (StartTag (codes "dd") (attribute (codes "class") (codes "1") ∷ []) ∷ start (codes "dd") ∷ end (codes "dd") ∷ StartTag (codes "tr") (attribute (codes "class") (codes "1") ∷ []) ∷ end (codes "tr") ∷ end (codes "dd") ∷ start (codes "tr") ∷ end (codes "tr") ∷ end (codes "tr") ∷ start (codes "tr") ∷ [])
-    ∷ (end (codes "pre") ∷ end (codes "ul") ∷ end (codes "dd") ∷ StartTag (codes "listing") (attribute (codes "class") (codes "2") ∷ attribute (codes "id") (codes "1") ∷ []) ∷ Text (10 ∷ 10 ∷ []) ∷ Text (codes " ") ∷ Text (codes " x") ∷ [])
-    ∷ (Text (codes "x y") ∷ Text (codes " ") ∷ start (codes "b") ∷ end (codes "b") ∷ start (codes "small") ∷ start (codes "table") ∷ Text [] ∷ end (codes "table") ∷ end (codes "small") ∷ [])
-    ∷ (start (codes "table") ∷ Text (codes "x y") ∷ StartTag (codes "table") (attribute (codes "class") (codes "2") ∷ attribute (codes "id") (codes "1") ∷ []) ∷ [])
+    ∷ (start (codes "table") ∷ start (codes "tbody") ∷ Text (10 ∷ []) ∷ end (codes "tbody") ∷ end (codes "table") ∷ start (codes "table") ∷ end (codes "table") ∷ [])
+    ∷ (start (codes "dt") ∷ StartTag (codes "small") (attribute (codes "id") (codes "1") ∷ attribute (codes "class") (codes "2") ∷ []) ∷ end (codes "small") ∷ start (codes "li") ∷ end (codes "small") ∷ StartTag (codes "dt") (attribute (codes "class") (codes "2") ∷ attribute (codes "id") (codes "1") ∷ []) ∷ Text (codes "x y") ∷ end (codes "dt") ∷ Text (10 ∷ []) ∷ end (codes "col") ∷ end (codes "li") ∷ [])
+    ∷ (start (codes "a") ∷ start (codes "td") ∷ start (codes "tr") ∷ start (codes "td") ∷ start (codes "td") ∷ start (codes "tr") ∷ start (codes "table") ∷ start (codes "tr") ∷ start (codes "td") ∷ start (codes "tr") ∷ Text (codes "x") ∷ end (codes "table") ∷ Text (codes "x") ∷ start (codes "a") ∷ start (codes "tr") ∷ start (codes "td") ∷ start (codes "table") ∷ Text (codes "x") ∷ end (codes "table") ∷ end (codes "tr") ∷ end (codes "a") ∷ Text (codes "x") ∷ start (codes "a") ∷ start (codes "td") ∷ start (codes "tr") ∷ start (codes "tr") ∷ Text (codes "y") ∷ end (codes "a") ∷ end (codes "table") ∷ Text (codes "y") ∷ start (codes "a") ∷ start (codes "td") ∷ start (codes "table") ∷ start (codes "tr") ∷ start (codes "tr") ∷ start (codes "table") ∷ start (codes "td") ∷ start (codes "td") ∷ start (codes "table") ∷ start (codes "table") ∷ Text (codes "x") ∷ end (codes "td") ∷ end (codes "a") ∷ Text (codes "x") ∷ [])
     ∷ (Text [] ∷ start (codes "form") ∷ end (codes "form") ∷ [])
-    ∷ (Text (codes "x") ∷ Text (10 ∷ []) ∷ StartTag (codes "td") (attribute (codes "class") (codes "2") ∷ attribute (codes "id") (codes "1") ∷ []) ∷ end (codes "p") ∷ Text (codes "y") ∷ start (codes "rp") ∷ StartTag (codes "address") (attribute (codes "class") (codes "2") ∷ attribute (codes "id") (codes "1") ∷ []) ∷ end (codes "address") ∷ end (codes "rp") ∷ end (codes "p") ∷ end (codes "kbd") ∷ [])
+    ∷ (Text (codes "x") ∷ Text (codes "y") ∷ [])
     ∷ []
 
 trees_3_answers : List Tree
 trees_3_answers =
     (Element (Element (Element Nothing (codes "nobr") (attribute (codes "class") (codes "2") ∷ attribute (codes "id") (codes "1") ∷ []) Nothing) (codes "table") [] (Element Nothing (codes "colgroup") (attribute (codes "class") (codes "2") ∷ attribute (codes "id") (codes "1") ∷ []) (Element Nothing (codes "col") (attribute (codes "class") (codes "2") ∷ attribute (codes "id") (codes "1") ∷ []) Nothing))) (codes "rb") [] (Element Nothing (codes "rb") [] (Element Nothing (codes "rb") (attribute (codes "class") (codes "2") ∷ attribute (codes "id") (codes "1") ∷ []) (Element (Element Nothing (codes "nobr") [] Nothing) (codes "nobr") (attribute (codes "class") (codes "1") ∷ []) (Element Nothing (codes "table") (attribute (codes "id") (codes "1") ∷ attribute (codes "class") (codes "2") ∷ []) Nothing)))))
-    ∷ (Element (Element (Element (Characters Nothing (codes " x y")) (codes "p") [] Nothing) (codes "p") [] Nothing) (codes "p") [] Nothing)
-    ∷ (Element (Element (Characters Nothing (121 ∷ 10 ∷ 10 ∷ 120 ∷ [])) (codes "li") (attribute (codes "id") (codes "1") ∷ attribute (codes "class") (codes "2") ∷ []) (Element Nothing (codes "table") (attribute (codes "class") (codes "2") ∷ attribute (codes "id") (codes "1") ∷ []) Nothing)) (codes "table") (attribute (codes "class") (codes "1") ∷ []) (Element Nothing (codes "thead") (attribute (codes "class") (codes "1") ∷ []) (Element Nothing (codes "tr") (attribute (codes "class") (codes "1") ∷ []) Nothing)))
-    ∷ (Element (Element (Characters Nothing (codes "y")) (codes "dt") [] Nothing) (codes "ol") (attribute (codes "class") (codes "2") ∷ attribute (codes "id") (codes "1") ∷ []) (Element (Element (Element Nothing (codes "button") (attribute (codes "class") (codes "2") ∷ attribute (codes "id") (codes "1") ∷ []) (Element (Characters Nothing (codes "x y")) (codes "dt") (attribute (codes "class") (codes "1") ∷ []) (Element Nothing (codes "input") (attribute (codes "type") (codes "text") ∷ []) Nothing))) (codes "dt") (attribute (codes "id") (codes "1") ∷ attribute (codes "class") (codes "2") ∷ []) Nothing) (codes "dt") [] Nothing))
+    ∷ (Element Nothing (codes "h3") [] Nothing)
+    ∷ (Element Nothing (codes "li") (attribute (codes "class") (codes "2") ∷ attribute (codes "id") (codes "1") ∷ []) Nothing)
+    ∷ (Element (Element Nothing (codes "nobr") [] Nothing) (codes "div") [] (Element (Element (Element (Element (Characters (Element Nothing (codes "nobr") [] (Characters Nothing (codes "x"))) (codes "y")) (codes "nobr") [] Nothing) (codes "nobr") [] Nothing) (codes "nobr") [] Nothing) (codes "div") [] (Element (Element Nothing (codes "nobr") [] Nothing) (codes "div") [] (Element (Element Nothing (codes "nobr") [] Nothing) (codes "div") [] (Element (Element Nothing (codes "nobr") [] Nothing) (codes "div") [] (Element (Element Nothing (codes "nobr") [] Nothing) (codes "div") [] (Element (Element Nothing (codes "nobr") [] Nothing) (codes "div") [] (Element (Element Nothing (codes "nobr") [] Nothing) (codes "div") [] (Element (Element Nothing (codes "nobr") [] Nothing) (codes "div") [] (Element (Element (Element (Element (Element Nothing (codes "nobr") [] (Characters (Element Nothing (codes "div") [] (Characters Nothing (codes "y"))) (codes "y"))) (codes "nobr") [] Nothing) (codes "nobr") [] Nothing) (codes "nobr") [] Nothing) (codes "div") [] (Element (Element Nothing (codes "nobr") [] Nothing) (codes "div") [] (Characters (Element (Element Nothing (codes "nobr") [] Nothing) (codes "div") [] (Element Nothing (codes "nobr") [] (Characters Nothing (codes "y")))) (codes "y")))))))))))))
     ∷ (Element (Element Nothing (codes "dd") (attribute (codes "class") (codes "1") ∷ []) Nothing) (codes "dd") [] Nothing)
-    ∷ (Element Nothing (codes "listing") (attribute (codes "class") (codes "2") ∷ attribute (codes "id") (codes "1") ∷ []) (Characters Nothing (10 ∷ 32 ∷ 32 ∷ 120 ∷ [])))
-    ∷ (Element (Element (Characters Nothing (codes "x y ")) (codes "b") [] Nothing) (codes "small") [] (Element Nothing (codes "table") [] Nothing))
-    ∷ (Element (Element (Characters Nothing (codes "x y")) (codes "table") [] Nothing) (codes "table") (attribute (codes "class") (codes "2") ∷ attribute (codes "id") (codes "1") ∷ []) Nothing)
+    ∷ (Element (Element Nothing (codes "table") [] (Element Nothing (codes "tbody") [] (Characters Nothing (10 ∷ [])))) (codes "table") [] Nothing)
+    ∷ (Element Nothing (codes "dt") [] (Element (Element Nothing (codes "small") (attribute (codes "id") (codes "1") ∷ attribute (codes "class") (codes "2") ∷ []) Nothing) (codes "li") [] (Characters (Element Nothing (codes "dt") (attribute (codes "class") (codes "2") ∷ attribute (codes "id") (codes "1") ∷ []) (Characters Nothing (codes "x y"))) (10 ∷ []))))
+    ∷ (Element (Characters (Element (Characters (Element (Element Nothing (codes "a") [] (Characters (Element (Characters Nothing (codes "x")) (codes "table") [] (Element Nothing (codes "tbody") [] (Element (Element Nothing (codes "tr") [] (Element Nothing (codes "td") [] Nothing)) (codes "tr") [] Nothing))) (codes "x"))) (codes "a") [] (Element (Characters Nothing (codes "x")) (codes "table") [] Nothing)) (codes "x")) (codes "a") [] (Characters Nothing (codes "y"))) (codes "y")) (codes "a") [] (Element (Element Nothing (codes "table") [] (Element Nothing (codes "tbody") [] (Element (Element Nothing (codes "tr") [] Nothing) (codes "tr") [] Nothing))) (codes "table") [] (Element Nothing (codes "tbody") [] (Element Nothing (codes "tr") [] (Element (Element Nothing (codes "td") [] Nothing) (codes "td") [] (Element (Characters (Element Nothing (codes "table") [] Nothing) (codes "xx")) (codes "table") [] Nothing))))))
     ∷ (Element Nothing (codes "form") [] Nothing)
-    ∷ (Element (Element (Characters (Element (Characters Nothing (120 ∷ 10 ∷ [])) (codes "p") [] Nothing) (codes "y")) (codes "rp") [] (Element Nothing (codes "address") (attribute (codes "class") (codes "2") ∷ attribute (codes "id") (codes "1") ∷ []) Nothing)) (codes "p") [] Nothing)
+    ∷ (Characters Nothing (codes "xy"))
     ∷ []
 
 trees_3 : map tree_of trees_3_items ≡ trees_3_answers
@@ -157,30 +149,30 @@ trees_3 = refl
 
 trees_4_items : List (List Item)
 trees_4_items =
-    (StartTag (codes "code") (attribute (codes "class") (codes "1") ∷ []) ∷ start (codes "code") ∷ end (codes "code") ∷ Text (10 ∷ []) ∷ end (codes "code") ∷ Text [] ∷ [])
-    ∷ (StartTag (codes "rb") (attribute (codes "class") (codes "1") ∷ []) ∷ StartTag (codes "table") (attribute (codes "class") (codes "1") ∷ []) ∷ StartTag (codes "tbody") (attribute (codes "class") (codes "2") ∷ attribute (codes "id") (codes "1") ∷ []) ∷ end (codes "listing") ∷ start (codes "table") ∷ start (codes "table") ∷ StartTag (codes "colgroup") (attribute (codes "id") (codes "1") ∷ attribute (codes "class") (codes "2") ∷ []) ∷ Text (codes " ") ∷ end (codes "colgroup") ∷ StartTag (codes "listing") (attribute (codes "class") (codes "1") ∷ []) ∷ [])
+    (Text (codes " ") ∷ Text (codes "x y") ∷ end (codes "pre") ∷ [])
+    ∷ (start (codes "a") ∷ start (codes "nobr") ∷ start (codes "span") ∷ start (codes "b") ∷ start (codes "b") ∷ Text (codes "y") ∷ end (codes "nobr") ∷ end (codes "b") ∷ Text (codes "x") ∷ start (codes "nobr") ∷ start (codes "nobr") ∷ start (codes "div") ∷ start (codes "b") ∷ start (codes "span") ∷ Text (codes "x") ∷ end (codes "nobr") ∷ end (codes "span") ∷ end (codes "div") ∷ Text (codes "x") ∷ start (codes "nobr") ∷ start (codes "nobr") ∷ start (codes "nobr") ∷ start (codes "span") ∷ start (codes "b") ∷ start (codes "b") ∷ Text (codes "x") ∷ end (codes "span") ∷ end (codes "a") ∷ Text (codes "x") ∷ [])
     ∷ (end (codes "data") ∷ end (codes "data") ∷ start (codes "pre") ∷ start (codes "pre") ∷ start (codes "pre") ∷ start (codes "data") ∷ Text (10 ∷ 10 ∷ []) ∷ end (codes "pre") ∷ end (codes "pre") ∷ Text (codes "x y") ∷ Text (10 ∷ []) ∷ StartTag (codes "pre") (attribute (codes "id") (codes "1") ∷ attribute (codes "class") (codes "2") ∷ []) ∷ start (codes "pre") ∷ end (codes "pre") ∷ StartTag (codes "data") (attribute (codes "class") (codes "1") ∷ []) ∷ Text (10 ∷ []) ∷ [])
-    ∷ (start (codes "picture") ∷ end (codes "picture") ∷ Text (codes "x") ∷ start (codes "br") ∷ Text [] ∷ [])
-    ∷ (end (codes "td") ∷ Text (codes " ") ∷ start (codes "table") ∷ StartTag (codes "nobr") (attribute (codes "id") (codes "1") ∷ attribute (codes "class") (codes "2") ∷ []) ∷ Text (10 ∷ 10 ∷ []) ∷ start (codes "rtc") ∷ start (codes "pre") ∷ end (codes "pre") ∷ end (codes "rtc") ∷ end (codes "nobr") ∷ end (codes "table") ∷ [])
-    ∷ (start (codes "tr") ∷ start (codes "p") ∷ start (codes "td") ∷ Text (codes " x") ∷ end (codes "td") ∷ end (codes "p") ∷ StartTag (codes "td") (attribute (codes "class") (codes "1") ∷ []) ∷ Text (codes " x") ∷ StartTag (codes "tr") (attribute (codes "class") (codes "1") ∷ []) ∷ StartTag (codes "td") (attribute (codes "id") (codes "1") ∷ attribute (codes "class") (codes "2") ∷ []) ∷ Text [] ∷ end (codes "hgroup") ∷ StartTag (codes "table") (attribute (codes "id") (codes "1") ∷ attribute (codes "class") (codes "2") ∷ []) ∷ StartTag (codes "table") (attribute (codes "class") (codes "1") ∷ []) ∷ [])
+    ∷ (start (codes "br") ∷ Text [] ∷ Text [] ∷ Text (codes "y") ∷ Text (10 ∷ []) ∷ Text (10 ∷ 10 ∷ []) ∷ Text (codes "x ") ∷ Text (10 ∷ []) ∷ start (codes "br") ∷ StartTag (codes "i") (attribute (codes "class") (codes "2") ∷ attribute (codes "id") (codes "1") ∷ []) ∷ Text (codes "x y") ∷ end (codes "i") ∷ [])
+    ∷ (Text (codes "x") ∷ end (codes "rtc") ∷ StartTag (codes "u") (attribute (codes "class") (codes "1") ∷ []) ∷ end (codes "dd") ∷ Text (codes " ") ∷ end (codes "u") ∷ end (codes "table") ∷ Text (codes "y") ∷ StartTag (codes "var") (attribute (codes "id") (codes "1") ∷ attribute (codes "class") (codes "2") ∷ []) ∷ Text (codes "y") ∷ Text (codes "x y") ∷ end (codes "var") ∷ [])
+    ∷ (start (codes "nobr") ∷ start (codes "b") ∷ start (codes "i") ∷ start (codes "tr") ∷ start (codes "tr") ∷ Text (codes "x") ∷ end (codes "i") ∷ end (codes "nobr") ∷ Text (codes "x") ∷ start (codes "b") ∷ start (codes "i") ∷ start (codes "b") ∷ start (codes "tr") ∷ Text (codes "y") ∷ end (codes "nobr") ∷ end (codes "tr") ∷ end (codes "i") ∷ Text (codes "y") ∷ [])
     ∷ (Text (codes "y") ∷ end (codes "wbr") ∷ StartTag (codes "li") (attribute (codes "class") (codes "2") ∷ attribute (codes "id") (codes "1") ∷ []) ∷ [])
-    ∷ (end (codes "nobr") ∷ end (codes "nobr") ∷ end (codes "center") ∷ end (codes "h2") ∷ end (codes "h2") ∷ end (codes "center") ∷ Text (codes " ") ∷ Text (codes "x y") ∷ Text (codes "x") ∷ end (codes "h2") ∷ StartTag (codes "h2") (attribute (codes "class") (codes "1") ∷ []) ∷ start (codes "nobr") ∷ StartTag (codes "nobr") (attribute (codes "class") (codes "1") ∷ []) ∷ [])
-    ∷ (Text (codes "x ") ∷ Text [] ∷ start (codes "rtc") ∷ end (codes "rtc") ∷ Text (codes " x") ∷ start (codes "rtc") ∷ start (codes "dl") ∷ start (codes "dl") ∷ StartTag (codes "u") (attribute (codes "id") (codes "1") ∷ attribute (codes "class") (codes "2") ∷ []) ∷ Text (10 ∷ 120 ∷ []) ∷ end (codes "u") ∷ end (codes "dl") ∷ end (codes "dl") ∷ end (codes "rtc") ∷ [])
-    ∷ (StartTag (codes "rtc") (attribute (codes "class") (codes "1") ∷ []) ∷ end (codes "rtc") ∷ Text (codes "x") ∷ StartTag (codes "table") (attribute (codes "class") (codes "2") ∷ attribute (codes "id") (codes "1") ∷ []) ∷ StartTag (codes "caption") (attribute (codes "class") (codes "2") ∷ attribute (codes "id") (codes "1") ∷ []) ∷ StartTag (codes "a") (attribute (codes "class") (codes "2") ∷ attribute (codes "id") (codes "1") ∷ []) ∷ start (codes "rtc") ∷ StartTag (codes "rb") (attribute (codes "class") (codes "2") ∷ attribute (codes "id") (codes "1") ∷ []) ∷ [])
+    ∷ (start (codes "center") ∷ end (codes "center") ∷ [])
+    ∷ (StartTag (codes "col") (attribute (codes "class") (codes "2") ∷ attribute (codes "id") (codes "1") ∷ []) ∷ StartTag (codes "div") (attribute (codes "id") (codes "1") ∷ attribute (codes "class") (codes "2") ∷ []) ∷ start (codes "col") ∷ Text (codes "x ") ∷ Text [] ∷ start (codes "rtc") ∷ end (codes "div") ∷ end (codes "rtc") ∷ end (codes "u") ∷ start (codes "ruby") ∷ Text (codes "x") ∷ end (codes "ruby") ∷ end (codes "col") ∷ start (codes "col") ∷ end (codes "col") ∷ Text (codes "x y") ∷ start (codes "b") ∷ [])
+    ∷ (start (codes "u") ∷ start (codes "b") ∷ start (codes "div") ∷ start (codes "div") ∷ Text (codes "x") ∷ end (codes "u") ∷ end (codes "div") ∷ Text (codes "y") ∷ start (codes "b") ∷ start (codes "p") ∷ start (codes "p") ∷ Text (codes "y") ∷ end (codes "u") ∷ end (codes "u") ∷ Text (codes "x") ∷ [])
     ∷ []
 
 trees_4_answers : List Tree
 trees_4_answers =
-    (Element Nothing (codes "code") (attribute (codes "class") (codes "1") ∷ []) (Characters (Element Nothing (codes "code") [] Nothing) (10 ∷ [])))
-    ∷ (Element Nothing (codes "rb") (attribute (codes "class") (codes "1") ∷ []) (Element (Element (Element (Element Nothing (codes "table") (attribute (codes "class") (codes "1") ∷ []) (Element Nothing (codes "tbody") (attribute (codes "class") (codes "2") ∷ attribute (codes "id") (codes "1") ∷ []) Nothing)) (codes "table") [] Nothing) (codes "listing") (attribute (codes "class") (codes "1") ∷ []) Nothing) (codes "table") [] (Element Nothing (codes "colgroup") (attribute (codes "id") (codes "1") ∷ attribute (codes "class") (codes "2") ∷ []) (Characters Nothing (codes " ")))))
+    (Characters Nothing (codes " x y"))
+    ∷ (Element (Element Nothing (codes "a") [] (Element (Element Nothing (codes "nobr") [] (Element Nothing (codes "span") [] (Element Nothing (codes "b") [] (Element Nothing (codes "b") [] (Characters Nothing (codes "y")))))) (codes "b") [] (Element (Element (Element (Element (Characters Nothing (codes "x")) (codes "nobr") [] Nothing) (codes "nobr") [] Nothing) (codes "div") [] (Element Nothing (codes "nobr") [] (Element Nothing (codes "b") [] (Element Nothing (codes "span") [] (Characters Nothing (codes "x")))))) (codes "b") [] (Element (Element (Element (Characters Nothing (codes "x")) (codes "nobr") [] Nothing) (codes "nobr") [] Nothing) (codes "nobr") [] (Element Nothing (codes "span") [] (Element Nothing (codes "b") [] (Element Nothing (codes "b") [] (Characters Nothing (codes "x"))))))))) (codes "b") [] (Element Nothing (codes "nobr") [] (Element Nothing (codes "b") [] (Element Nothing (codes "b") [] (Characters Nothing (codes "x"))))))
     ∷ (Element Nothing (codes "pre") [] (Element (Characters (Element Nothing (codes "pre") [] (Element Nothing (codes "pre") [] (Element Nothing (codes "data") [] (Characters Nothing (10 ∷ 10 ∷ []))))) (120 ∷ 32 ∷ 121 ∷ 10 ∷ [])) (codes "pre") (attribute (codes "id") (codes "1") ∷ attribute (codes "class") (codes "2") ∷ []) (Element (Element Nothing (codes "pre") [] Nothing) (codes "data") (attribute (codes "class") (codes "1") ∷ []) (Characters Nothing (10 ∷ [])))))
-    ∷ (Element (Characters (Element Nothing (codes "picture") [] Nothing) (codes "x")) (codes "br") [] Nothing)
-    ∷ (Element (Element (Characters Nothing (codes " ")) (codes "nobr") (attribute (codes "id") (codes "1") ∷ attribute (codes "class") (codes "2") ∷ []) (Element (Characters Nothing (10 ∷ 10 ∷ [])) (codes "rtc") [] (Element Nothing (codes "pre") [] Nothing))) (codes "table") [] Nothing)
-    ∷ (Element (Element (Characters (Element Nothing (codes "p") [] (Characters Nothing (codes " x"))) (codes " x")) (codes "table") (attribute (codes "id") (codes "1") ∷ attribute (codes "class") (codes "2") ∷ []) Nothing) (codes "table") (attribute (codes "class") (codes "1") ∷ []) Nothing)
+    ∷ (Element (Element (Characters (Element Nothing (codes "br") [] Nothing) (121 ∷ 10 ∷ 10 ∷ 10 ∷ 120 ∷ 32 ∷ 10 ∷ [])) (codes "br") [] Nothing) (codes "i") (attribute (codes "class") (codes "2") ∷ attribute (codes "id") (codes "1") ∷ []) (Characters Nothing (codes "x y")))
+    ∷ (Element (Characters (Element (Characters Nothing (codes "x")) (codes "u") (attribute (codes "class") (codes "1") ∷ []) (Characters Nothing (codes " "))) (codes "y")) (codes "var") (attribute (codes "id") (codes "1") ∷ attribute (codes "class") (codes "2") ∷ []) (Characters Nothing (codes "yx y")))
+    ∷ (Element (Element Nothing (codes "nobr") [] (Element Nothing (codes "b") [] (Element Nothing (codes "i") [] (Characters Nothing (codes "x"))))) (codes "b") [] (Element (Characters Nothing (codes "x")) (codes "b") [] (Element (Element Nothing (codes "i") [] (Element Nothing (codes "b") [] (Characters Nothing (codes "y")))) (codes "b") [] (Characters Nothing (codes "y")))))
     ∷ (Element (Characters Nothing (codes "y")) (codes "li") (attribute (codes "class") (codes "2") ∷ attribute (codes "id") (codes "1") ∷ []) Nothing)
-    ∷ (Element (Characters Nothing (codes " x yx")) (codes "h2") (attribute (codes "class") (codes "1") ∷ []) (Element (Element Nothing (codes "nobr") [] Nothing) (codes "nobr") (attribute (codes "class") (codes "1") ∷ []) Nothing))
-    ∷ (Element (Characters (Element (Characters Nothing (codes "x ")) (codes "rtc") [] Nothing) (codes " x")) (codes "rtc") [] (Element Nothing (codes "dl") [] (Element Nothing (codes "dl") [] (Element Nothing (codes "u") (attribute (codes "id") (codes "1") ∷ attribute (codes "class") (codes "2") ∷ []) (Characters Nothing (10 ∷ 120 ∷ []))))))
-    ∷ (Element (Characters (Element Nothing (codes "rtc") (attribute (codes "class") (codes "1") ∷ []) Nothing) (codes "x")) (codes "table") (attribute (codes "class") (codes "2") ∷ attribute (codes "id") (codes "1") ∷ []) (Element Nothing (codes "caption") (attribute (codes "class") (codes "2") ∷ attribute (codes "id") (codes "1") ∷ []) (Element Nothing (codes "a") (attribute (codes "class") (codes "2") ∷ attribute (codes "id") (codes "1") ∷ []) (Element Nothing (codes "rtc") [] (Element Nothing (codes "rb") (attribute (codes "class") (codes "2") ∷ attribute (codes "id") (codes "1") ∷ []) Nothing)))))
+    ∷ (Element Nothing (codes "center") [] Nothing)
+    ∷ (Element (Characters (Element (Element Nothing (codes "div") (attribute (codes "id") (codes "1") ∷ attribute (codes "class") (codes "2") ∷ []) (Element (Characters Nothing (codes "x ")) (codes "rtc") [] Nothing)) (codes "ruby") [] (Characters Nothing (codes "x"))) (codes "x y")) (codes "b") [] Nothing)
+    ∷ (Element (Element Nothing (codes "u") [] (Element Nothing (codes "b") [] Nothing)) (codes "b") [] (Element Nothing (codes "div") [] (Element (Characters (Element (Element Nothing (codes "u") [] Nothing) (codes "div") [] (Element Nothing (codes "u") [] (Characters Nothing (codes "x")))) (codes "y")) (codes "b") [] (Element (Element Nothing (codes "p") [] Nothing) (codes "p") [] (Characters Nothing (codes "yx"))))))
     ∷ []
 
 trees_4 : map tree_of trees_4_items ≡ trees_4_answers
@@ -190,29 +182,29 @@ trees_4 = refl
 trees_5_items : List (List Item)
 trees_5_items =
     (Text (codes " x") ∷ end (codes "i") ∷ start (codes "i") ∷ start (codes "i") ∷ StartTag (codes "p") (attribute (codes "class") (codes "1") ∷ []) ∷ end (codes "p") ∷ end (codes "i") ∷ start (codes "i") ∷ StartTag (codes "p") (attribute (codes "class") (codes "2") ∷ attribute (codes "id") (codes "1") ∷ []) ∷ [])
-    ∷ (end (codes "tt") ∷ Text (10 ∷ 10 ∷ []) ∷ Text (10 ∷ 10 ∷ []) ∷ end (codes "table") ∷ end (codes "dt") ∷ [])
-    ∷ (Text (codes "x") ∷ [])
-    ∷ (start (codes "table") ∷ Text (10 ∷ 120 ∷ []) ∷ end (codes "table") ∷ start (codes "td") ∷ start (codes "table") ∷ Text (codes " x") ∷ start (codes "tfoot") ∷ end (codes "table") ∷ end (codes "td") ∷ end (codes "tfoot") ∷ Text (codes " ") ∷ StartTag (codes "b") (attribute (codes "class") (codes "1") ∷ []) ∷ start (codes "td") ∷ Text [] ∷ [])
+    ∷ (Text (10 ∷ 10 ∷ []) ∷ Text (10 ∷ 10 ∷ []) ∷ StartTag (codes "main") (attribute (codes "class") (codes "2") ∷ attribute (codes "id") (codes "1") ∷ []) ∷ Text (10 ∷ 10 ∷ []) ∷ end (codes "main") ∷ StartTag (codes "table") (attribute (codes "class") (codes "1") ∷ []) ∷ end (codes "table") ∷ start (codes "tt") ∷ start (codes "table") ∷ Text (10 ∷ 10 ∷ []) ∷ start (codes "colgroup") ∷ end (codes "colgroup") ∷ end (codes "table") ∷ end (codes "tt") ∷ [])
+    ∷ (Text (codes "x") ∷ start (codes "col") ∷ Text (codes "x ") ∷ StartTag (codes "td") (attribute (codes "class") (codes "1") ∷ []) ∷ StartTag (codes "sup") (attribute (codes "id") (codes "1") ∷ attribute (codes "class") (codes "2") ∷ []) ∷ [])
+    ∷ (start (codes "nobr") ∷ start (codes "table") ∷ start (codes "tr") ∷ start (codes "td") ∷ Text (codes "y") ∷ end (codes "nobr") ∷ end (codes "nobr") ∷ end (codes "nobr") ∷ Text (codes "y") ∷ [])
     ∷ (end (codes "form") ∷ end (codes "em") ∷ Text (codes " x") ∷ end (codes "a") ∷ end (codes "a") ∷ end (codes "form") ∷ end (codes "form") ∷ start (codes "em") ∷ StartTag (codes "a") (attribute (codes "id") (codes "1") ∷ attribute (codes "class") (codes "2") ∷ []) ∷ end (codes "a") ∷ end (codes "em") ∷ [])
-    ∷ (end (codes "b") ∷ StartTag (codes "input") (attribute (codes "id") (codes "1") ∷ attribute (codes "class") (codes "2") ∷ []) ∷ start (codes "b") ∷ StartTag (codes "b") (attribute (codes "class") (codes "1") ∷ []) ∷ end (codes "b") ∷ Text (codes " x") ∷ Text (codes "x") ∷ StartTag (codes "b") (attribute (codes "id") (codes "1") ∷ attribute (codes "class") (codes "2") ∷ []) ∷ StartTag (codes "b") (attribute (codes "class") (codes "1") ∷ []) ∷ Text [] ∷ Text (codes "x") ∷ end (codes "b") ∷ start (codes "tfoot") ∷ StartTag (codes "tr") (attribute (codes "class") (codes "1") ∷ []) ∷ StartTag (codes "td") (attribute (codes "class") (codes "1") ∷ []) ∷ start (codes "tfoot") ∷ Text (codes "x") ∷ [])
-    ∷ (StartTag (codes "samp") (attribute (codes "class") (codes "2") ∷ attribute (codes "id") (codes "1") ∷ []) ∷ Text (10 ∷ []) ∷ start (codes "h1") ∷ StartTag (codes "header") (attribute (codes "class") (codes "2") ∷ attribute (codes "id") (codes "1") ∷ []) ∷ end (codes "header") ∷ StartTag (codes "samp") (attribute (codes "class") (codes "1") ∷ []) ∷ start (codes "h1") ∷ start (codes "header") ∷ end (codes "header") ∷ Text (codes "x ") ∷ end (codes "h1") ∷ StartTag (codes "header") (attribute (codes "id") (codes "1") ∷ attribute (codes "class") (codes "2") ∷ []) ∷ StartTag (codes "samp") (attribute (codes "class") (codes "2") ∷ attribute (codes "id") (codes "1") ∷ []) ∷ end (codes "samp") ∷ end (codes "header") ∷ end (codes "samp") ∷ end (codes "h1") ∷ end (codes "samp") ∷ [])
-    ∷ (start (codes "td") ∷ end (codes "colgroup") ∷ end (codes "td") ∷ StartTag (codes "td") (attribute (codes "id") (codes "1") ∷ attribute (codes "class") (codes "2") ∷ []) ∷ end (codes "td") ∷ start (codes "td") ∷ StartTag (codes "td") (attribute (codes "id") (codes "1") ∷ attribute (codes "class") (codes "2") ∷ []) ∷ StartTag (codes "td") (attribute (codes "id") (codes "1") ∷ attribute (codes "class") (codes "2") ∷ []) ∷ start (codes "tr") ∷ start (codes "td") ∷ Text (codes " ") ∷ end (codes "td") ∷ StartTag (codes "ins") (attribute (codes "class") (codes "1") ∷ []) ∷ end (codes "ins") ∷ [])
+    ∷ (StartTag (codes "input") (attribute (codes "id") (codes "1") ∷ attribute (codes "class") (codes "2") ∷ []) ∷ start (codes "b") ∷ StartTag (codes "b") (attribute (codes "class") (codes "1") ∷ []) ∷ end (codes "b") ∷ Text (codes " x") ∷ Text (codes "x") ∷ StartTag (codes "b") (attribute (codes "id") (codes "1") ∷ attribute (codes "class") (codes "2") ∷ []) ∷ StartTag (codes "b") (attribute (codes "class") (codes "1") ∷ []) ∷ Text [] ∷ Text (codes "x") ∷ end (codes "b") ∷ start (codes "listing") ∷ end (codes "listing") ∷ end (codes "b") ∷ end (codes "b") ∷ [])
+    ∷ (end (codes "header") ∷ StartTag (codes "samp") (attribute (codes "class") (codes "2") ∷ attribute (codes "id") (codes "1") ∷ []) ∷ Text (10 ∷ []) ∷ start (codes "h1") ∷ StartTag (codes "header") (attribute (codes "class") (codes "2") ∷ attribute (codes "id") (codes "1") ∷ []) ∷ end (codes "header") ∷ StartTag (codes "samp") (attribute (codes "class") (codes "1") ∷ []) ∷ start (codes "h1") ∷ start (codes "header") ∷ end (codes "header") ∷ start (codes "h1") ∷ StartTag (codes "h1") (attribute (codes "class") (codes "1") ∷ []) ∷ StartTag (codes "header") (attribute (codes "class") (codes "2") ∷ attribute (codes "id") (codes "1") ∷ []) ∷ start (codes "h1") ∷ StartTag (codes "header") (attribute (codes "id") (codes "1") ∷ attribute (codes "class") (codes "2") ∷ []) ∷ Text (codes "y") ∷ [])
+    ∷ (start (codes "i") ∷ start (codes "i") ∷ start (codes "table") ∷ Text (codes "y") ∷ end (codes "table") ∷ end (codes "u") ∷ end (codes "nobr") ∷ Text (codes "x") ∷ start (codes "nobr") ∷ start (codes "i") ∷ start (codes "table") ∷ start (codes "tr") ∷ start (codes "tr") ∷ Text (codes "y") ∷ end (codes "nobr") ∷ Text (codes "x") ∷ [])
     ∷ (start (codes "rp") ∷ end (codes "rp") ∷ end (codes "rp") ∷ Text (10 ∷ []) ∷ start (codes "ruby") ∷ end (codes "ruby") ∷ Text (10 ∷ 10 ∷ []) ∷ end (codes "ins") ∷ end (codes "ruby") ∷ end (codes "td") ∷ Text (codes " ") ∷ [])
-    ∷ (end (codes "table") ∷ start (codes "table") ∷ Text (codes "y") ∷ [])
+    ∷ (Text (codes "x ") ∷ Text (10 ∷ []) ∷ StartTag (codes "listing") (attribute (codes "id") (codes "1") ∷ attribute (codes "class") (codes "2") ∷ []) ∷ end (codes "listing") ∷ [])
     ∷ []
 
 trees_5_answers : List Tree
 trees_5_answers =
     (Element (Characters Nothing (codes " x")) (codes "i") [] (Element (Element Nothing (codes "i") [] (Element Nothing (codes "p") (attribute (codes "class") (codes "1") ∷ []) Nothing)) (codes "i") [] (Element Nothing (codes "p") (attribute (codes "class") (codes "2") ∷ attribute (codes "id") (codes "1") ∷ []) Nothing)))
-    ∷ (Characters Nothing (10 ∷ 10 ∷ 10 ∷ 10 ∷ []))
-    ∷ (Characters Nothing (codes "x"))
-    ∷ (Element (Characters (Element (Characters (Element (Characters Nothing (10 ∷ 120 ∷ [])) (codes "table") [] Nothing) (codes " x")) (codes "table") [] (Element Nothing (codes "tfoot") [] Nothing)) (codes " ")) (codes "b") (attribute (codes "class") (codes "1") ∷ []) Nothing)
+    ∷ (Element (Element (Element (Characters Nothing (10 ∷ 10 ∷ 10 ∷ 10 ∷ [])) (codes "main") (attribute (codes "class") (codes "2") ∷ attribute (codes "id") (codes "1") ∷ []) (Characters Nothing (10 ∷ 10 ∷ []))) (codes "table") (attribute (codes "class") (codes "1") ∷ []) Nothing) (codes "tt") [] (Element Nothing (codes "table") [] (Element (Characters Nothing (10 ∷ 10 ∷ [])) (codes "colgroup") [] Nothing)))
+    ∷ (Element (Characters Nothing (codes "xx ")) (codes "sup") (attribute (codes "id") (codes "1") ∷ attribute (codes "class") (codes "2") ∷ []) Nothing)
+    ∷ (Element Nothing (codes "nobr") [] (Element Nothing (codes "table") [] (Element Nothing (codes "tbody") [] (Element Nothing (codes "tr") [] (Element Nothing (codes "td") [] (Characters Nothing (codes "yy")))))))
     ∷ (Element (Characters Nothing (codes " x")) (codes "em") [] (Element Nothing (codes "a") (attribute (codes "id") (codes "1") ∷ attribute (codes "class") (codes "2") ∷ []) Nothing))
-    ∷ (Element (Element Nothing (codes "input") (attribute (codes "id") (codes "1") ∷ attribute (codes "class") (codes "2") ∷ []) Nothing) (codes "b") [] (Element (Characters (Element Nothing (codes "b") (attribute (codes "class") (codes "1") ∷ []) Nothing) (codes " xx")) (codes "b") (attribute (codes "id") (codes "1") ∷ attribute (codes "class") (codes "2") ∷ []) (Characters (Element Nothing (codes "b") (attribute (codes "class") (codes "1") ∷ []) (Characters Nothing (codes "x"))) (codes "x"))))
-    ∷ (Element Nothing (codes "samp") (attribute (codes "class") (codes "2") ∷ attribute (codes "id") (codes "1") ∷ []) (Element (Characters Nothing (10 ∷ [])) (codes "h1") [] (Element (Element Nothing (codes "header") (attribute (codes "class") (codes "2") ∷ attribute (codes "id") (codes "1") ∷ []) Nothing) (codes "samp") (attribute (codes "class") (codes "1") ∷ []) (Element (Element Nothing (codes "h1") [] (Characters (Element Nothing (codes "header") [] Nothing) (codes "x "))) (codes "header") (attribute (codes "id") (codes "1") ∷ attribute (codes "class") (codes "2") ∷ []) (Element Nothing (codes "samp") (attribute (codes "class") (codes "2") ∷ attribute (codes "id") (codes "1") ∷ []) Nothing)))))
-    ∷ (Element (Characters Nothing (codes " ")) (codes "ins") (attribute (codes "class") (codes "1") ∷ []) Nothing)
+    ∷ (Element (Element Nothing (codes "input") (attribute (codes "id") (codes "1") ∷ attribute (codes "class") (codes "2") ∷ []) Nothing) (codes "b") [] (Element (Characters (Element Nothing (codes "b") (attribute (codes "class") (codes "1") ∷ []) Nothing) (codes " xx")) (codes "b") (attribute (codes "id") (codes "1") ∷ attribute (codes "class") (codes "2") ∷ []) (Element (Element Nothing (codes "b") (attribute (codes "class") (codes "1") ∷ []) (Characters Nothing (codes "x"))) (codes "listing") [] Nothing)))
+    ∷ (Element Nothing (codes "samp") (attribute (codes "class") (codes "2") ∷ attribute (codes "id") (codes "1") ∷ []) (Element (Characters Nothing (10 ∷ [])) (codes "h1") [] (Element (Element Nothing (codes "header") (attribute (codes "class") (codes "2") ∷ attribute (codes "id") (codes "1") ∷ []) Nothing) (codes "samp") (attribute (codes "class") (codes "1") ∷ []) (Element (Element (Element Nothing (codes "h1") [] (Element Nothing (codes "header") [] Nothing)) (codes "h1") [] Nothing) (codes "h1") (attribute (codes "class") (codes "1") ∷ []) (Element Nothing (codes "header") (attribute (codes "class") (codes "2") ∷ attribute (codes "id") (codes "1") ∷ []) (Element Nothing (codes "h1") [] (Element Nothing (codes "header") (attribute (codes "id") (codes "1") ∷ attribute (codes "class") (codes "2") ∷ []) (Characters Nothing (codes "y")))))))))
+    ∷ (Element Nothing (codes "i") [] (Element Nothing (codes "i") [] (Element (Characters (Element (Characters Nothing (codes "y")) (codes "table") [] Nothing) (codes "x")) (codes "nobr") [] (Element Nothing (codes "i") [] (Element (Characters Nothing (codes "yx")) (codes "table") [] (Element Nothing (codes "tbody") [] (Element (Element Nothing (codes "tr") [] Nothing) (codes "tr") [] Nothing)))))))
     ∷ (Characters (Element (Characters (Element Nothing (codes "rp") [] Nothing) (10 ∷ [])) (codes "ruby") [] Nothing) (10 ∷ 10 ∷ 32 ∷ []))
-    ∷ (Element (Characters Nothing (codes "y")) (codes "table") [] Nothing)
+    ∷ (Element (Characters Nothing (120 ∷ 32 ∷ 10 ∷ [])) (codes "listing") (attribute (codes "id") (codes "1") ∷ attribute (codes "class") (codes "2") ∷ []) Nothing)
     ∷ []
 
 trees_5 : map tree_of trees_5_items ≡ trees_5_answers
@@ -221,30 +213,30 @@ trees_5 = refl
 
 trees_6_items : List (List Item)
 trees_6_items =
-    (start (codes "summary") ∷ end (codes "summary") ∷ StartTag (codes "details") (attribute (codes "class") (codes "2") ∷ attribute (codes "id") (codes "1") ∷ []) ∷ end (codes "details") ∷ [])
-    ∷ (StartTag (codes "td") (attribute (codes "class") (codes "1") ∷ []) ∷ Text (codes "y") ∷ Text (codes "x ") ∷ Text (codes "y") ∷ [])
+    (end (codes "details") ∷ StartTag (codes "td") (attribute (codes "id") (codes "1") ∷ attribute (codes "class") (codes "2") ∷ []) ∷ Text (codes "x y") ∷ Text (codes "x ") ∷ end (codes "td") ∷ end (codes "details") ∷ Text (10 ∷ 120 ∷ []) ∷ end (codes "summary") ∷ start (codes "details") ∷ end (codes "details") ∷ end (codes "th") ∷ start (codes "summary") ∷ Text (codes " ") ∷ [])
+    ∷ (start (codes "nobr") ∷ start (codes "nobr") ∷ start (codes "nobr") ∷ start (codes "div") ∷ start (codes "li") ∷ Text (codes "x") ∷ end (codes "div") ∷ Text (codes "x") ∷ start (codes "nobr") ∷ start (codes "div") ∷ start (codes "div") ∷ start (codes "div") ∷ Text (codes "x") ∷ end (codes "li") ∷ Text (codes "x") ∷ [])
     ∷ (end (codes "u") ∷ end (codes "ol") ∷ Text (codes "y") ∷ start (codes "u") ∷ StartTag (codes "dt") (attribute (codes "class") (codes "2") ∷ attribute (codes "id") (codes "1") ∷ []) ∷ Text (codes "x") ∷ start (codes "dt") ∷ end (codes "dt") ∷ start (codes "u") ∷ Text (10 ∷ []) ∷ StartTag (codes "u") (attribute (codes "class") (codes "1") ∷ []) ∷ StartTag (codes "dt") (attribute (codes "class") (codes "1") ∷ []) ∷ end (codes "dt") ∷ end (codes "u") ∷ Text (codes "x") ∷ Text (codes " ") ∷ [])
-    ∷ (Text (codes " ") ∷ end (codes "table") ∷ end (codes "ol") ∷ StartTag (codes "table") (attribute (codes "class") (codes "2") ∷ attribute (codes "id") (codes "1") ∷ []) ∷ end (codes "table") ∷ Text [] ∷ start (codes "ol") ∷ Text (10 ∷ []) ∷ start (codes "tr") ∷ start (codes "td") ∷ Text (codes " x") ∷ start (codes "rp") ∷ end (codes "ol") ∷ start (codes "table") ∷ end (codes "ol") ∷ [])
-    ∷ (start (codes "dl") ∷ start (codes "h5") ∷ Text [] ∷ Text (codes "x y") ∷ Text (codes "x ") ∷ Text (10 ∷ []) ∷ end (codes "h5") ∷ start (codes "dl") ∷ end (codes "dl") ∷ end (codes "dl") ∷ [])
-    ∷ (start (codes "table") ∷ end (codes "table") ∷ end (codes "dd") ∷ Text (10 ∷ 120 ∷ []) ∷ end (codes "div") ∷ StartTag (codes "dd") (attribute (codes "id") (codes "1") ∷ attribute (codes "class") (codes "2") ∷ []) ∷ start (codes "table") ∷ Text (codes "x") ∷ end (codes "table") ∷ start (codes "bdo") ∷ [])
+    ∷ (Text (codes "x") ∷ StartTag (codes "h2") (attribute (codes "id") (codes "1") ∷ attribute (codes "class") (codes "2") ∷ []) ∷ start (codes "table") ∷ end (codes "table") ∷ end (codes "h2") ∷ [])
+    ∷ (start (codes "tr") ∷ Text (10 ∷ 120 ∷ []) ∷ start (codes "td") ∷ StartTag (codes "h5") (attribute (codes "class") (codes "1") ∷ []) ∷ end (codes "h5") ∷ [])
+    ∷ (start (codes "u") ∷ start (codes "p") ∷ Text (codes "y") ∷ end (codes "i") ∷ end (codes "u") ∷ end (codes "i") ∷ Text (codes "x") ∷ start (codes "i") ∷ start (codes "u") ∷ start (codes "p") ∷ Text (codes "x") ∷ end (codes "i") ∷ end (codes "p") ∷ Text (codes "x") ∷ start (codes "i") ∷ start (codes "i") ∷ start (codes "i") ∷ start (codes "div") ∷ start (codes "p") ∷ start (codes "p") ∷ start (codes "p") ∷ start (codes "p") ∷ start (codes "div") ∷ start (codes "div") ∷ start (codes "p") ∷ start (codes "p") ∷ Text (codes "y") ∷ end (codes "i") ∷ Text (codes "x") ∷ start (codes "u") ∷ start (codes "u") ∷ start (codes "u") ∷ start (codes "div") ∷ start (codes "p") ∷ Text (codes "y") ∷ end (codes "p") ∷ end (codes "div") ∷ Text (codes "x") ∷ [])
     ∷ (start (codes "p") ∷ end (codes "p") ∷ StartTag (codes "table") (attribute (codes "id") (codes "1") ∷ attribute (codes "class") (codes "2") ∷ []) ∷ Text (codes "x y") ∷ end (codes "table") ∷ start (codes "tr") ∷ StartTag (codes "tr") (attribute (codes "class") (codes "1") ∷ []) ∷ [])
-    ∷ (end (codes "nobr") ∷ start (codes "b") ∷ StartTag (codes "b") (attribute (codes "class") (codes "1") ∷ []) ∷ Text (10 ∷ 120 ∷ []) ∷ end (codes "b") ∷ [])
-    ∷ (start (codes "br") ∷ start (codes "u") ∷ start (codes "u") ∷ Text [] ∷ StartTag (codes "img") (attribute (codes "id") (codes "1") ∷ attribute (codes "class") (codes "2") ∷ []) ∷ start (codes "dd") ∷ Text (codes "x ") ∷ StartTag (codes "listing") (attribute (codes "class") (codes "2") ∷ attribute (codes "id") (codes "1") ∷ []) ∷ start (codes "listing") ∷ Text (codes "x") ∷ Text (codes " ") ∷ Text (codes "x y") ∷ start (codes "u") ∷ Text (10 ∷ []) ∷ start (codes "u") ∷ end (codes "u") ∷ start (codes "dd") ∷ end (codes "dd") ∷ end (codes "u") ∷ end (codes "listing") ∷ end (codes "listing") ∷ end (codes "dd") ∷ end (codes "u") ∷ end (codes "u") ∷ [])
-    ∷ (Text (10 ∷ 120 ∷ []) ∷ end (codes "br") ∷ StartTag (codes "table") (attribute (codes "class") (codes "1") ∷ []) ∷ start (codes "thead") ∷ start (codes "tr") ∷ Text (10 ∷ 10 ∷ []) ∷ end (codes "tr") ∷ StartTag (codes "tr") (attribute (codes "class") (codes "2") ∷ attribute (codes "id") (codes "1") ∷ []) ∷ StartTag (codes "td") (attribute (codes "class") (codes "1") ∷ []) ∷ [])
+    ∷ (StartTag (codes "b") (attribute (codes "class") (codes "1") ∷ []) ∷ Text (10 ∷ 120 ∷ []) ∷ end (codes "b") ∷ StartTag (codes "p") (attribute (codes "id") (codes "1") ∷ attribute (codes "class") (codes "2") ∷ []) ∷ end (codes "p") ∷ [])
+    ∷ (Text [] ∷ end (codes "listing") ∷ StartTag (codes "dd") (attribute (codes "class") (codes "1") ∷ []) ∷ end (codes "dd") ∷ start (codes "u") ∷ StartTag (codes "listing") (attribute (codes "class") (codes "2") ∷ attribute (codes "id") (codes "1") ∷ []) ∷ Text [] ∷ start (codes "dd") ∷ Text (codes "x ") ∷ StartTag (codes "listing") (attribute (codes "class") (codes "2") ∷ attribute (codes "id") (codes "1") ∷ []) ∷ start (codes "listing") ∷ start (codes "td") ∷ end (codes "td") ∷ Text (codes "x ") ∷ end (codes "listing") ∷ end (codes "listing") ∷ [])
+    ∷ (start (codes "a") ∷ start (codes "u") ∷ start (codes "b") ∷ start (codes "b") ∷ Text (codes "x") ∷ end (codes "a") ∷ Text (codes "x") ∷ start (codes "a") ∷ start (codes "u") ∷ start (codes "a") ∷ start (codes "b") ∷ Text (codes "y") ∷ end (codes "a") ∷ end (codes "div") ∷ Text (codes "x") ∷ [])
     ∷ []
 
 trees_6_answers : List Tree
 trees_6_answers =
-    (Element (Element Nothing (codes "summary") [] Nothing) (codes "details") (attribute (codes "class") (codes "2") ∷ attribute (codes "id") (codes "1") ∷ []) Nothing)
-    ∷ (Characters Nothing (codes "yx y"))
+    (Element (Element (Characters Nothing (120 ∷ 32 ∷ 121 ∷ 120 ∷ 32 ∷ 10 ∷ 120 ∷ [])) (codes "details") [] Nothing) (codes "summary") [] (Characters Nothing (codes " ")))
+    ∷ (Element (Element (Element (Element Nothing (codes "nobr") [] Nothing) (codes "nobr") [] Nothing) (codes "nobr") [] (Characters (Element Nothing (codes "div") [] (Element Nothing (codes "li") [] (Characters Nothing (codes "x")))) (codes "x"))) (codes "nobr") [] (Element Nothing (codes "div") [] (Element Nothing (codes "div") [] (Element Nothing (codes "div") [] (Characters Nothing (codes "xx"))))))
     ∷ (Element (Characters Nothing (codes "y")) (codes "u") [] (Element (Element (Element Nothing (codes "dt") (attribute (codes "class") (codes "2") ∷ attribute (codes "id") (codes "1") ∷ []) (Characters Nothing (codes "x"))) (codes "dt") [] Nothing) (codes "u") [] (Characters (Element (Characters Nothing (10 ∷ [])) (codes "u") (attribute (codes "class") (codes "1") ∷ []) (Element Nothing (codes "dt") (attribute (codes "class") (codes "1") ∷ []) Nothing)) (codes "x "))))
-    ∷ (Element (Element (Element (Characters Nothing (codes " ")) (codes "table") (attribute (codes "class") (codes "2") ∷ attribute (codes "id") (codes "1") ∷ []) Nothing) (codes "ol") [] (Element (Characters Nothing (10 ∷ 32 ∷ 120 ∷ [])) (codes "rp") [] Nothing)) (codes "table") [] Nothing)
-    ∷ (Element Nothing (codes "dl") [] (Element (Element Nothing (codes "h5") [] (Characters Nothing (120 ∷ 32 ∷ 121 ∷ 120 ∷ 32 ∷ 10 ∷ []))) (codes "dl") [] Nothing))
-    ∷ (Element (Characters (Element Nothing (codes "table") [] Nothing) (10 ∷ 120 ∷ [])) (codes "dd") (attribute (codes "id") (codes "1") ∷ attribute (codes "class") (codes "2") ∷ []) (Element (Element (Characters Nothing (codes "x")) (codes "table") [] Nothing) (codes "bdo") [] Nothing))
+    ∷ (Element (Characters Nothing (codes "x")) (codes "h2") (attribute (codes "id") (codes "1") ∷ attribute (codes "class") (codes "2") ∷ []) (Element Nothing (codes "table") [] Nothing))
+    ∷ (Element (Characters Nothing (10 ∷ 120 ∷ [])) (codes "h5") (attribute (codes "class") (codes "1") ∷ []) Nothing)
+    ∷ (Element (Element (Element (Element Nothing (codes "u") [] Nothing) (codes "p") [] (Element (Characters (Element Nothing (codes "u") [] (Characters Nothing (codes "y"))) (codes "x")) (codes "i") [] (Element Nothing (codes "u") [] Nothing))) (codes "p") [] (Element Nothing (codes "i") [] (Element Nothing (codes "u") [] (Characters Nothing (codes "x"))))) (codes "u") [] (Element (Characters Nothing (codes "x")) (codes "i") [] (Element Nothing (codes "i") [] (Element (Element Nothing (codes "i") [] Nothing) (codes "div") [] (Element (Element Nothing (codes "i") [] (Element (Element (Element (Element Nothing (codes "p") [] Nothing) (codes "p") [] Nothing) (codes "p") [] Nothing) (codes "p") [] Nothing)) (codes "div") [] (Element (Element Nothing (codes "i") [] Nothing) (codes "div") [] (Element (Element (Element (Element Nothing (codes "i") [] (Element Nothing (codes "p") [] Nothing)) (codes "p") [] (Element (Characters (Element Nothing (codes "i") [] (Characters Nothing (codes "y"))) (codes "x")) (codes "u") [] (Element Nothing (codes "u") [] (Element Nothing (codes "u") [] Nothing)))) (codes "div") [] (Element Nothing (codes "p") [] (Element Nothing (codes "u") [] (Element Nothing (codes "u") [] (Element Nothing (codes "u") [] (Characters Nothing (codes "y"))))))) (codes "u") [] (Element Nothing (codes "u") [] (Element Nothing (codes "u") [] (Characters Nothing (codes "x")))))))))))
     ∷ (Element (Characters (Element Nothing (codes "p") [] Nothing) (codes "x y")) (codes "table") (attribute (codes "id") (codes "1") ∷ attribute (codes "class") (codes "2") ∷ []) Nothing)
-    ∷ (Element Nothing (codes "b") [] (Element Nothing (codes "b") (attribute (codes "class") (codes "1") ∷ []) (Characters Nothing (10 ∷ 120 ∷ []))))
-    ∷ (Element (Element Nothing (codes "br") [] Nothing) (codes "u") [] (Element Nothing (codes "u") [] (Element (Element Nothing (codes "img") (attribute (codes "id") (codes "1") ∷ attribute (codes "class") (codes "2") ∷ []) Nothing) (codes "dd") [] (Element (Characters Nothing (codes "x ")) (codes "listing") (attribute (codes "class") (codes "2") ∷ attribute (codes "id") (codes "1") ∷ []) (Element Nothing (codes "listing") [] (Element (Characters Nothing (codes "x x y")) (codes "u") [] (Element (Element (Characters Nothing (10 ∷ [])) (codes "u") [] Nothing) (codes "dd") [] Nothing)))))))
-    ∷ (Element (Element (Characters Nothing (10 ∷ 120 ∷ [])) (codes "br") [] Nothing) (codes "table") (attribute (codes "class") (codes "1") ∷ []) (Element Nothing (codes "thead") [] (Element (Element Nothing (codes "tr") [] (Characters Nothing (10 ∷ 10 ∷ []))) (codes "tr") (attribute (codes "class") (codes "2") ∷ attribute (codes "id") (codes "1") ∷ []) (Element Nothing (codes "td") (attribute (codes "class") (codes "1") ∷ []) Nothing))))
+    ∷ (Element (Element Nothing (codes "b") (attribute (codes "class") (codes "1") ∷ []) (Characters Nothing (10 ∷ 120 ∷ []))) (codes "p") (attribute (codes "id") (codes "1") ∷ attribute (codes "class") (codes "2") ∷ []) Nothing)
+    ∷ (Element (Element Nothing (codes "dd") (attribute (codes "class") (codes "1") ∷ []) Nothing) (codes "u") [] (Element Nothing (codes "listing") (attribute (codes "class") (codes "2") ∷ attribute (codes "id") (codes "1") ∷ []) (Element Nothing (codes "dd") [] (Element (Characters Nothing (codes "x ")) (codes "listing") (attribute (codes "class") (codes "2") ∷ attribute (codes "id") (codes "1") ∷ []) (Element Nothing (codes "listing") [] (Characters Nothing (codes "x ")))))))
+    ∷ (Element (Element Nothing (codes "a") [] (Element Nothing (codes "u") [] (Element Nothing (codes "b") [] (Element Nothing (codes "b") [] (Characters Nothing (codes "x")))))) (codes "u") [] (Element Nothing (codes "b") [] (Element Nothing (codes "b") [] (Element (Element (Characters Nothing (codes "x")) (codes "a") [] (Element Nothing (codes "u") [] Nothing)) (codes "u") [] (Element (Element Nothing (codes "a") [] (Element Nothing (codes "b") [] (Characters Nothing (codes "y")))) (codes "b") [] (Characters Nothing (codes "x")))))))
     ∷ []
 
 trees_6 : map tree_of trees_6_items ≡ trees_6_answers
@@ -254,29 +246,29 @@ trees_6 = refl
 trees_7_items : List (List Item)
 trees_7_items =
     (end (codes "pre") ∷ end (codes "em") ∷ Text (codes "x ") ∷ Text (10 ∷ 10 ∷ []) ∷ [])
-    ∷ (Text (codes " ") ∷ end (codes "blockquote") ∷ start (codes "td") ∷ StartTag (codes "s") (attribute (codes "class") (codes "2") ∷ attribute (codes "id") (codes "1") ∷ []) ∷ Text (codes "y") ∷ [])
-    ∷ (StartTag (codes "mark") (attribute (codes "class") (codes "2") ∷ attribute (codes "id") (codes "1") ∷ []) ∷ Text [] ∷ Text (codes "y") ∷ end (codes "mark") ∷ [])
-    ∷ (end (codes "pre") ∷ start (codes "colgroup") ∷ end (codes "colgroup") ∷ StartTag (codes "colgroup") (attribute (codes "class") (codes "2") ∷ attribute (codes "id") (codes "1") ∷ []) ∷ Text (10 ∷ []) ∷ start (codes "pre") ∷ StartTag (codes "pre") (attribute (codes "id") (codes "1") ∷ attribute (codes "class") (codes "2") ∷ []) ∷ end (codes "pre") ∷ Text (10 ∷ []) ∷ Text (10 ∷ 10 ∷ []) ∷ [])
+    ∷ (StartTag (codes "dl") (attribute (codes "class") (codes "2") ∷ attribute (codes "id") (codes "1") ∷ []) ∷ StartTag (codes "form") (attribute (codes "class") (codes "2") ∷ attribute (codes "id") (codes "1") ∷ []) ∷ Text (codes " ") ∷ end (codes "form") ∷ end (codes "dl") ∷ [])
+    ∷ (Text (codes " x") ∷ start (codes "dl") ∷ start (codes "h2") ∷ start (codes "h2") ∷ start (codes "table") ∷ [])
+    ∷ (start (codes "u") ∷ start (codes "div") ∷ start (codes "p") ∷ start (codes "p") ∷ start (codes "p") ∷ start (codes "div") ∷ start (codes "div") ∷ start (codes "div") ∷ start (codes "div") ∷ start (codes "p") ∷ Text (codes "x") ∷ end (codes "b") ∷ end (codes "p") ∷ Text (codes "x") ∷ start (codes "u") ∷ start (codes "u") ∷ start (codes "p") ∷ start (codes "p") ∷ Text (codes "x") ∷ end (codes "u") ∷ Text (codes "y") ∷ [])
     ∷ (end (codes "h2") ∷ end (codes "rp") ∷ Text [] ∷ end (codes "h2") ∷ start (codes "table") ∷ StartTag (codes "rp") (attribute (codes "id") (codes "1") ∷ attribute (codes "class") (codes "2") ∷ []) ∷ StartTag (codes "table") (attribute (codes "class") (codes "1") ∷ []) ∷ start (codes "rp") ∷ Text (codes " x") ∷ end (codes "table") ∷ Text (10 ∷ 10 ∷ []) ∷ Text [] ∷ Text (codes "x") ∷ start (codes "table") ∷ end (codes "rp") ∷ [])
-    ∷ (Text (10 ∷ 120 ∷ []) ∷ start (codes "data") ∷ Text (codes " x") ∷ start (codes "table") ∷ Text [] ∷ StartTag (codes "table") (attribute (codes "id") (codes "1") ∷ attribute (codes "class") (codes "2") ∷ []) ∷ Text (codes "x y") ∷ Text (codes "x y") ∷ StartTag (codes "table") (attribute (codes "class") (codes "2") ∷ attribute (codes "id") (codes "1") ∷ []) ∷ start (codes "colgroup") ∷ Text (codes "x ") ∷ [])
-    ∷ (StartTag (codes "nav") (attribute (codes "class") (codes "2") ∷ attribute (codes "id") (codes "1") ∷ []) ∷ Text (10 ∷ 120 ∷ []) ∷ end (codes "nav") ∷ Text (codes " ") ∷ Text (10 ∷ 10 ∷ []) ∷ start (codes "data") ∷ end (codes "data") ∷ [])
-    ∷ (end (codes "table") ∷ Text (codes "y") ∷ end (codes "a") ∷ StartTag (codes "table") (attribute (codes "class") (codes "1") ∷ []) ∷ Text (10 ∷ 10 ∷ []) ∷ Text (codes "x ") ∷ Text (codes "y") ∷ start (codes "caption") ∷ StartTag (codes "a") (attribute (codes "class") (codes "2") ∷ attribute (codes "id") (codes "1") ∷ []) ∷ end (codes "caption") ∷ start (codes "a") ∷ start (codes "td") ∷ [])
+    ∷ (Text (10 ∷ 120 ∷ []) ∷ start (codes "data") ∷ Text (codes " x") ∷ start (codes "table") ∷ Text [] ∷ end (codes "table") ∷ end (codes "data") ∷ [])
+    ∷ (end (codes "pre") ∷ end (codes "listing") ∷ StartTag (codes "table") (attribute (codes "id") (codes "1") ∷ attribute (codes "class") (codes "2") ∷ []) ∷ start (codes "tfoot") ∷ StartTag (codes "tr") (attribute (codes "class") (codes "2") ∷ attribute (codes "id") (codes "1") ∷ []) ∷ start (codes "table") ∷ Text (10 ∷ 120 ∷ []) ∷ StartTag (codes "colgroup") (attribute (codes "id") (codes "1") ∷ attribute (codes "class") (codes "2") ∷ []) ∷ start (codes "hr") ∷ end (codes "colgroup") ∷ Text (10 ∷ 10 ∷ []) ∷ Text (10 ∷ []) ∷ end (codes "tr") ∷ [])
+    ∷ (start (codes "a") ∷ start (codes "b") ∷ start (codes "a") ∷ start (codes "div") ∷ Text (codes "x") ∷ end (codes "i") ∷ end (codes "b") ∷ Text (codes "y") ∷ start (codes "i") ∷ start (codes "a") ∷ start (codes "i") ∷ start (codes "div") ∷ start (codes "div") ∷ Text (codes "y") ∷ end (codes "i") ∷ end (codes "b") ∷ end (codes "div") ∷ Text (codes "y") ∷ [])
     ∷ (StartTag (codes "br") (attribute (codes "class") (codes "2") ∷ attribute (codes "id") (codes "1") ∷ []) ∷ start (codes "bdi") ∷ Text (codes "y") ∷ start (codes "picture") ∷ [])
-    ∷ (Text (codes "x ") ∷ Text (codes " x") ∷ start (codes "table") ∷ Text (codes "x") ∷ end (codes "table") ∷ end (codes "table") ∷ Text (codes "y") ∷ start (codes "h6") ∷ start (codes "h6") ∷ [])
+    ∷ (start (codes "mark") ∷ Text (codes " x") ∷ start (codes "table") ∷ start (codes "caption") ∷ StartTag (codes "h6") (attribute (codes "class") (codes "1") ∷ []) ∷ Text (codes " x") ∷ end (codes "h6") ∷ end (codes "caption") ∷ end (codes "table") ∷ end (codes "mark") ∷ [])
     ∷ []
 
 trees_7_answers : List Tree
 trees_7_answers =
     (Characters Nothing (120 ∷ 32 ∷ 10 ∷ 10 ∷ []))
-    ∷ (Element (Characters Nothing (codes " ")) (codes "s") (attribute (codes "class") (codes "2") ∷ attribute (codes "id") (codes "1") ∷ []) (Characters Nothing (codes "y")))
-    ∷ (Element Nothing (codes "mark") (attribute (codes "class") (codes "2") ∷ attribute (codes "id") (codes "1") ∷ []) (Characters Nothing (codes "y")))
-    ∷ (Element (Characters Nothing (10 ∷ [])) (codes "pre") [] (Characters (Element Nothing (codes "pre") (attribute (codes "id") (codes "1") ∷ attribute (codes "class") (codes "2") ∷ []) Nothing) (10 ∷ 10 ∷ 10 ∷ [])))
+    ∷ (Element Nothing (codes "dl") (attribute (codes "class") (codes "2") ∷ attribute (codes "id") (codes "1") ∷ []) (Element Nothing (codes "form") (attribute (codes "class") (codes "2") ∷ attribute (codes "id") (codes "1") ∷ []) (Characters Nothing (codes " "))))
+    ∷ (Element (Characters Nothing (codes " x")) (codes "dl") [] (Element (Element Nothing (codes "h2") [] Nothing) (codes "h2") [] (Element Nothing (codes "table") [] Nothing)))
+    ∷ (Element Nothing (codes "u") [] (Element Nothing (codes "div") [] (Element (Element (Element (Element Nothing (codes "p") [] Nothing) (codes "p") [] Nothing) (codes "p") [] Nothing) (codes "div") [] (Element Nothing (codes "div") [] (Element Nothing (codes "div") [] (Element Nothing (codes "div") [] (Element (Characters (Element Nothing (codes "p") [] (Characters Nothing (codes "x"))) (codes "x")) (codes "u") [] (Element (Element Nothing (codes "u") [] (Element Nothing (codes "p") [] Nothing)) (codes "p") [] (Characters (Element Nothing (codes "u") [] (Characters Nothing (codes "x"))) (codes "y"))))))))))
     ∷ (Element (Characters (Element (Element (Element (Element Nothing (codes "rp") (attribute (codes "id") (codes "1") ∷ attribute (codes "class") (codes "2") ∷ []) Nothing) (codes "table") [] Nothing) (codes "rp") [] (Characters Nothing (codes " x"))) (codes "table") (attribute (codes "class") (codes "1") ∷ []) Nothing) (10 ∷ 10 ∷ 120 ∷ [])) (codes "table") [] Nothing)
-    ∷ (Element (Characters Nothing (10 ∷ 120 ∷ [])) (codes "data") [] (Element (Characters (Element (Characters (Element (Characters Nothing (codes " x")) (codes "table") [] Nothing) (codes "x yx y")) (codes "table") (attribute (codes "id") (codes "1") ∷ attribute (codes "class") (codes "2") ∷ []) Nothing) (codes "x ")) (codes "table") (attribute (codes "class") (codes "2") ∷ attribute (codes "id") (codes "1") ∷ []) (Element Nothing (codes "colgroup") [] Nothing)))
-    ∷ (Element (Characters (Element Nothing (codes "nav") (attribute (codes "class") (codes "2") ∷ attribute (codes "id") (codes "1") ∷ []) (Characters Nothing (10 ∷ 120 ∷ []))) (32 ∷ 10 ∷ 10 ∷ [])) (codes "data") [] Nothing)
-    ∷ (Element (Element (Characters Nothing (121 ∷ 10 ∷ 10 ∷ 120 ∷ 32 ∷ 121 ∷ [])) (codes "a") [] Nothing) (codes "table") (attribute (codes "class") (codes "1") ∷ []) (Element (Element Nothing (codes "caption") [] (Element Nothing (codes "a") (attribute (codes "class") (codes "2") ∷ attribute (codes "id") (codes "1") ∷ []) Nothing)) (codes "tbody") [] (Element Nothing (codes "tr") [] (Element Nothing (codes "td") [] Nothing))))
+    ∷ (Element (Characters Nothing (10 ∷ 120 ∷ [])) (codes "data") [] (Element (Characters Nothing (codes " x")) (codes "table") [] Nothing))
+    ∷ (Element (Element (Characters (Element Nothing (codes "table") (attribute (codes "id") (codes "1") ∷ attribute (codes "class") (codes "2") ∷ []) (Element Nothing (codes "tfoot") [] (Element Nothing (codes "tr") (attribute (codes "class") (codes "2") ∷ attribute (codes "id") (codes "1") ∷ []) Nothing))) (10 ∷ 120 ∷ [])) (codes "hr") [] Nothing) (codes "table") [] (Characters (Element Nothing (codes "colgroup") (attribute (codes "id") (codes "1") ∷ attribute (codes "class") (codes "2") ∷ []) Nothing) (10 ∷ 10 ∷ 10 ∷ [])))
+    ∷ (Element (Element (Element (Element Nothing (codes "a") [] (Element Nothing (codes "b") [] Nothing)) (codes "b") [] (Element Nothing (codes "a") [] Nothing)) (codes "a") [] Nothing) (codes "div") [] (Element (Element Nothing (codes "a") [] (Element (Characters (Element Nothing (codes "b") [] (Characters Nothing (codes "x"))) (codes "y")) (codes "i") [] Nothing)) (codes "i") [] (Element Nothing (codes "a") [] (Element (Element Nothing (codes "i") [] Nothing) (codes "div") [] (Characters (Element (Element Nothing (codes "i") [] Nothing) (codes "div") [] (Element Nothing (codes "i") [] (Characters Nothing (codes "y")))) (codes "y"))))))
     ∷ (Element (Element Nothing (codes "br") (attribute (codes "class") (codes "2") ∷ attribute (codes "id") (codes "1") ∷ []) Nothing) (codes "bdi") [] (Element (Characters Nothing (codes "y")) (codes "picture") [] Nothing))
-    ∷ (Element (Element (Characters (Element (Characters Nothing (codes "x  xx")) (codes "table") [] Nothing) (codes "y")) (codes "h6") [] Nothing) (codes "h6") [] Nothing)
+    ∷ (Element Nothing (codes "mark") [] (Element (Characters Nothing (codes " x")) (codes "table") [] (Element Nothing (codes "caption") [] (Element Nothing (codes "h6") (attribute (codes "class") (codes "1") ∷ []) (Characters Nothing (codes " x"))))))
     ∷ []
 
 trees_7 : map tree_of trees_7_items ≡ trees_7_answers
@@ -285,30 +277,30 @@ trees_7 = refl
 
 trees_8_items : List (List Item)
 trees_8_items =
-    (Text [] ∷ StartTag (codes "picture") (attribute (codes "class") (codes "1") ∷ []) ∷ start (codes "table") ∷ start (codes "colgroup") ∷ end (codes "colgroup") ∷ end (codes "table") ∷ StartTag (codes "picture") (attribute (codes "id") (codes "1") ∷ attribute (codes "class") (codes "2") ∷ []) ∷ start (codes "big") ∷ start (codes "picture") ∷ Text (codes " x") ∷ end (codes "picture") ∷ end (codes "big") ∷ end (codes "picture") ∷ end (codes "picture") ∷ [])
-    ∷ (StartTag (codes "dd") (attribute (codes "id") (codes "1") ∷ attribute (codes "class") (codes "2") ∷ []) ∷ Text (codes "x y") ∷ Text (codes "y") ∷ Text (10 ∷ 120 ∷ []) ∷ start (codes "rb") ∷ Text (codes " x") ∷ StartTag (codes "table") (attribute (codes "class") (codes "2") ∷ attribute (codes "id") (codes "1") ∷ []) ∷ start (codes "tr") ∷ start (codes "td") ∷ StartTag (codes "a") (attribute (codes "class") (codes "2") ∷ attribute (codes "id") (codes "1") ∷ []) ∷ [])
+    (StartTag (codes "hr") (attribute (codes "id") (codes "1") ∷ attribute (codes "class") (codes "2") ∷ []) ∷ end (codes "picture") ∷ start (codes "table") ∷ start (codes "colgroup") ∷ start (codes "hr") ∷ end (codes "table") ∷ start (codes "picture") ∷ StartTag (codes "hr") (attribute (codes "id") (codes "1") ∷ attribute (codes "class") (codes "2") ∷ []) ∷ Text (codes " ") ∷ Text (10 ∷ 10 ∷ []) ∷ end (codes "colgroup") ∷ [])
+    ∷ (start (codes "a") ∷ start (codes "a") ∷ start (codes "div") ∷ Text (codes "y") ∷ end (codes "a") ∷ end (codes "a") ∷ end (codes "div") ∷ Text (codes "y") ∷ start (codes "i") ∷ start (codes "a") ∷ start (codes "div") ∷ start (codes "div") ∷ start (codes "div") ∷ start (codes "div") ∷ start (codes "div") ∷ start (codes "div") ∷ start (codes "div") ∷ start (codes "div") ∷ start (codes "div") ∷ Text (codes "y") ∷ end (codes "i") ∷ end (codes "a") ∷ end (codes "div") ∷ Text (codes "y") ∷ [])
     ∷ (end (codes "td") ∷ Text (codes "x ") ∷ start (codes "col") ∷ end (codes "tr") ∷ end (codes "col") ∷ Text (10 ∷ 10 ∷ []) ∷ [])
-    ∷ (Text (codes "x") ∷ StartTag (codes "rt") (attribute (codes "class") (codes "2") ∷ attribute (codes "id") (codes "1") ∷ []) ∷ end (codes "rt") ∷ Text (codes " x") ∷ start (codes "u") ∷ StartTag (codes "listing") (attribute (codes "class") (codes "2") ∷ attribute (codes "id") (codes "1") ∷ []) ∷ end (codes "u") ∷ Text (10 ∷ 120 ∷ []) ∷ StartTag (codes "u") (attribute (codes "class") (codes "1") ∷ []) ∷ StartTag (codes "u") (attribute (codes "class") (codes "1") ∷ []) ∷ Text [] ∷ start (codes "area") ∷ StartTag (codes "u") (attribute (codes "id") (codes "1") ∷ attribute (codes "class") (codes "2") ∷ []) ∷ StartTag (codes "dl") (attribute (codes "class") (codes "2") ∷ attribute (codes "id") (codes "1") ∷ []) ∷ start (codes "listing") ∷ start (codes "u") ∷ [])
-    ∷ (Text (codes "y") ∷ StartTag (codes "h2") (attribute (codes "id") (codes "1") ∷ attribute (codes "class") (codes "2") ∷ []) ∷ end (codes "h2") ∷ [])
-    ∷ (start (codes "rt") ∷ end (codes "strong") ∷ end (codes "rt") ∷ StartTag (codes "listing") (attribute (codes "class") (codes "2") ∷ attribute (codes "id") (codes "1") ∷ []) ∷ end (codes "listing") ∷ end (codes "strong") ∷ start (codes "rt") ∷ [])
+    ∷ (Text (10 ∷ []) ∷ StartTag (codes "rt") (attribute (codes "class") (codes "2") ∷ attribute (codes "id") (codes "1") ∷ []) ∷ end (codes "rt") ∷ Text (codes " x") ∷ start (codes "u") ∷ StartTag (codes "listing") (attribute (codes "class") (codes "2") ∷ attribute (codes "id") (codes "1") ∷ []) ∷ end (codes "listing") ∷ Text (codes "x y") ∷ StartTag (codes "u") (attribute (codes "class") (codes "1") ∷ []) ∷ end (codes "u") ∷ end (codes "u") ∷ [])
+    ∷ (Text (codes "y") ∷ end (codes "ruby") ∷ end (codes "pre") ∷ StartTag (codes "th") (attribute (codes "class") (codes "1") ∷ []) ∷ end (codes "input") ∷ end (codes "th") ∷ end (codes "summary") ∷ Text (10 ∷ 10 ∷ []) ∷ [])
+    ∷ (start (codes "b") ∷ start (codes "b") ∷ start (codes "u") ∷ start (codes "td") ∷ start (codes "td") ∷ Text (codes "y") ∷ end (codes "b") ∷ end (codes "tr") ∷ end (codes "td") ∷ Text (codes "y") ∷ start (codes "u") ∷ start (codes "u") ∷ start (codes "table") ∷ Text (codes "x") ∷ end (codes "b") ∷ end (codes "b") ∷ Text (codes "y") ∷ start (codes "b") ∷ start (codes "u") ∷ start (codes "tr") ∷ start (codes "table") ∷ start (codes "tr") ∷ start (codes "tr") ∷ start (codes "tr") ∷ start (codes "td") ∷ start (codes "tr") ∷ start (codes "tr") ∷ start (codes "td") ∷ Text (codes "y") ∷ end (codes "b") ∷ Text (codes "x") ∷ start (codes "u") ∷ start (codes "u") ∷ start (codes "b") ∷ start (codes "table") ∷ start (codes "table") ∷ start (codes "tr") ∷ start (codes "tr") ∷ start (codes "table") ∷ start (codes "td") ∷ start (codes "tr") ∷ start (codes "table") ∷ start (codes "td") ∷ Text (codes "x") ∷ end (codes "table") ∷ end (codes "u") ∷ end (codes "b") ∷ Text (codes "y") ∷ start (codes "b") ∷ start (codes "u") ∷ start (codes "b") ∷ start (codes "tr") ∷ start (codes "td") ∷ start (codes "tr") ∷ Text (codes "y") ∷ end (codes "b") ∷ end (codes "td") ∷ Text (codes "x") ∷ [])
     ∷ (Text (codes "x y") ∷ Text [] ∷ end (codes "br") ∷ end (codes "h1") ∷ end (codes "table") ∷ end (codes "h1") ∷ end (codes "tr") ∷ [])
-    ∷ (StartTag (codes "small") (attribute (codes "class") (codes "2") ∷ attribute (codes "id") (codes "1") ∷ []) ∷ StartTag (codes "li") (attribute (codes "class") (codes "2") ∷ attribute (codes "id") (codes "1") ∷ []) ∷ end (codes "li") ∷ StartTag (codes "ul") (attribute (codes "class") (codes "2") ∷ attribute (codes "id") (codes "1") ∷ []) ∷ start (codes "h2") ∷ [])
-    ∷ (Text (10 ∷ 10 ∷ []) ∷ start (codes "li") ∷ start (codes "img") ∷ start (codes "img") ∷ end (codes "li") ∷ [])
-    ∷ (end (codes "p") ∷ StartTag (codes "colgroup") (attribute (codes "id") (codes "1") ∷ attribute (codes "class") (codes "2") ∷ []) ∷ Text (codes "x") ∷ end (codes "colgroup") ∷ start (codes "p") ∷ Text (codes " ") ∷ Text (10 ∷ []) ∷ end (codes "p") ∷ Text (10 ∷ 120 ∷ []) ∷ StartTag (codes "ol") (attribute (codes "id") (codes "1") ∷ attribute (codes "class") (codes "2") ∷ []) ∷ end (codes "ol") ∷ [])
+    ∷ (start (codes "h2") ∷ start (codes "strong") ∷ Text (codes "x y") ∷ start (codes "sub") ∷ end (codes "sub") ∷ StartTag (codes "h2") (attribute (codes "id") (codes "1") ∷ attribute (codes "class") (codes "2") ∷ []) ∷ StartTag (codes "dt") (attribute (codes "id") (codes "1") ∷ attribute (codes "class") (codes "2") ∷ []) ∷ Text (codes "y") ∷ end (codes "dt") ∷ StartTag (codes "ul") (attribute (codes "id") (codes "1") ∷ attribute (codes "class") (codes "2") ∷ []) ∷ Text (codes " x") ∷ start (codes "li") ∷ end (codes "li") ∷ end (codes "ul") ∷ end (codes "h2") ∷ end (codes "strong") ∷ end (codes "h2") ∷ [])
+    ∷ (end (codes "tr") ∷ Text (10 ∷ []) ∷ start (codes "th") ∷ start (codes "td") ∷ Text (10 ∷ []) ∷ start (codes "img") ∷ start (codes "th") ∷ start (codes "th") ∷ start (codes "th") ∷ [])
+    ∷ (start (codes "nobr") ∷ start (codes "tr") ∷ start (codes "td") ∷ Text (codes "y") ∷ end (codes "a") ∷ Text (codes "x") ∷ [])
     ∷ []
 
 trees_8_answers : List Tree
 trees_8_answers =
-    (Element Nothing (codes "picture") (attribute (codes "class") (codes "1") ∷ []) (Element (Element Nothing (codes "table") [] (Element Nothing (codes "colgroup") [] Nothing)) (codes "picture") (attribute (codes "id") (codes "1") ∷ attribute (codes "class") (codes "2") ∷ []) (Element Nothing (codes "big") [] (Element Nothing (codes "picture") [] (Characters Nothing (codes " x"))))))
-    ∷ (Element Nothing (codes "dd") (attribute (codes "id") (codes "1") ∷ attribute (codes "class") (codes "2") ∷ []) (Element (Characters Nothing (120 ∷ 32 ∷ 121 ∷ 121 ∷ 10 ∷ 120 ∷ [])) (codes "rb") [] (Element (Characters Nothing (codes " x")) (codes "table") (attribute (codes "class") (codes "2") ∷ attribute (codes "id") (codes "1") ∷ []) (Element Nothing (codes "tbody") [] (Element Nothing (codes "tr") [] (Element Nothing (codes "td") [] (Element Nothing (codes "a") (attribute (codes "class") (codes "2") ∷ attribute (codes "id") (codes "1") ∷ []) Nothing)))))))
+    (Element (Element (Element (Element Nothing (codes "hr") (attribute (codes "id") (codes "1") ∷ attribute (codes "class") (codes "2") ∷ []) Nothing) (codes "hr") [] Nothing) (codes "table") [] (Element Nothing (codes "colgroup") [] Nothing)) (codes "picture") [] (Characters (Element Nothing (codes "hr") (attribute (codes "id") (codes "1") ∷ attribute (codes "class") (codes "2") ∷ []) Nothing) (32 ∷ 10 ∷ 10 ∷ [])))
+    ∷ (Element (Element (Element (Characters (Element (Element (Element Nothing (codes "a") [] Nothing) (codes "a") [] Nothing) (codes "div") [] (Element Nothing (codes "a") [] (Characters Nothing (codes "y")))) (codes "y")) (codes "i") [] (Element Nothing (codes "a") [] Nothing)) (codes "a") [] Nothing) (codes "div") [] (Element (Element Nothing (codes "a") [] (Element Nothing (codes "i") [] Nothing)) (codes "div") [] (Element (Element Nothing (codes "a") [] (Element Nothing (codes "i") [] Nothing)) (codes "div") [] (Element (Element Nothing (codes "a") [] (Element Nothing (codes "i") [] Nothing)) (codes "div") [] (Element (Element Nothing (codes "a") [] (Element Nothing (codes "i") [] Nothing)) (codes "div") [] (Element (Element Nothing (codes "a") [] (Element Nothing (codes "i") [] Nothing)) (codes "div") [] (Element (Element Nothing (codes "a") [] (Element Nothing (codes "i") [] Nothing)) (codes "div") [] (Element (Element Nothing (codes "a") [] (Element Nothing (codes "i") [] Nothing)) (codes "div") [] (Element Nothing (codes "a") [] (Element Nothing (codes "i") [] (Characters (Element Nothing (codes "div") [] (Characters Nothing (codes "y"))) (codes "y"))))))))))))
     ∷ (Characters Nothing (120 ∷ 32 ∷ 10 ∷ 10 ∷ []))
-    ∷ (Element (Element (Characters (Element (Characters Nothing (codes "x")) (codes "rt") (attribute (codes "class") (codes "2") ∷ attribute (codes "id") (codes "1") ∷ []) Nothing) (codes " x")) (codes "u") [] Nothing) (codes "listing") (attribute (codes "class") (codes "2") ∷ attribute (codes "id") (codes "1") ∷ []) (Element (Characters (Element Nothing (codes "u") [] Nothing) (10 ∷ 120 ∷ [])) (codes "u") (attribute (codes "class") (codes "1") ∷ []) (Element Nothing (codes "u") (attribute (codes "class") (codes "1") ∷ []) (Element (Element Nothing (codes "area") [] Nothing) (codes "u") (attribute (codes "id") (codes "1") ∷ attribute (codes "class") (codes "2") ∷ []) (Element Nothing (codes "dl") (attribute (codes "class") (codes "2") ∷ attribute (codes "id") (codes "1") ∷ []) (Element Nothing (codes "listing") [] (Element Nothing (codes "u") [] Nothing)))))))
-    ∷ (Element (Characters Nothing (codes "y")) (codes "h2") (attribute (codes "id") (codes "1") ∷ attribute (codes "class") (codes "2") ∷ []) Nothing)
-    ∷ (Element (Element (Element Nothing (codes "rt") [] Nothing) (codes "listing") (attribute (codes "class") (codes "2") ∷ attribute (codes "id") (codes "1") ∷ []) Nothing) (codes "rt") [] Nothing)
+    ∷ (Element (Characters (Element (Characters Nothing (10 ∷ [])) (codes "rt") (attribute (codes "class") (codes "2") ∷ attribute (codes "id") (codes "1") ∷ []) Nothing) (codes " x")) (codes "u") [] (Element (Characters (Element Nothing (codes "listing") (attribute (codes "class") (codes "2") ∷ attribute (codes "id") (codes "1") ∷ []) Nothing) (codes "x y")) (codes "u") (attribute (codes "class") (codes "1") ∷ []) Nothing))
+    ∷ (Characters Nothing (121 ∷ 10 ∷ 10 ∷ []))
+    ∷ (Element Nothing (codes "b") [] (Element (Element Nothing (codes "b") [] (Element Nothing (codes "u") [] (Characters Nothing (codes "y")))) (codes "u") [] (Element (Characters Nothing (codes "y")) (codes "u") [] (Element Nothing (codes "u") [] (Element (Element (Element (Element (Element (Characters Nothing (codes "xy")) (codes "b") [] (Element Nothing (codes "u") [] Nothing)) (codes "table") [] (Element Nothing (codes "tbody") [] (Element Nothing (codes "tr") [] Nothing))) (codes "b") [] (Element Nothing (codes "u") [] (Characters Nothing (codes "y")))) (codes "u") [] (Characters Nothing (codes "x"))) (codes "table") [] (Element Nothing (codes "tbody") [] (Element (Element (Element (Element (Element (Element (Element Nothing (codes "tr") [] Nothing) (codes "tr") [] Nothing) (codes "tr") [] (Element Nothing (codes "td") [] Nothing)) (codes "tr") [] Nothing) (codes "tr") [] (Element Nothing (codes "td") [] (Element (Characters Nothing (codes "yx")) (codes "u") [] (Element (Characters (Element Nothing (codes "u") [] (Element Nothing (codes "b") [] (Element (Element (Element (Element Nothing (codes "table") [] Nothing) (codes "table") [] (Element Nothing (codes "tbody") [] (Element (Element Nothing (codes "tr") [] Nothing) (codes "tr") [] Nothing))) (codes "table") [] (Element Nothing (codes "tbody") [] (Element (Element Nothing (codes "tr") [] (Element Nothing (codes "td") [] Nothing)) (codes "tr") [] Nothing))) (codes "table") [] (Element Nothing (codes "tbody") [] (Element Nothing (codes "tr") [] (Element Nothing (codes "td") [] (Characters Nothing (codes "x")))))))) (codes "y")) (codes "b") [] (Element Nothing (codes "u") [] (Element Nothing (codes "b") [] Nothing)))))) (codes "tr") [] (Element Nothing (codes "td") [] Nothing)) (codes "tr") [] Nothing)))))))
     ∷ (Element (Characters Nothing (codes "x y")) (codes "br") [] Nothing)
-    ∷ (Element Nothing (codes "small") (attribute (codes "class") (codes "2") ∷ attribute (codes "id") (codes "1") ∷ []) (Element (Element Nothing (codes "li") (attribute (codes "class") (codes "2") ∷ attribute (codes "id") (codes "1") ∷ []) Nothing) (codes "ul") (attribute (codes "class") (codes "2") ∷ attribute (codes "id") (codes "1") ∷ []) (Element Nothing (codes "h2") [] Nothing)))
-    ∷ (Element (Characters Nothing (10 ∷ 10 ∷ [])) (codes "li") [] (Element (Element Nothing (codes "img") [] Nothing) (codes "img") [] Nothing))
-    ∷ (Element (Characters (Element (Characters (Element Nothing (codes "p") [] Nothing) (codes "x")) (codes "p") [] (Characters Nothing (32 ∷ 10 ∷ []))) (10 ∷ 120 ∷ [])) (codes "ol") (attribute (codes "id") (codes "1") ∷ attribute (codes "class") (codes "2") ∷ []) Nothing)
+    ∷ (Element Nothing (codes "h2") [] (Element Nothing (codes "strong") [] (Element (Element (Characters Nothing (codes "x y")) (codes "sub") [] Nothing) (codes "h2") (attribute (codes "id") (codes "1") ∷ attribute (codes "class") (codes "2") ∷ []) (Element (Element Nothing (codes "dt") (attribute (codes "id") (codes "1") ∷ attribute (codes "class") (codes "2") ∷ []) (Characters Nothing (codes "y"))) (codes "ul") (attribute (codes "id") (codes "1") ∷ attribute (codes "class") (codes "2") ∷ []) (Element (Characters Nothing (codes " x")) (codes "li") [] Nothing)))))
+    ∷ (Element (Characters Nothing (10 ∷ 10 ∷ [])) (codes "img") [] Nothing)
+    ∷ (Element Nothing (codes "nobr") [] (Characters Nothing (codes "yx")))
     ∷ []
 
 trees_8 : map tree_of trees_8_items ≡ trees_8_answers
@@ -318,29 +310,29 @@ trees_8 = refl
 trees_9_items : List (List Item)
 trees_9_items =
     (end (codes "th") ∷ end (codes "table") ∷ StartTag (codes "area") (attribute (codes "id") (codes "1") ∷ attribute (codes "class") (codes "2") ∷ []) ∷ StartTag (codes "pre") (attribute (codes "class") (codes "1") ∷ []) ∷ end (codes "pre") ∷ end (codes "table") ∷ StartTag (codes "pre") (attribute (codes "class") (codes "2") ∷ attribute (codes "id") (codes "1") ∷ []) ∷ Text [] ∷ StartTag (codes "rp") (attribute (codes "class") (codes "1") ∷ []) ∷ end (codes "rp") ∷ Text (10 ∷ []) ∷ end (codes "pre") ∷ StartTag (codes "u") (attribute (codes "class") (codes "1") ∷ []) ∷ [])
-    ∷ (start (codes "nobr") ∷ end (codes "nobr") ∷ Text (codes " ") ∷ end (codes "listing") ∷ StartTag (codes "listing") (attribute (codes "id") (codes "1") ∷ attribute (codes "class") (codes "2") ∷ []) ∷ start (codes "listing") ∷ start (codes "nobr") ∷ start (codes "search") ∷ StartTag (codes "nobr") (attribute (codes "id") (codes "1") ∷ attribute (codes "class") (codes "2") ∷ []) ∷ start (codes "search") ∷ [])
-    ∷ (Text [] ∷ Text (10 ∷ []) ∷ start (codes "form") ∷ end (codes "form") ∷ [])
-    ∷ (start (codes "table") ∷ Text (codes " ") ∷ end (codes "listing") ∷ end (codes "table") ∷ start (codes "button") ∷ Text (codes "x ") ∷ start (codes "ol") ∷ end (codes "ol") ∷ Text (codes "x") ∷ StartTag (codes "button") (attribute (codes "class") (codes "2") ∷ attribute (codes "id") (codes "1") ∷ []) ∷ StartTag (codes "listing") (attribute (codes "id") (codes "1") ∷ attribute (codes "class") (codes "2") ∷ []) ∷ end (codes "ol") ∷ Text (codes "x ") ∷ end (codes "listing") ∷ StartTag (codes "listing") (attribute (codes "id") (codes "1") ∷ attribute (codes "class") (codes "2") ∷ []) ∷ [])
+    ∷ (Text (10 ∷ 10 ∷ []) ∷ start (codes "nobr") ∷ start (codes "search") ∷ end (codes "search") ∷ end (codes "nobr") ∷ Text (codes "y") ∷ StartTag (codes "nobr") (attribute (codes "id") (codes "1") ∷ attribute (codes "class") (codes "2") ∷ []) ∷ end (codes "nobr") ∷ [])
+    ∷ (start (codes "listing") ∷ start (codes "tt") ∷ StartTag (codes "cite") (attribute (codes "class") (codes "1") ∷ []) ∷ Text (codes "x") ∷ Text (10 ∷ []) ∷ Text (codes "x ") ∷ StartTag (codes "a") (attribute (codes "class") (codes "1") ∷ []) ∷ end (codes "a") ∷ end (codes "listing") ∷ StartTag (codes "h2") (attribute (codes "class") (codes "2") ∷ attribute (codes "id") (codes "1") ∷ []) ∷ start (codes "h2") ∷ Text (10 ∷ 120 ∷ []) ∷ [])
+    ∷ (start (codes "nobr") ∷ start (codes "div") ∷ Text (codes "y") ∷ end (codes "a") ∷ end (codes "div") ∷ Text (codes "x") ∷ [])
     ∷ (Text (10 ∷ []) ∷ end (codes "tr") ∷ StartTag (codes "table") (attribute (codes "id") (codes "1") ∷ attribute (codes "class") (codes "2") ∷ []) ∷ Text (codes "x y") ∷ start (codes "wbr") ∷ end (codes "wbr") ∷ StartTag (codes "tfoot") (attribute (codes "class") (codes "2") ∷ attribute (codes "id") (codes "1") ∷ []) ∷ end (codes "table") ∷ StartTag (codes "pre") (attribute (codes "class") (codes "1") ∷ []) ∷ end (codes "pre") ∷ Text (codes " ") ∷ [])
-    ∷ (Text [] ∷ Text (10 ∷ 10 ∷ []) ∷ end (codes "mark") ∷ start (codes "mark") ∷ [])
-    ∷ (Text (10 ∷ []) ∷ StartTag (codes "tt") (attribute (codes "id") (codes "1") ∷ attribute (codes "class") (codes "2") ∷ []) ∷ end (codes "tt") ∷ Text (10 ∷ 120 ∷ []) ∷ [])
-    ∷ (start (codes "nobr") ∷ end (codes "nobr") ∷ StartTag (codes "table") (attribute (codes "id") (codes "1") ∷ attribute (codes "class") (codes "2") ∷ []) ∷ end (codes "table") ∷ end (codes "table") ∷ StartTag (codes "nobr") (attribute (codes "class") (codes "1") ∷ []) ∷ start (codes "em") ∷ end (codes "em") ∷ end (codes "nobr") ∷ end (codes "table") ∷ start (codes "nobr") ∷ Text (10 ∷ 10 ∷ []) ∷ start (codes "table") ∷ [])
+    ∷ (Text (10 ∷ []) ∷ Text (10 ∷ 10 ∷ []) ∷ start (codes "mark") ∷ start (codes "pre") ∷ StartTag (codes "button") (attribute (codes "class") (codes "1") ∷ []) ∷ end (codes "button") ∷ start (codes "pre") ∷ end (codes "pre") ∷ end (codes "pre") ∷ end (codes "mark") ∷ [])
+    ∷ (end (codes "ruby") ∷ end (codes "dd") ∷ StartTag (codes "tt") (attribute (codes "id") (codes "1") ∷ attribute (codes "class") (codes "2") ∷ []) ∷ [])
+    ∷ (start (codes "a") ∷ start (codes "div") ∷ start (codes "div") ∷ start (codes "div") ∷ Text (codes "y") ∷ end (codes "i") ∷ end (codes "a") ∷ Text (codes "y") ∷ [])
     ∷ (Text (codes "x y") ∷ end (codes "ol") ∷ StartTag (codes "dt") (attribute (codes "id") (codes "1") ∷ attribute (codes "class") (codes "2") ∷ []) ∷ Text (codes "x") ∷ Text (codes "x ") ∷ end (codes "dt") ∷ end (codes "dt") ∷ [])
-    ∷ (start (codes "i") ∷ end (codes "i") ∷ Text (10 ∷ []) ∷ end (codes "tr") ∷ StartTag (codes "input") (attribute (codes "type") (codes "hidden") ∷ []) ∷ start (codes "i") ∷ end (codes "i") ∷ Text (codes " ") ∷ [])
+    ∷ (StartTag (codes "i") (attribute (codes "id") (codes "1") ∷ attribute (codes "class") (codes "2") ∷ []) ∷ StartTag (codes "input") (attribute (codes "type") (codes "text") ∷ []) ∷ Text [] ∷ StartTag (codes "input") (attribute (codes "type") (codes "hidden") ∷ []) ∷ start (codes "i") ∷ end (codes "i") ∷ Text (codes " ") ∷ Text (10 ∷ 120 ∷ []) ∷ end (codes "i") ∷ Text (codes "y") ∷ start (codes "table") ∷ StartTag (codes "colgroup") (attribute (codes "id") (codes "1") ∷ attribute (codes "class") (codes "2") ∷ []) ∷ start (codes "col") ∷ start (codes "col") ∷ Text [] ∷ end (codes "colgroup") ∷ end (codes "table") ∷ [])
     ∷ []
 
 trees_9_answers : List Tree
 trees_9_answers =
     (Element (Element (Element (Element Nothing (codes "area") (attribute (codes "id") (codes "1") ∷ attribute (codes "class") (codes "2") ∷ []) Nothing) (codes "pre") (attribute (codes "class") (codes "1") ∷ []) Nothing) (codes "pre") (attribute (codes "class") (codes "2") ∷ attribute (codes "id") (codes "1") ∷ []) (Characters (Element Nothing (codes "rp") (attribute (codes "class") (codes "1") ∷ []) Nothing) (10 ∷ []))) (codes "u") (attribute (codes "class") (codes "1") ∷ []) Nothing)
-    ∷ (Element (Characters (Element Nothing (codes "nobr") [] Nothing) (codes " ")) (codes "listing") (attribute (codes "id") (codes "1") ∷ attribute (codes "class") (codes "2") ∷ []) (Element Nothing (codes "listing") [] (Element (Element Nothing (codes "nobr") [] Nothing) (codes "search") [] (Element (Element Nothing (codes "nobr") [] Nothing) (codes "nobr") (attribute (codes "id") (codes "1") ∷ attribute (codes "class") (codes "2") ∷ []) (Element Nothing (codes "search") [] Nothing)))))
-    ∷ (Element (Characters Nothing (10 ∷ [])) (codes "form") [] Nothing)
-    ∷ (Element (Element (Element Nothing (codes "table") [] (Characters Nothing (codes " "))) (codes "button") [] (Characters (Element (Characters Nothing (codes "x ")) (codes "ol") [] Nothing) (codes "x"))) (codes "button") (attribute (codes "class") (codes "2") ∷ attribute (codes "id") (codes "1") ∷ []) (Element (Element Nothing (codes "listing") (attribute (codes "id") (codes "1") ∷ attribute (codes "class") (codes "2") ∷ []) (Characters Nothing (codes "x "))) (codes "listing") (attribute (codes "id") (codes "1") ∷ attribute (codes "class") (codes "2") ∷ []) Nothing))
+    ∷ (Element (Characters (Element (Characters Nothing (10 ∷ 10 ∷ [])) (codes "nobr") [] (Element Nothing (codes "search") [] Nothing)) (codes "y")) (codes "nobr") (attribute (codes "id") (codes "1") ∷ attribute (codes "class") (codes "2") ∷ []) Nothing)
+    ∷ (Element (Element (Element Nothing (codes "listing") [] (Element Nothing (codes "tt") [] (Element Nothing (codes "cite") (attribute (codes "class") (codes "1") ∷ []) (Element (Characters Nothing (120 ∷ 10 ∷ 120 ∷ 32 ∷ [])) (codes "a") (attribute (codes "class") (codes "1") ∷ []) Nothing)))) (codes "h2") (attribute (codes "class") (codes "2") ∷ attribute (codes "id") (codes "1") ∷ []) Nothing) (codes "h2") [] (Element Nothing (codes "tt") [] (Characters Nothing (10 ∷ 120 ∷ []))))
+    ∷ (Element Nothing (codes "nobr") [] (Characters (Element Nothing (codes "div") [] (Characters Nothing (codes "y"))) (codes "x")))
     ∷ (Characters (Element (Element (Element (Characters Nothing (10 ∷ 120 ∷ 32 ∷ 121 ∷ [])) (codes "wbr") [] Nothing) (codes "table") (attribute (codes "id") (codes "1") ∷ attribute (codes "class") (codes "2") ∷ []) (Element Nothing (codes "tfoot") (attribute (codes "class") (codes "2") ∷ attribute (codes "id") (codes "1") ∷ []) Nothing)) (codes "pre") (attribute (codes "class") (codes "1") ∷ []) Nothing) (codes " "))
-    ∷ (Element (Characters Nothing (10 ∷ 10 ∷ [])) (codes "mark") [] Nothing)
-    ∷ (Characters (Element (Characters Nothing (10 ∷ [])) (codes "tt") (attribute (codes "id") (codes "1") ∷ attribute (codes "class") (codes "2") ∷ []) Nothing) (10 ∷ 120 ∷ []))
-    ∷ (Element (Element (Element (Element Nothing (codes "nobr") [] Nothing) (codes "table") (attribute (codes "id") (codes "1") ∷ attribute (codes "class") (codes "2") ∷ []) Nothing) (codes "nobr") (attribute (codes "class") (codes "1") ∷ []) (Element Nothing (codes "em") [] Nothing)) (codes "nobr") [] (Element (Characters Nothing (10 ∷ 10 ∷ [])) (codes "table") [] Nothing))
+    ∷ (Element (Characters Nothing (10 ∷ 10 ∷ 10 ∷ [])) (codes "mark") [] (Element Nothing (codes "pre") [] (Element (Element Nothing (codes "button") (attribute (codes "class") (codes "1") ∷ []) Nothing) (codes "pre") [] Nothing)))
+    ∷ (Element Nothing (codes "tt") (attribute (codes "id") (codes "1") ∷ attribute (codes "class") (codes "2") ∷ []) Nothing)
+    ∷ (Element (Element Nothing (codes "a") [] Nothing) (codes "div") [] (Element (Element Nothing (codes "a") [] Nothing) (codes "div") [] (Element (Element Nothing (codes "a") [] Nothing) (codes "div") [] (Characters (Element Nothing (codes "a") [] (Characters Nothing (codes "y"))) (codes "y")))))
     ∷ (Element (Characters Nothing (codes "x y")) (codes "dt") (attribute (codes "id") (codes "1") ∷ attribute (codes "class") (codes "2") ∷ []) (Characters Nothing (codes "xx ")))
-    ∷ (Characters (Element (Element (Characters (Element Nothing (codes "i") [] Nothing) (10 ∷ [])) (codes "input") (attribute (codes "type") (codes "hidden") ∷ []) Nothing) (codes "i") [] Nothing) (codes " "))
+    ∷ (Element (Characters (Element Nothing (codes "i") (attribute (codes "id") (codes "1") ∷ attribute (codes "class") (codes "2") ∷ []) (Characters (Element (Element (Element Nothing (codes "input") (attribute (codes "type") (codes "text") ∷ []) Nothing) (codes "input") (attribute (codes "type") (codes "hidden") ∷ []) Nothing) (codes "i") [] Nothing) (32 ∷ 10 ∷ 120 ∷ []))) (codes "y")) (codes "table") [] (Element Nothing (codes "colgroup") (attribute (codes "id") (codes "1") ∷ attribute (codes "class") (codes "2") ∷ []) (Element (Element Nothing (codes "col") [] Nothing) (codes "col") [] Nothing)))
     ∷ []
 
 trees_9 : map tree_of trees_9_items ≡ trees_9_answers
@@ -349,30 +341,30 @@ trees_9 = refl
 
 trees_10_items : List (List Item)
 trees_10_items =
-    (Text (codes " ") ∷ Text (10 ∷ 10 ∷ []) ∷ Text (10 ∷ []) ∷ start (codes "ul") ∷ Text (codes " ") ∷ start (codes "ul") ∷ end (codes "ul") ∷ end (codes "ul") ∷ [])
-    ∷ (end (codes "pre") ∷ start (codes "div") ∷ StartTag (codes "pre") (attribute (codes "class") (codes "2") ∷ attribute (codes "id") (codes "1") ∷ []) ∷ Text [] ∷ end (codes "pre") ∷ start (codes "section") ∷ StartTag (codes "rt") (attribute (codes "class") (codes "1") ∷ []) ∷ start (codes "rt") ∷ start (codes "pre") ∷ Text (codes " ") ∷ StartTag (codes "div") (attribute (codes "class") (codes "2") ∷ attribute (codes "id") (codes "1") ∷ []) ∷ [])
+    (Text (codes " x") ∷ end (codes "table") ∷ StartTag (codes "rt") (attribute (codes "id") (codes "1") ∷ attribute (codes "class") (codes "2") ∷ []) ∷ Text (10 ∷ 120 ∷ []) ∷ end (codes "rt") ∷ StartTag (codes "ul") (attribute (codes "class") (codes "1") ∷ []) ∷ end (codes "ul") ∷ Text (codes " ") ∷ start (codes "ul") ∷ end (codes "ul") ∷ StartTag (codes "sup") (attribute (codes "class") (codes "1") ∷ []) ∷ StartTag (codes "tr") (attribute (codes "class") (codes "2") ∷ attribute (codes "id") (codes "1") ∷ []) ∷ [])
+    ∷ (start (codes "nobr") ∷ start (codes "li") ∷ Text (codes "x") ∷ end (codes "u") ∷ end (codes "nobr") ∷ Text (codes "y") ∷ start (codes "b") ∷ start (codes "u") ∷ start (codes "ul") ∷ start (codes "ul") ∷ Text (codes "x") ∷ end (codes "u") ∷ end (codes "nobr") ∷ Text (codes "x") ∷ start (codes "nobr") ∷ start (codes "li") ∷ start (codes "li") ∷ start (codes "div") ∷ start (codes "div") ∷ start (codes "li") ∷ start (codes "div") ∷ start (codes "ul") ∷ start (codes "li") ∷ start (codes "li") ∷ Text (codes "y") ∷ end (codes "u") ∷ end (codes "nobr") ∷ end (codes "b") ∷ Text (codes "x") ∷ start (codes "b") ∷ start (codes "div") ∷ start (codes "li") ∷ Text (codes "x") ∷ end (codes "div") ∷ Text (codes "y") ∷ start (codes "u") ∷ start (codes "nobr") ∷ start (codes "div") ∷ start (codes "li") ∷ start (codes "li") ∷ Text (codes "y") ∷ end (codes "b") ∷ end (codes "b") ∷ Text (codes "x") ∷ [])
     ∷ (end (codes "dl") ∷ end (codes "dt") ∷ end (codes "table") ∷ start (codes "dl") ∷ [])
-    ∷ (start (codes "th") ∷ StartTag (codes "code") (attribute (codes "class") (codes "1") ∷ []) ∷ start (codes "b") ∷ Text (codes "x ") ∷ end (codes "b") ∷ end (codes "code") ∷ start (codes "embed") ∷ StartTag (codes "code") (attribute (codes "class") (codes "1") ∷ []) ∷ Text (codes "y") ∷ [])
-    ∷ (Text (codes "y") ∷ start (codes "figure") ∷ start (codes "figure") ∷ Text (codes "x y") ∷ start (codes "h1") ∷ StartTag (codes "embed") (attribute (codes "class") (codes "2") ∷ attribute (codes "id") (codes "1") ∷ []) ∷ end (codes "h1") ∷ end (codes "figure") ∷ end (codes "figure") ∷ [])
-    ∷ (Text (codes "x") ∷ StartTag (codes "table") (attribute (codes "id") (codes "1") ∷ attribute (codes "class") (codes "2") ∷ []) ∷ end (codes "table") ∷ start (codes "tr") ∷ start (codes "form") ∷ [])
+    ∷ (Text (10 ∷ 120 ∷ []) ∷ Text (codes "y") ∷ StartTag (codes "embed") (attribute (codes "class") (codes "1") ∷ []) ∷ Text (codes "x ") ∷ Text (codes " x") ∷ Text (10 ∷ []) ∷ Text (codes " x") ∷ [])
+    ∷ (end (codes "embed") ∷ Text (codes "y") ∷ start (codes "figure") ∷ start (codes "figure") ∷ Text (codes "x y") ∷ start (codes "h1") ∷ StartTag (codes "embed") (attribute (codes "class") (codes "2") ∷ attribute (codes "id") (codes "1") ∷ []) ∷ Text (codes "y") ∷ StartTag (codes "h1") (attribute (codes "class") (codes "1") ∷ []) ∷ end (codes "h1") ∷ end (codes "h1") ∷ start (codes "h3") ∷ end (codes "figure") ∷ start (codes "h3") ∷ StartTag (codes "h1") (attribute (codes "class") (codes "1") ∷ []) ∷ [])
+    ∷ (start (codes "b") ∷ start (codes "b") ∷ start (codes "div") ∷ start (codes "div") ∷ start (codes "div") ∷ Text (codes "x") ∷ end (codes "b") ∷ end (codes "b") ∷ end (codes "b") ∷ Text (codes "x") ∷ [])
     ∷ (end (codes "rt") ∷ Text (codes "y") ∷ Text (10 ∷ 120 ∷ []) ∷ end (codes "rt") ∷ start (codes "rt") ∷ Text (codes "x y") ∷ StartTag (codes "rt") (attribute (codes "class") (codes "2") ∷ attribute (codes "id") (codes "1") ∷ []) ∷ end (codes "rt") ∷ StartTag (codes "rt") (attribute (codes "class") (codes "1") ∷ []) ∷ start (codes "rt") ∷ end (codes "rt") ∷ StartTag (codes "rt") (attribute (codes "id") (codes "1") ∷ attribute (codes "class") (codes "2") ∷ []) ∷ start (codes "area") ∷ StartTag (codes "area") (attribute (codes "id") (codes "1") ∷ attribute (codes "class") (codes "2") ∷ []) ∷ [])
-    ∷ (Text (codes " ") ∷ end (codes "nav") ∷ StartTag (codes "h6") (attribute (codes "class") (codes "2") ∷ attribute (codes "id") (codes "1") ∷ []) ∷ StartTag (codes "col") (attribute (codes "class") (codes "1") ∷ []) ∷ end (codes "h6") ∷ start (codes "col") ∷ end (codes "pre") ∷ Text (10 ∷ 10 ∷ []) ∷ start (codes "ruby") ∷ start (codes "col") ∷ StartTag (codes "wbr") (attribute (codes "id") (codes "1") ∷ attribute (codes "class") (codes "2") ∷ []) ∷ Text (10 ∷ 120 ∷ []) ∷ start (codes "col") ∷ end (codes "ruby") ∷ end (codes "wbr") ∷ Text [] ∷ [])
-    ∷ (StartTag (codes "h1") (attribute (codes "class") (codes "1") ∷ []) ∷ end (codes "h1") ∷ StartTag (codes "dl") (attribute (codes "class") (codes "2") ∷ attribute (codes "id") (codes "1") ∷ []) ∷ Text (10 ∷ []) ∷ start (codes "dl") ∷ start (codes "dl") ∷ start (codes "dl") ∷ end (codes "dl") ∷ Text (10 ∷ 10 ∷ []) ∷ Text (10 ∷ 120 ∷ []) ∷ start (codes "nobr") ∷ Text (10 ∷ []) ∷ Text [] ∷ end (codes "nobr") ∷ end (codes "dl") ∷ end (codes "dl") ∷ end (codes "dl") ∷ [])
-    ∷ (end (codes "ruby") ∷ StartTag (codes "ruby") (attribute (codes "class") (codes "1") ∷ []) ∷ start (codes "ruby") ∷ end (codes "ruby") ∷ StartTag (codes "p") (attribute (codes "id") (codes "1") ∷ attribute (codes "class") (codes "2") ∷ []) ∷ end (codes "p") ∷ StartTag (codes "ul") (attribute (codes "class") (codes "1") ∷ []) ∷ [])
+    ∷ (Text (10 ∷ 10 ∷ []) ∷ start (codes "pre") ∷ StartTag (codes "nav") (attribute (codes "class") (codes "2") ∷ attribute (codes "id") (codes "1") ∷ []) ∷ start (codes "nav") ∷ start (codes "ruby") ∷ end (codes "ruby") ∷ end (codes "nav") ∷ end (codes "nav") ∷ end (codes "pre") ∷ [])
+    ∷ (Text (10 ∷ 10 ∷ []) ∷ end (codes "h1") ∷ StartTag (codes "h1") (attribute (codes "id") (codes "1") ∷ attribute (codes "class") (codes "2") ∷ []) ∷ end (codes "h1") ∷ end (codes "nobr") ∷ end (codes "h1") ∷ end (codes "h1") ∷ Text (10 ∷ 10 ∷ []) ∷ StartTag (codes "nobr") (attribute (codes "class") (codes "1") ∷ []) ∷ StartTag (codes "dl") (attribute (codes "class") (codes "2") ∷ attribute (codes "id") (codes "1") ∷ []) ∷ end (codes "nobr") ∷ start (codes "dl") ∷ StartTag (codes "nobr") (attribute (codes "class") (codes "1") ∷ []) ∷ end (codes "nobr") ∷ start (codes "h1") ∷ end (codes "h1") ∷ [])
+    ∷ (start (codes "u") ∷ start (codes "a") ∷ start (codes "div") ∷ start (codes "li") ∷ start (codes "div") ∷ Text (codes "x") ∷ end (codes "ul") ∷ end (codes "u") ∷ end (codes "div") ∷ Text (codes "y") ∷ start (codes "a") ∷ start (codes "u") ∷ start (codes "u") ∷ start (codes "div") ∷ Text (codes "y") ∷ end (codes "u") ∷ end (codes "a") ∷ end (codes "div") ∷ Text (codes "y") ∷ [])
     ∷ []
 
 trees_10_answers : List Tree
 trees_10_answers =
-    (Element (Characters Nothing (32 ∷ 10 ∷ 10 ∷ 10 ∷ [])) (codes "ul") [] (Element (Characters Nothing (codes " ")) (codes "ul") [] Nothing))
-    ∷ (Element Nothing (codes "div") [] (Element (Element Nothing (codes "pre") (attribute (codes "class") (codes "2") ∷ attribute (codes "id") (codes "1") ∷ []) Nothing) (codes "section") [] (Element Nothing (codes "rt") (attribute (codes "class") (codes "1") ∷ []) (Element Nothing (codes "rt") [] (Element Nothing (codes "pre") [] (Element (Characters Nothing (codes " ")) (codes "div") (attribute (codes "class") (codes "2") ∷ attribute (codes "id") (codes "1") ∷ []) Nothing))))))
+    (Element (Element (Characters (Element (Element (Characters Nothing (codes " x")) (codes "rt") (attribute (codes "id") (codes "1") ∷ attribute (codes "class") (codes "2") ∷ []) (Characters Nothing (10 ∷ 120 ∷ []))) (codes "ul") (attribute (codes "class") (codes "1") ∷ []) Nothing) (codes " ")) (codes "ul") [] Nothing) (codes "sup") (attribute (codes "class") (codes "1") ∷ []) Nothing)
+    ∷ (Element (Element Nothing (codes "nobr") [] Nothing) (codes "li") [] (Element (Element (Characters (Element Nothing (codes "nobr") [] (Characters Nothing (codes "x"))) (codes "y")) (codes "b") [] (Element Nothing (codes "u") [] Nothing)) (codes "ul") [] (Element (Element Nothing (codes "b") [] (Element Nothing (codes "u") [] Nothing)) (codes "ul") [] (Element (Element (Element (Element Nothing (codes "b") [] (Element (Characters (Element Nothing (codes "u") [] (Characters Nothing (codes "x"))) (codes "x")) (codes "nobr") [] (Element (Element Nothing (codes "li") [] Nothing) (codes "li") [] (Element Nothing (codes "div") [] (Element Nothing (codes "div") [] Nothing))))) (codes "li") [] (Element (Element (Element Nothing (codes "b") [] (Element Nothing (codes "nobr") [] Nothing)) (codes "div") [] (Element (Element Nothing (codes "b") [] (Element Nothing (codes "nobr") [] Nothing)) (codes "ul") [] (Element (Element (Element Nothing (codes "b") [] (Element Nothing (codes "nobr") [] (Element Nothing (codes "li") [] Nothing))) (codes "li") [] (Element (Characters (Element Nothing (codes "b") [] (Element Nothing (codes "nobr") [] (Characters Nothing (codes "y")))) (codes "x")) (codes "b") [] (Element Nothing (codes "div") [] Nothing))) (codes "li") [] (Element Nothing (codes "b") [] (Characters Nothing (codes "x")))))) (codes "b") [] (Element (Characters Nothing (codes "y")) (codes "u") [] (Element Nothing (codes "nobr") [] (Element Nothing (codes "div") [] Nothing))))) (codes "li") [] Nothing) (codes "li") [] (Element (Element Nothing (codes "b") [] (Element Nothing (codes "u") [] (Element Nothing (codes "nobr") [] (Characters Nothing (codes "y"))))) (codes "u") [] (Element Nothing (codes "nobr") [] (Characters Nothing (codes "x"))))))))
     ∷ (Element Nothing (codes "dl") [] Nothing)
-    ∷ (Element (Element (Element Nothing (codes "code") (attribute (codes "class") (codes "1") ∷ []) (Element Nothing (codes "b") [] (Characters Nothing (codes "x ")))) (codes "embed") [] Nothing) (codes "code") (attribute (codes "class") (codes "1") ∷ []) (Characters Nothing (codes "y")))
-    ∷ (Element (Characters Nothing (codes "y")) (codes "figure") [] (Element Nothing (codes "figure") [] (Element (Characters Nothing (codes "x y")) (codes "h1") [] (Element Nothing (codes "embed") (attribute (codes "class") (codes "2") ∷ attribute (codes "id") (codes "1") ∷ []) Nothing))))
-    ∷ (Element (Element (Characters Nothing (codes "x")) (codes "table") (attribute (codes "id") (codes "1") ∷ attribute (codes "class") (codes "2") ∷ []) Nothing) (codes "form") [] Nothing)
+    ∷ (Characters (Element (Characters Nothing (10 ∷ 120 ∷ 121 ∷ [])) (codes "embed") (attribute (codes "class") (codes "1") ∷ []) Nothing) (120 ∷ 32 ∷ 32 ∷ 120 ∷ 10 ∷ 32 ∷ 120 ∷ []))
+    ∷ (Element (Characters Nothing (codes "y")) (codes "figure") [] (Element (Element (Element Nothing (codes "figure") [] (Element (Element (Element (Characters Nothing (codes "x y")) (codes "h1") [] (Characters (Element Nothing (codes "embed") (attribute (codes "class") (codes "2") ∷ attribute (codes "id") (codes "1") ∷ []) Nothing) (codes "y"))) (codes "h1") (attribute (codes "class") (codes "1") ∷ []) Nothing) (codes "h3") [] Nothing)) (codes "h3") [] Nothing) (codes "h1") (attribute (codes "class") (codes "1") ∷ []) Nothing))
+    ∷ (Element (Element Nothing (codes "b") [] (Element Nothing (codes "b") [] Nothing)) (codes "div") [] (Element (Element Nothing (codes "b") [] (Element Nothing (codes "b") [] Nothing)) (codes "div") [] (Element (Element Nothing (codes "b") [] (Element Nothing (codes "b") [] Nothing)) (codes "div") [] (Characters (Element Nothing (codes "b") [] (Element Nothing (codes "b") [] (Characters Nothing (codes "x")))) (codes "x")))))
     ∷ (Element (Characters Nothing (121 ∷ 10 ∷ 120 ∷ [])) (codes "rt") [] (Element (Element (Characters Nothing (codes "x y")) (codes "rt") (attribute (codes "class") (codes "2") ∷ attribute (codes "id") (codes "1") ∷ []) Nothing) (codes "rt") (attribute (codes "class") (codes "1") ∷ []) (Element (Element Nothing (codes "rt") [] Nothing) (codes "rt") (attribute (codes "id") (codes "1") ∷ attribute (codes "class") (codes "2") ∷ []) (Element (Element Nothing (codes "area") [] Nothing) (codes "area") (attribute (codes "id") (codes "1") ∷ attribute (codes "class") (codes "2") ∷ []) Nothing))))
-    ∷ (Element (Characters (Element (Characters Nothing (codes " ")) (codes "h6") (attribute (codes "class") (codes "2") ∷ attribute (codes "id") (codes "1") ∷ []) Nothing) (10 ∷ 10 ∷ [])) (codes "ruby") [] (Characters (Element Nothing (codes "wbr") (attribute (codes "id") (codes "1") ∷ attribute (codes "class") (codes "2") ∷ []) Nothing) (10 ∷ 120 ∷ [])))
-    ∷ (Element (Element Nothing (codes "h1") (attribute (codes "class") (codes "1") ∷ []) Nothing) (codes "dl") (attribute (codes "class") (codes "2") ∷ attribute (codes "id") (codes "1") ∷ []) (Element (Characters Nothing (10 ∷ [])) (codes "dl") [] (Element Nothing (codes "dl") [] (Element (Characters (Element Nothing (codes "dl") [] Nothing) (10 ∷ 10 ∷ 10 ∷ 120 ∷ [])) (codes "nobr") [] (Characters Nothing (10 ∷ []))))))
-    ∷ (Element Nothing (codes "ruby") (attribute (codes "class") (codes "1") ∷ []) (Element (Element (Element Nothing (codes "ruby") [] Nothing) (codes "p") (attribute (codes "id") (codes "1") ∷ attribute (codes "class") (codes "2") ∷ []) Nothing) (codes "ul") (attribute (codes "class") (codes "1") ∷ []) Nothing))
+    ∷ (Element (Characters Nothing (10 ∷ 10 ∷ [])) (codes "pre") [] (Element Nothing (codes "nav") (attribute (codes "class") (codes "2") ∷ attribute (codes "id") (codes "1") ∷ []) (Element Nothing (codes "nav") [] (Element Nothing (codes "ruby") [] Nothing))))
+    ∷ (Element (Element (Characters (Element (Characters Nothing (10 ∷ 10 ∷ [])) (codes "h1") (attribute (codes "id") (codes "1") ∷ attribute (codes "class") (codes "2") ∷ []) Nothing) (10 ∷ 10 ∷ [])) (codes "nobr") (attribute (codes "class") (codes "1") ∷ []) Nothing) (codes "dl") (attribute (codes "class") (codes "2") ∷ attribute (codes "id") (codes "1") ∷ []) (Element (Element Nothing (codes "nobr") (attribute (codes "class") (codes "1") ∷ []) Nothing) (codes "dl") [] (Element (Element Nothing (codes "nobr") (attribute (codes "class") (codes "1") ∷ []) Nothing) (codes "h1") [] Nothing)))
+    ∷ (Element (Element (Element Nothing (codes "u") [] (Element Nothing (codes "a") [] Nothing)) (codes "a") [] Nothing) (codes "div") [] (Element (Element Nothing (codes "a") [] (Element Nothing (codes "u") [] Nothing)) (codes "li") [] (Element (Element (Element Nothing (codes "a") [] (Characters (Element (Element Nothing (codes "u") [] Nothing) (codes "div") [] (Element Nothing (codes "u") [] (Characters Nothing (codes "x")))) (codes "y"))) (codes "a") [] (Element Nothing (codes "u") [] (Element Nothing (codes "u") [] Nothing))) (codes "u") [] (Characters (Element Nothing (codes "div") [] (Element Nothing (codes "a") [] (Element Nothing (codes "u") [] (Characters Nothing (codes "y"))))) (codes "y")))))
     ∷ []
 
 trees_10 : map tree_of trees_10_items ≡ trees_10_answers
@@ -382,29 +374,29 @@ trees_10 = refl
 trees_11_items : List (List Item)
 trees_11_items =
     (start (codes "br") ∷ Text (codes " x") ∷ end (codes "h2") ∷ end (codes "input") ∷ start (codes "h2") ∷ Text (codes "x") ∷ StartTag (codes "br") (attribute (codes "id") (codes "1") ∷ attribute (codes "class") (codes "2") ∷ []) ∷ start (codes "thead") ∷ Text (10 ∷ 10 ∷ []) ∷ Text (codes " x") ∷ start (codes "tr") ∷ StartTag (codes "th") (attribute (codes "id") (codes "1") ∷ attribute (codes "class") (codes "2") ∷ []) ∷ end (codes "input") ∷ StartTag (codes "tr") (attribute (codes "id") (codes "1") ∷ attribute (codes "class") (codes "2") ∷ []) ∷ StartTag (codes "tr") (attribute (codes "id") (codes "1") ∷ attribute (codes "class") (codes "2") ∷ []) ∷ start (codes "h2") ∷ [])
-    ∷ (start (codes "pre") ∷ StartTag (codes "h2") (attribute (codes "class") (codes "1") ∷ []) ∷ end (codes "h2") ∷ end (codes "pre") ∷ Text (10 ∷ []) ∷ end (codes "table") ∷ start (codes "center") ∷ start (codes "ruby") ∷ end (codes "ruby") ∷ [])
-    ∷ (start (codes "table") ∷ end (codes "table") ∷ StartTag (codes "search") (attribute (codes "class") (codes "1") ∷ []) ∷ Text (codes "y") ∷ start (codes "del") ∷ Text (10 ∷ 120 ∷ []) ∷ Text (10 ∷ 120 ∷ []) ∷ end (codes "del") ∷ end (codes "search") ∷ [])
-    ∷ (Text (codes "x ") ∷ Text (codes "x y") ∷ Text (10 ∷ 10 ∷ []) ∷ end (codes "p") ∷ start (codes "dt") ∷ StartTag (codes "li") (attribute (codes "class") (codes "1") ∷ []) ∷ end (codes "dt") ∷ StartTag (codes "li") (attribute (codes "class") (codes "2") ∷ attribute (codes "id") (codes "1") ∷ []) ∷ start (codes "dt") ∷ StartTag (codes "strike") (attribute (codes "class") (codes "2") ∷ attribute (codes "id") (codes "1") ∷ []) ∷ start (codes "dt") ∷ [])
+    ∷ (Text (codes "x y") ∷ Text (codes "x y") ∷ start (codes "h2") ∷ Text [] ∷ end (codes "h2") ∷ Text (codes "x ") ∷ start (codes "table") ∷ start (codes "tbody") ∷ start (codes "tr") ∷ StartTag (codes "td") (attribute (codes "class") (codes "2") ∷ attribute (codes "id") (codes "1") ∷ []) ∷ StartTag (codes "ruby") (attribute (codes "id") (codes "1") ∷ attribute (codes "class") (codes "2") ∷ []) ∷ end (codes "ruby") ∷ StartTag (codes "table") (attribute (codes "id") (codes "1") ∷ attribute (codes "class") (codes "2") ∷ []) ∷ end (codes "table") ∷ end (codes "td") ∷ end (codes "tr") ∷ end (codes "tbody") ∷ end (codes "table") ∷ [])
+    ∷ (end (codes "table") ∷ end (codes "del") ∷ start (codes "table") ∷ [])
+    ∷ (start (codes "nobr") ∷ start (codes "li") ∷ Text (codes "y") ∷ end (codes "a") ∷ end (codes "a") ∷ Text (codes "y") ∷ start (codes "a") ∷ start (codes "nobr") ∷ start (codes "ul") ∷ Text (codes "x") ∷ end (codes "ul") ∷ end (codes "a") ∷ Text (codes "x") ∷ start (codes "nobr") ∷ start (codes "a") ∷ start (codes "div") ∷ Text (codes "y") ∷ end (codes "nobr") ∷ end (codes "div") ∷ end (codes "ul") ∷ Text (codes "x") ∷ start (codes "nobr") ∷ start (codes "li") ∷ Text (codes "y") ∷ end (codes "li") ∷ end (codes "nobr") ∷ Text (codes "y") ∷ start (codes "i") ∷ start (codes "a") ∷ start (codes "a") ∷ start (codes "li") ∷ start (codes "li") ∷ Text (codes "y") ∷ end (codes "div") ∷ Text (codes "x") ∷ [])
     ∷ (Text (codes "y") ∷ end (codes "s") ∷ start (codes "rtc") ∷ StartTag (codes "table") (attribute (codes "class") (codes "1") ∷ []) ∷ StartTag (codes "rtc") (attribute (codes "class") (codes "1") ∷ []) ∷ start (codes "td") ∷ start (codes "td") ∷ start (codes "td") ∷ end (codes "td") ∷ [])
-    ∷ (Text (codes "x") ∷ start (codes "listing") ∷ StartTag (codes "input") (attribute (codes "id") (codes "1") ∷ attribute (codes "class") (codes "2") ∷ []) ∷ end (codes "listing") ∷ Text (codes "x") ∷ Text (codes " x") ∷ end (codes "pre") ∷ end (codes "del") ∷ start (codes "pre") ∷ Text (codes "y") ∷ end (codes "pre") ∷ end (codes "listing") ∷ end (codes "pre") ∷ [])
-    ∷ (end (codes "input") ∷ Text (10 ∷ 10 ∷ []) ∷ [])
-    ∷ (Text (codes "x") ∷ start (codes "wbr") ∷ Text (codes "x y") ∷ start (codes "h1") ∷ Text (10 ∷ []) ∷ StartTag (codes "ul") (attribute (codes "class") (codes "1") ∷ []) ∷ end (codes "ul") ∷ [])
+    ∷ (Text (codes "x y") ∷ StartTag (codes "listing") (attribute (codes "class") (codes "1") ∷ []) ∷ end (codes "listing") ∷ Text (codes "x") ∷ Text (codes " x") ∷ Text (codes " ") ∷ [])
+    ∷ (end (codes "rt") ∷ Text (codes " x") ∷ Text (codes "x y") ∷ end (codes "listing") ∷ StartTag (codes "strong") (attribute (codes "id") (codes "1") ∷ attribute (codes "class") (codes "2") ∷ []) ∷ end (codes "strong") ∷ end (codes "rt") ∷ start (codes "strong") ∷ Text (codes " ") ∷ end (codes "strong") ∷ StartTag (codes "strong") (attribute (codes "class") (codes "2") ∷ attribute (codes "id") (codes "1") ∷ []) ∷ end (codes "strong") ∷ Text (codes "x") ∷ [])
+    ∷ (start (codes "a") ∷ start (codes "a") ∷ start (codes "div") ∷ start (codes "span") ∷ start (codes "span") ∷ start (codes "span") ∷ start (codes "span") ∷ start (codes "div") ∷ start (codes "div") ∷ start (codes "div") ∷ start (codes "b") ∷ Text (codes "y") ∷ end (codes "nobr") ∷ Text (codes "y") ∷ [])
     ∷ (start (codes "listing") ∷ end (codes "listing") ∷ Text (codes "y") ∷ StartTag (codes "td") (attribute (codes "class") (codes "1") ∷ []) ∷ end (codes "listing") ∷ end (codes "td") ∷ end (codes "listing") ∷ start (codes "listing") ∷ start (codes "listing") ∷ start (codes "td") ∷ Text (codes "x") ∷ end (codes "td") ∷ end (codes "td") ∷ [])
-    ∷ (StartTag (codes "dd") (attribute (codes "id") (codes "1") ∷ attribute (codes "class") (codes "2") ∷ []) ∷ end (codes "dd") ∷ start (codes "dd") ∷ start (codes "table") ∷ StartTag (codes "dd") (attribute (codes "class") (codes "2") ∷ attribute (codes "id") (codes "1") ∷ []) ∷ end (codes "dd") ∷ start (codes "dd") ∷ start (codes "table") ∷ start (codes "caption") ∷ Text (10 ∷ 120 ∷ []) ∷ Text (10 ∷ []) ∷ [])
+    ∷ (Text (10 ∷ 10 ∷ []) ∷ Text [] ∷ StartTag (codes "h1") (attribute (codes "class") (codes "2") ∷ attribute (codes "id") (codes "1") ∷ []) ∷ end (codes "h1") ∷ start (codes "dd") ∷ Text (10 ∷ 10 ∷ []) ∷ Text (codes "x ") ∷ end (codes "dd") ∷ Text (10 ∷ 120 ∷ []) ∷ [])
     ∷ []
 
 trees_11_answers : List Tree
 trees_11_answers =
     (Element (Element (Characters (Element Nothing (codes "br") [] Nothing) (codes " x")) (codes "h2") [] (Characters (Element (Characters Nothing (codes "x")) (codes "br") (attribute (codes "id") (codes "1") ∷ attribute (codes "class") (codes "2") ∷ []) Nothing) (10 ∷ 10 ∷ 32 ∷ 120 ∷ []))) (codes "h2") [] Nothing)
-    ∷ (Element (Characters (Element Nothing (codes "pre") [] (Element Nothing (codes "h2") (attribute (codes "class") (codes "1") ∷ []) Nothing)) (10 ∷ [])) (codes "center") [] (Element Nothing (codes "ruby") [] Nothing))
-    ∷ (Element (Element Nothing (codes "table") [] Nothing) (codes "search") (attribute (codes "class") (codes "1") ∷ []) (Element (Characters Nothing (codes "y")) (codes "del") [] (Characters Nothing (10 ∷ 120 ∷ 10 ∷ 120 ∷ []))))
-    ∷ (Element (Element (Element (Characters Nothing (120 ∷ 32 ∷ 120 ∷ 32 ∷ 121 ∷ 10 ∷ 10 ∷ [])) (codes "p") [] Nothing) (codes "dt") [] (Element Nothing (codes "li") (attribute (codes "class") (codes "1") ∷ []) Nothing)) (codes "li") (attribute (codes "class") (codes "2") ∷ attribute (codes "id") (codes "1") ∷ []) (Element (Element Nothing (codes "dt") [] (Element Nothing (codes "strike") (attribute (codes "class") (codes "2") ∷ attribute (codes "id") (codes "1") ∷ []) Nothing)) (codes "dt") [] Nothing))
+    ∷ (Element (Characters (Element (Characters Nothing (codes "x yx y")) (codes "h2") [] Nothing) (codes "x ")) (codes "table") [] (Element Nothing (codes "tbody") [] (Element Nothing (codes "tr") [] (Element Nothing (codes "td") (attribute (codes "class") (codes "2") ∷ attribute (codes "id") (codes "1") ∷ []) (Element (Element Nothing (codes "ruby") (attribute (codes "id") (codes "1") ∷ attribute (codes "class") (codes "2") ∷ []) Nothing) (codes "table") (attribute (codes "id") (codes "1") ∷ attribute (codes "class") (codes "2") ∷ []) Nothing)))))
+    ∷ (Element Nothing (codes "table") [] Nothing)
+    ∷ (Element (Element (Element (Element (Element Nothing (codes "nobr") [] Nothing) (codes "li") [] (Element (Element (Element (Element (Element Nothing (codes "nobr") [] (Element (Characters Nothing (codes "yy")) (codes "a") [] Nothing)) (codes "a") [] (Element Nothing (codes "nobr") [] (Element Nothing (codes "ul") [] (Characters Nothing (codes "x"))))) (codes "nobr") [] (Characters Nothing (codes "x"))) (codes "nobr") [] (Element Nothing (codes "a") [] Nothing)) (codes "a") [] (Element (Characters (Element Nothing (codes "div") [] (Element Nothing (codes "nobr") [] (Characters Nothing (codes "y")))) (codes "x")) (codes "nobr") [] Nothing))) (codes "li") [] (Element Nothing (codes "a") [] (Element Nothing (codes "nobr") [] (Characters Nothing (codes "y"))))) (codes "a") [] (Element (Characters Nothing (codes "y")) (codes "i") [] Nothing)) (codes "i") [] (Element (Element Nothing (codes "a") [] Nothing) (codes "a") [] (Element (Element Nothing (codes "li") [] Nothing) (codes "li") [] (Characters Nothing (codes "yx")))))
     ∷ (Element (Characters Nothing (codes "y")) (codes "rtc") [] (Element (Element Nothing (codes "rtc") (attribute (codes "class") (codes "1") ∷ []) Nothing) (codes "table") (attribute (codes "class") (codes "1") ∷ []) (Element Nothing (codes "tbody") [] (Element Nothing (codes "tr") [] (Element (Element (Element Nothing (codes "td") [] Nothing) (codes "td") [] Nothing) (codes "td") [] Nothing)))))
-    ∷ (Element (Characters (Element (Characters Nothing (codes "x")) (codes "listing") [] (Element Nothing (codes "input") (attribute (codes "id") (codes "1") ∷ attribute (codes "class") (codes "2") ∷ []) Nothing)) (codes "x x")) (codes "pre") [] (Characters Nothing (codes "y")))
-    ∷ (Characters Nothing (10 ∷ 10 ∷ []))
-    ∷ (Element (Characters (Element (Characters Nothing (codes "x")) (codes "wbr") [] Nothing) (codes "x y")) (codes "h1") [] (Element (Characters Nothing (10 ∷ [])) (codes "ul") (attribute (codes "class") (codes "1") ∷ []) Nothing))
+    ∷ (Characters (Element (Characters Nothing (codes "x y")) (codes "listing") (attribute (codes "class") (codes "1") ∷ []) Nothing) (codes "x x "))
+    ∷ (Characters (Element (Element (Element (Characters Nothing (codes " xx y")) (codes "strong") (attribute (codes "id") (codes "1") ∷ attribute (codes "class") (codes "2") ∷ []) Nothing) (codes "strong") [] (Characters Nothing (codes " "))) (codes "strong") (attribute (codes "class") (codes "2") ∷ attribute (codes "id") (codes "1") ∷ []) Nothing) (codes "x"))
+    ∷ (Element (Element Nothing (codes "a") [] Nothing) (codes "a") [] (Element Nothing (codes "div") [] (Element Nothing (codes "span") [] (Element Nothing (codes "span") [] (Element Nothing (codes "span") [] (Element Nothing (codes "span") [] (Element Nothing (codes "div") [] (Element Nothing (codes "div") [] (Element Nothing (codes "div") [] (Element Nothing (codes "b") [] (Characters Nothing (codes "yy"))))))))))))
     ∷ (Element (Characters (Element Nothing (codes "listing") [] Nothing) (codes "y")) (codes "listing") [] (Element Nothing (codes "listing") [] (Characters Nothing (codes "x"))))
-    ∷ (Element (Element Nothing (codes "dd") (attribute (codes "id") (codes "1") ∷ attribute (codes "class") (codes "2") ∷ []) Nothing) (codes "dd") [] (Element (Element (Element (Element Nothing (codes "dd") (attribute (codes "class") (codes "2") ∷ attribute (codes "id") (codes "1") ∷ []) Nothing) (codes "dd") [] Nothing) (codes "table") [] Nothing) (codes "table") [] (Element Nothing (codes "caption") [] (Characters Nothing (10 ∷ 120 ∷ 10 ∷ [])))))
+    ∷ (Characters (Element (Element (Characters Nothing (10 ∷ 10 ∷ [])) (codes "h1") (attribute (codes "class") (codes "2") ∷ attribute (codes "id") (codes "1") ∷ []) Nothing) (codes "dd") [] (Characters Nothing (10 ∷ 10 ∷ 120 ∷ 32 ∷ []))) (10 ∷ 120 ∷ []))
     ∷ []
 
 trees_11 : map tree_of trees_11_items ≡ trees_11_answers
@@ -413,30 +405,30 @@ trees_11 = refl
 
 trees_12_items : List (List Item)
 trees_12_items =
-    (Text (codes " x") ∷ [])
-    ∷ (end (codes "div") ∷ StartTag (codes "dl") (attribute (codes "class") (codes "1") ∷ []) ∷ end (codes "dl") ∷ Text (10 ∷ []) ∷ end (codes "rt") ∷ start (codes "ul") ∷ Text (codes " x") ∷ end (codes "ul") ∷ end (codes "center") ∷ start (codes "samp") ∷ end (codes "samp") ∷ start (codes "ul") ∷ Text (10 ∷ []) ∷ end (codes "ul") ∷ [])
+    (Text (10 ∷ 120 ∷ []) ∷ start (codes "bdi") ∷ end (codes "bdi") ∷ start (codes "bdi") ∷ end (codes "bdi") ∷ start (codes "ol") ∷ start (codes "ol") ∷ [])
+    ∷ (start (codes "i") ∷ start (codes "u") ∷ start (codes "u") ∷ start (codes "div") ∷ Text (codes "y") ∷ end (codes "u") ∷ end (codes "nobr") ∷ end (codes "i") ∷ Text (codes "x") ∷ start (codes "nobr") ∷ start (codes "div") ∷ start (codes "div") ∷ start (codes "div") ∷ start (codes "div") ∷ start (codes "div") ∷ start (codes "div") ∷ start (codes "div") ∷ start (codes "div") ∷ start (codes "div") ∷ Text (codes "x") ∷ end (codes "nobr") ∷ Text (codes "y") ∷ [])
     ∷ (end (codes "li") ∷ start (codes "table") ∷ Text (codes " x") ∷ end (codes "table") ∷ Text (10 ∷ []) ∷ start (codes "table") ∷ start (codes "tfoot") ∷ end (codes "tfoot") ∷ StartTag (codes "tfoot") (attribute (codes "id") (codes "1") ∷ attribute (codes "class") (codes "2") ∷ []) ∷ StartTag (codes "li") (attribute (codes "class") (codes "2") ∷ attribute (codes "id") (codes "1") ∷ []) ∷ start (codes "tr") ∷ start (codes "table") ∷ [])
-    ∷ (end (codes "i") ∷ start (codes "i") ∷ StartTag (codes "i") (attribute (codes "id") (codes "1") ∷ attribute (codes "class") (codes "2") ∷ []) ∷ start (codes "i") ∷ Text (codes "x ") ∷ start (codes "dd") ∷ start (codes "i") ∷ Text (codes "x y") ∷ end (codes "i") ∷ StartTag (codes "i") (attribute (codes "class") (codes "2") ∷ attribute (codes "id") (codes "1") ∷ []) ∷ end (codes "i") ∷ [])
-    ∷ (start (codes "hgroup") ∷ end (codes "hgroup") ∷ Text (codes " x") ∷ Text (codes "x ") ∷ [])
-    ∷ (start (codes "s") ∷ Text (10 ∷ []) ∷ Text (codes " x") ∷ start (codes "s") ∷ end (codes "s") ∷ [])
+    ∷ (start (codes "i") ∷ StartTag (codes "i") (attribute (codes "id") (codes "1") ∷ attribute (codes "class") (codes "2") ∷ []) ∷ start (codes "i") ∷ Text (codes "x ") ∷ start (codes "dd") ∷ start (codes "i") ∷ Text (codes "x y") ∷ end (codes "i") ∷ end (codes "dd") ∷ end (codes "i") ∷ end (codes "i") ∷ end (codes "i") ∷ [])
+    ∷ (start (codes "hgroup") ∷ start (codes "tr") ∷ start (codes "td") ∷ StartTag (codes "hgroup") (attribute (codes "class") (codes "2") ∷ attribute (codes "id") (codes "1") ∷ []) ∷ Text [] ∷ Text (10 ∷ 10 ∷ []) ∷ end (codes "hgroup") ∷ end (codes "td") ∷ StartTag (codes "th") (attribute (codes "class") (codes "1") ∷ []) ∷ start (codes "td") ∷ start (codes "tr") ∷ [])
+    ∷ (start (codes "nobr") ∷ start (codes "div") ∷ Text (codes "y") ∷ end (codes "div") ∷ end (codes "nobr") ∷ end (codes "nobr") ∷ Text (codes "y") ∷ [])
     ∷ (end (codes "img") ∷ Text (10 ∷ 120 ∷ []) ∷ start (codes "h1") ∷ start (codes "h1") ∷ end (codes "h1") ∷ start (codes "tbody") ∷ [])
-    ∷ (StartTag (codes "kbd") (attribute (codes "class") (codes "1") ∷ []) ∷ StartTag (codes "ruby") (attribute (codes "class") (codes "1") ∷ []) ∷ StartTag (codes "kbd") (attribute (codes "id") (codes "1") ∷ attribute (codes "class") (codes "2") ∷ []) ∷ end (codes "ruby") ∷ Text [] ∷ Text (10 ∷ 120 ∷ []) ∷ Text (codes "x ") ∷ Text (codes " ") ∷ end (codes "kbd") ∷ StartTag (codes "tr") (attribute (codes "class") (codes "1") ∷ []) ∷ start (codes "td") ∷ Text (10 ∷ 120 ∷ []) ∷ start (codes "tr") ∷ start (codes "tr") ∷ end (codes "tr") ∷ start (codes "tr") ∷ [])
-    ∷ (StartTag (codes "p") (attribute (codes "id") (codes "1") ∷ attribute (codes "class") (codes "2") ∷ []) ∷ end (codes "p") ∷ start (codes "h3") ∷ start (codes "search") ∷ Text (codes "x") ∷ Text (codes "y") ∷ end (codes "search") ∷ end (codes "h3") ∷ [])
-    ∷ (StartTag (codes "rb") (attribute (codes "id") (codes "1") ∷ attribute (codes "class") (codes "2") ∷ []) ∷ StartTag (codes "font") (attribute (codes "class") (codes "1") ∷ []) ∷ end (codes "font") ∷ start (codes "h1") ∷ end (codes "h1") ∷ end (codes "form") ∷ Text (codes "y") ∷ [])
+    ∷ (Text (10 ∷ 120 ∷ []) ∷ Text (codes "x ") ∷ Text (codes " ") ∷ Text (10 ∷ 120 ∷ []) ∷ start (codes "kbd") ∷ start (codes "ruby") ∷ end (codes "ruby") ∷ end (codes "kbd") ∷ [])
+    ∷ (end (codes "dd") ∷ start (codes "tbody") ∷ StartTag (codes "search") (attribute (codes "id") (codes "1") ∷ attribute (codes "class") (codes "2") ∷ []) ∷ start (codes "ul") ∷ Text (codes "x ") ∷ Text (codes "x y") ∷ end (codes "tbody") ∷ start (codes "search") ∷ Text (codes "x") ∷ Text (codes "y") ∷ end (codes "ul") ∷ Text (10 ∷ 120 ∷ []) ∷ end (codes "p") ∷ Text [] ∷ end (codes "search") ∷ Text (codes "x y") ∷ [])
+    ∷ (start (codes "u") ∷ start (codes "u") ∷ start (codes "u") ∷ start (codes "div") ∷ start (codes "div") ∷ start (codes "div") ∷ start (codes "div") ∷ start (codes "div") ∷ start (codes "div") ∷ start (codes "div") ∷ start (codes "div") ∷ start (codes "div") ∷ Text (codes "x") ∷ end (codes "u") ∷ Text (codes "y") ∷ start (codes "u") ∷ start (codes "u") ∷ start (codes "div") ∷ start (codes "div") ∷ start (codes "div") ∷ start (codes "div") ∷ start (codes "div") ∷ start (codes "div") ∷ start (codes "div") ∷ start (codes "div") ∷ start (codes "div") ∷ Text (codes "y") ∷ end (codes "u") ∷ end (codes "u") ∷ Text (codes "y") ∷ start (codes "u") ∷ start (codes "div") ∷ Text (codes "y") ∷ end (codes "u") ∷ end (codes "i") ∷ end (codes "div") ∷ Text (codes "x") ∷ start (codes "i") ∷ start (codes "div") ∷ start (codes "div") ∷ start (codes "div") ∷ start (codes "div") ∷ start (codes "div") ∷ start (codes "div") ∷ start (codes "div") ∷ start (codes "div") ∷ start (codes "div") ∷ Text (codes "y") ∷ end (codes "i") ∷ Text (codes "y") ∷ start (codes "u") ∷ start (codes "i") ∷ start (codes "i") ∷ start (codes "div") ∷ Text (codes "y") ∷ end (codes "i") ∷ end (codes "div") ∷ Text (codes "x") ∷ [])
     ∷ []
 
 trees_12_answers : List Tree
 trees_12_answers =
-    (Characters Nothing (codes " x"))
-    ∷ (Element (Element (Element (Characters (Element Nothing (codes "dl") (attribute (codes "class") (codes "1") ∷ []) Nothing) (10 ∷ [])) (codes "ul") [] (Characters Nothing (codes " x"))) (codes "samp") [] Nothing) (codes "ul") [] (Characters Nothing (10 ∷ [])))
+    (Element (Element (Element (Characters Nothing (10 ∷ 120 ∷ [])) (codes "bdi") [] Nothing) (codes "bdi") [] Nothing) (codes "ol") [] (Element Nothing (codes "ol") [] Nothing))
+    ∷ (Element (Element Nothing (codes "i") [] (Element Nothing (codes "u") [] (Element Nothing (codes "u") [] Nothing))) (codes "u") [] (Element Nothing (codes "div") [] (Element (Element (Characters (Element Nothing (codes "i") [] (Element Nothing (codes "u") [] (Characters Nothing (codes "y")))) (codes "x")) (codes "nobr") [] Nothing) (codes "div") [] (Element (Element Nothing (codes "nobr") [] Nothing) (codes "div") [] (Element (Element Nothing (codes "nobr") [] Nothing) (codes "div") [] (Element (Element Nothing (codes "nobr") [] Nothing) (codes "div") [] (Element (Element Nothing (codes "nobr") [] Nothing) (codes "div") [] (Element (Element Nothing (codes "nobr") [] Nothing) (codes "div") [] (Element (Element Nothing (codes "nobr") [] Nothing) (codes "div") [] (Element (Element Nothing (codes "nobr") [] Nothing) (codes "div") [] (Element Nothing (codes "nobr") [] (Element Nothing (codes "div") [] (Characters Nothing (codes "xy"))))))))))))))
     ∷ (Element (Element (Element (Characters (Element (Characters Nothing (codes " x")) (codes "table") [] Nothing) (10 ∷ [])) (codes "li") (attribute (codes "class") (codes "2") ∷ attribute (codes "id") (codes "1") ∷ []) Nothing) (codes "table") [] (Element (Element Nothing (codes "tfoot") [] Nothing) (codes "tfoot") (attribute (codes "id") (codes "1") ∷ attribute (codes "class") (codes "2") ∷ []) (Element Nothing (codes "tr") [] Nothing))) (codes "table") [] Nothing)
-    ∷ (Element Nothing (codes "i") [] (Element Nothing (codes "i") (attribute (codes "id") (codes "1") ∷ attribute (codes "class") (codes "2") ∷ []) (Element Nothing (codes "i") [] (Element (Characters Nothing (codes "x ")) (codes "dd") [] (Element (Element Nothing (codes "i") [] (Characters Nothing (codes "x y"))) (codes "i") (attribute (codes "class") (codes "2") ∷ attribute (codes "id") (codes "1") ∷ []) Nothing)))))
-    ∷ (Characters (Element Nothing (codes "hgroup") [] Nothing) (codes " xx "))
-    ∷ (Element Nothing (codes "s") [] (Element (Characters Nothing (10 ∷ 32 ∷ 120 ∷ [])) (codes "s") [] Nothing))
+    ∷ (Element Nothing (codes "i") [] (Element Nothing (codes "i") (attribute (codes "id") (codes "1") ∷ attribute (codes "class") (codes "2") ∷ []) (Element Nothing (codes "i") [] (Element (Characters Nothing (codes "x ")) (codes "dd") [] (Element Nothing (codes "i") [] (Characters Nothing (codes "x y")))))))
+    ∷ (Element Nothing (codes "hgroup") [] (Element Nothing (codes "hgroup") (attribute (codes "class") (codes "2") ∷ attribute (codes "id") (codes "1") ∷ []) (Characters Nothing (10 ∷ 10 ∷ []))))
+    ∷ (Characters (Element Nothing (codes "nobr") [] (Element Nothing (codes "div") [] (Characters Nothing (codes "y")))) (codes "y"))
     ∷ (Element (Element (Characters Nothing (10 ∷ 120 ∷ [])) (codes "h1") [] Nothing) (codes "h1") [] Nothing)
-    ∷ (Characters (Element Nothing (codes "kbd") (attribute (codes "class") (codes "1") ∷ []) (Characters (Element Nothing (codes "ruby") (attribute (codes "class") (codes "1") ∷ []) (Element Nothing (codes "kbd") (attribute (codes "id") (codes "1") ∷ attribute (codes "class") (codes "2") ∷ []) Nothing)) (10 ∷ 120 ∷ 120 ∷ 32 ∷ 32 ∷ []))) (10 ∷ 120 ∷ []))
-    ∷ (Element (Element Nothing (codes "p") (attribute (codes "id") (codes "1") ∷ attribute (codes "class") (codes "2") ∷ []) Nothing) (codes "h3") [] (Element Nothing (codes "search") [] (Characters Nothing (codes "xy"))))
-    ∷ (Element Nothing (codes "rb") (attribute (codes "id") (codes "1") ∷ attribute (codes "class") (codes "2") ∷ []) (Characters (Element (Element Nothing (codes "font") (attribute (codes "class") (codes "1") ∷ []) Nothing) (codes "h1") [] Nothing) (codes "y")))
+    ∷ (Element (Characters Nothing (10 ∷ 120 ∷ 120 ∷ 32 ∷ 32 ∷ 10 ∷ 120 ∷ [])) (codes "kbd") [] (Element Nothing (codes "ruby") [] Nothing))
+    ∷ (Characters (Element Nothing (codes "search") (attribute (codes "id") (codes "1") ∷ attribute (codes "class") (codes "2") ∷ []) (Element (Characters (Element Nothing (codes "ul") [] (Element (Characters Nothing (codes "x x y")) (codes "search") [] (Characters Nothing (codes "xy")))) (10 ∷ 120 ∷ [])) (codes "p") [] Nothing)) (codes "x y"))
+    ∷ (Element Nothing (codes "u") [] (Element Nothing (codes "u") [] (Element (Element Nothing (codes "u") [] Nothing) (codes "div") [] (Element (Element Nothing (codes "u") [] Nothing) (codes "div") [] (Element (Element Nothing (codes "u") [] Nothing) (codes "div") [] (Element (Element Nothing (codes "u") [] Nothing) (codes "div") [] (Element (Element Nothing (codes "u") [] Nothing) (codes "div") [] (Element (Element Nothing (codes "u") [] Nothing) (codes "div") [] (Element (Element Nothing (codes "u") [] Nothing) (codes "div") [] (Element (Element Nothing (codes "u") [] Nothing) (codes "div") [] (Element Nothing (codes "u") [] (Element Nothing (codes "div") [] (Element (Characters Nothing (codes "xy")) (codes "u") [] (Element (Element Nothing (codes "u") [] Nothing) (codes "div") [] (Element (Element Nothing (codes "u") [] Nothing) (codes "div") [] (Element (Element Nothing (codes "u") [] Nothing) (codes "div") [] (Element (Element Nothing (codes "u") [] Nothing) (codes "div") [] (Element (Element Nothing (codes "u") [] Nothing) (codes "div") [] (Element (Element Nothing (codes "u") [] Nothing) (codes "div") [] (Element (Element Nothing (codes "u") [] Nothing) (codes "div") [] (Element (Element Nothing (codes "u") [] Nothing) (codes "div") [] (Element (Element Nothing (codes "u") [] Nothing) (codes "div") [] (Element (Element (Characters (Element (Element (Characters (Element Nothing (codes "u") [] (Characters Nothing (codes "y"))) (codes "y")) (codes "u") [] Nothing) (codes "div") [] (Element Nothing (codes "u") [] (Characters Nothing (codes "y")))) (codes "x")) (codes "i") [] Nothing) (codes "div") [] (Element (Element Nothing (codes "i") [] Nothing) (codes "div") [] (Element (Element Nothing (codes "i") [] Nothing) (codes "div") [] (Element (Element Nothing (codes "i") [] Nothing) (codes "div") [] (Element (Element Nothing (codes "i") [] Nothing) (codes "div") [] (Element (Element Nothing (codes "i") [] Nothing) (codes "div") [] (Element (Element Nothing (codes "i") [] Nothing) (codes "div") [] (Element (Element Nothing (codes "i") [] Nothing) (codes "div") [] (Element Nothing (codes "i") [] (Element Nothing (codes "div") [] (Element (Characters Nothing (codes "yy")) (codes "u") [] (Element Nothing (codes "i") [] (Characters (Element (Element Nothing (codes "i") [] Nothing) (codes "div") [] (Element Nothing (codes "i") [] (Characters Nothing (codes "y")))) (codes "x"))))))))))))))))))))))))))))))))))))
     ∷ []
 
 trees_12 : map tree_of trees_12_items ≡ trees_12_answers
@@ -446,29 +438,29 @@ trees_12 = refl
 trees_13_items : List (List Item)
 trees_13_items =
     (start (codes "rp") ∷ end (codes "rp") ∷ StartTag (codes "small") (attribute (codes "class") (codes "1") ∷ []) ∷ Text (10 ∷ 120 ∷ []) ∷ [])
-    ∷ (Text [] ∷ start (codes "s") ∷ start (codes "q") ∷ start (codes "div") ∷ start (codes "h1") ∷ [])
-    ∷ (start (codes "rb") ∷ end (codes "rb") ∷ Text (codes "y") ∷ start (codes "input") ∷ Text (codes "x ") ∷ [])
-    ∷ (start (codes "i") ∷ end (codes "table") ∷ end (codes "i") ∷ end (codes "i") ∷ start (codes "dl") ∷ start (codes "ol") ∷ [])
+    ∷ (Text (10 ∷ 120 ∷ []) ∷ start (codes "div") ∷ start (codes "h1") ∷ start (codes "div") ∷ Text (codes " ") ∷ end (codes "div") ∷ end (codes "h1") ∷ end (codes "div") ∷ [])
+    ∷ (Text (10 ∷ []) ∷ start (codes "rb") ∷ end (codes "rb") ∷ end (codes "col") ∷ StartTag (codes "table") (attribute (codes "class") (codes "2") ∷ attribute (codes "id") (codes "1") ∷ []) ∷ end (codes "table") ∷ end (codes "tr") ∷ end (codes "table") ∷ Text (codes "y") ∷ start (codes "col") ∷ start (codes "b") ∷ Text (codes "x") ∷ StartTag (codes "table") (attribute (codes "id") (codes "1") ∷ attribute (codes "class") (codes "2") ∷ []) ∷ Text (codes "x ") ∷ StartTag (codes "caption") (attribute (codes "class") (codes "2") ∷ attribute (codes "id") (codes "1") ∷ []) ∷ start (codes "input") ∷ [])
+    ∷ (start (codes "nobr") ∷ start (codes "nobr") ∷ start (codes "b") ∷ start (codes "b") ∷ start (codes "b") ∷ start (codes "div") ∷ start (codes "div") ∷ start (codes "div") ∷ start (codes "b") ∷ start (codes "span") ∷ start (codes "div") ∷ Text (codes "y") ∷ end (codes "nobr") ∷ end (codes "div") ∷ Text (codes "y") ∷ start (codes "nobr") ∷ start (codes "nobr") ∷ start (codes "nobr") ∷ start (codes "span") ∷ start (codes "div") ∷ Text (codes "y") ∷ end (codes "span") ∷ Text (codes "x") ∷ start (codes "nobr") ∷ start (codes "nobr") ∷ start (codes "b") ∷ Text (codes "x") ∷ end (codes "div") ∷ end (codes "nobr") ∷ end (codes "div") ∷ Text (codes "y") ∷ start (codes "nobr") ∷ start (codes "nobr") ∷ start (codes "nobr") ∷ start (codes "b") ∷ start (codes "div") ∷ start (codes "div") ∷ start (codes "div") ∷ start (codes "span") ∷ start (codes "b") ∷ start (codes "b") ∷ start (codes "span") ∷ start (codes "b") ∷ Text (codes "x") ∷ end (codes "span") ∷ end (codes "div") ∷ end (codes "b") ∷ Text (codes "y") ∷ [])
     ∷ (StartTag (codes "table") (attribute (codes "class") (codes "2") ∷ attribute (codes "id") (codes "1") ∷ []) ∷ end (codes "table") ∷ end (codes "p") ∷ end (codes "table") ∷ Text (codes "x ") ∷ end (codes "p") ∷ [])
-    ∷ (StartTag (codes "p") (attribute (codes "class") (codes "2") ∷ attribute (codes "id") (codes "1") ∷ []) ∷ StartTag (codes "dd") (attribute (codes "id") (codes "1") ∷ attribute (codes "class") (codes "2") ∷ []) ∷ start (codes "p") ∷ end (codes "p") ∷ start (codes "p") ∷ Text (10 ∷ 10 ∷ []) ∷ end (codes "dd") ∷ StartTag (codes "p") (attribute (codes "id") (codes "1") ∷ attribute (codes "class") (codes "2") ∷ []) ∷ start (codes "p") ∷ [])
-    ∷ (Text (10 ∷ []) ∷ Text (codes "x") ∷ start (codes "data") ∷ end (codes "data") ∷ [])
-    ∷ (start (codes "td") ∷ end (codes "td") ∷ start (codes "table") ∷ [])
+    ∷ (StartTag (codes "p") (attribute (codes "class") (codes "1") ∷ []) ∷ end (codes "p") ∷ Text (10 ∷ 10 ∷ []) ∷ Text (10 ∷ 10 ∷ []) ∷ start (codes "p") ∷ Text (10 ∷ []) ∷ end (codes "p") ∷ start (codes "p") ∷ end (codes "p") ∷ Text (10 ∷ 10 ∷ []) ∷ start (codes "dd") ∷ end (codes "dd") ∷ [])
+    ∷ (start (codes "footer") ∷ Text (codes "x y") ∷ Text (10 ∷ 10 ∷ []) ∷ start (codes "tr") ∷ end (codes "ul") ∷ end (codes "tr") ∷ end (codes "dialog") ∷ start (codes "dialog") ∷ StartTag (codes "data") (attribute (codes "class") (codes "1") ∷ []) ∷ start (codes "dialog") ∷ start (codes "ul") ∷ end (codes "dialog") ∷ StartTag (codes "dialog") (attribute (codes "id") (codes "1") ∷ attribute (codes "class") (codes "2") ∷ []) ∷ Text (codes "x y") ∷ StartTag (codes "colgroup") (attribute (codes "class") (codes "1") ∷ []) ∷ start (codes "table") ∷ end (codes "tr") ∷ [])
+    ∷ (start (codes "nobr") ∷ start (codes "nobr") ∷ start (codes "span") ∷ Text (codes "x") ∷ end (codes "span") ∷ end (codes "b") ∷ Text (codes "x") ∷ start (codes "nobr") ∷ start (codes "nobr") ∷ start (codes "b") ∷ Text (codes "x") ∷ end (codes "nobr") ∷ end (codes "b") ∷ Text (codes "x") ∷ start (codes "nobr") ∷ start (codes "div") ∷ start (codes "span") ∷ Text (codes "y") ∷ end (codes "span") ∷ Text (codes "y") ∷ start (codes "nobr") ∷ start (codes "div") ∷ start (codes "div") ∷ Text (codes "y") ∷ end (codes "b") ∷ end (codes "nobr") ∷ Text (codes "x") ∷ start (codes "nobr") ∷ start (codes "div") ∷ Text (codes "y") ∷ end (codes "span") ∷ Text (codes "x") ∷ [])
     ∷ (start (codes "table") ∷ end (codes "table") ∷ Text (10 ∷ 120 ∷ []) ∷ end (codes "h1") ∷ Text (codes "x y") ∷ StartTag (codes "th") (attribute (codes "class") (codes "2") ∷ attribute (codes "id") (codes "1") ∷ []) ∷ StartTag (codes "tr") (attribute (codes "id") (codes "1") ∷ attribute (codes "class") (codes "2") ∷ []) ∷ [])
-    ∷ (end (codes "ruby") ∷ end (codes "h4") ∷ start (codes "s") ∷ Text (codes "y") ∷ end (codes "s") ∷ Text (codes "x y") ∷ end (codes "s") ∷ start (codes "ruby") ∷ start (codes "dl") ∷ [])
+    ∷ (Text (codes "x") ∷ StartTag (codes "dl") (attribute (codes "class") (codes "2") ∷ attribute (codes "id") (codes "1") ∷ []) ∷ end (codes "dl") ∷ start (codes "ruby") ∷ start (codes "dl") ∷ StartTag (codes "form") (attribute (codes "class") (codes "2") ∷ attribute (codes "id") (codes "1") ∷ []) ∷ start (codes "h4") ∷ end (codes "h4") ∷ end (codes "form") ∷ Text [] ∷ end (codes "dl") ∷ Text (10 ∷ 10 ∷ []) ∷ Text (codes "x") ∷ end (codes "ruby") ∷ [])
     ∷ []
 
 trees_13_answers : List Tree
 trees_13_answers =
     (Element (Element Nothing (codes "rp") [] Nothing) (codes "small") (attribute (codes "class") (codes "1") ∷ []) (Characters Nothing (10 ∷ 120 ∷ [])))
-    ∷ (Element Nothing (codes "s") [] (Element Nothing (codes "q") [] (Element Nothing (codes "div") [] (Element Nothing (codes "h1") [] Nothing))))
-    ∷ (Characters (Element (Characters (Element Nothing (codes "rb") [] Nothing) (codes "y")) (codes "input") [] Nothing) (codes "x "))
-    ∷ (Element (Element Nothing (codes "i") [] Nothing) (codes "dl") [] (Element Nothing (codes "ol") [] Nothing))
+    ∷ (Element (Characters Nothing (10 ∷ 120 ∷ [])) (codes "div") [] (Element Nothing (codes "h1") [] (Element Nothing (codes "div") [] (Characters Nothing (codes " ")))))
+    ∷ (Element (Characters (Element (Element (Characters Nothing (10 ∷ [])) (codes "rb") [] Nothing) (codes "table") (attribute (codes "class") (codes "2") ∷ attribute (codes "id") (codes "1") ∷ []) Nothing) (codes "y")) (codes "b") [] (Element (Characters Nothing (codes "xx ")) (codes "table") (attribute (codes "id") (codes "1") ∷ attribute (codes "class") (codes "2") ∷ []) (Element Nothing (codes "caption") (attribute (codes "class") (codes "2") ∷ attribute (codes "id") (codes "1") ∷ []) (Element Nothing (codes "input") [] Nothing))))
+    ∷ (Element (Element (Element Nothing (codes "nobr") [] Nothing) (codes "nobr") [] (Element Nothing (codes "b") [] (Element Nothing (codes "b") [] (Element Nothing (codes "b") [] Nothing)))) (codes "b") [] (Element Nothing (codes "b") [] (Element Nothing (codes "div") [] (Element (Element Nothing (codes "nobr") [] Nothing) (codes "div") [] (Element (Element (Element Nothing (codes "nobr") [] Nothing) (codes "div") [] (Element (Element Nothing (codes "nobr") [] (Element Nothing (codes "b") [] (Element Nothing (codes "span") [] Nothing))) (codes "b") [] (Element (Element (Element (Element (Characters (Element Nothing (codes "div") [] (Element Nothing (codes "nobr") [] (Characters Nothing (codes "y")))) (codes "y")) (codes "nobr") [] Nothing) (codes "nobr") [] Nothing) (codes "nobr") [] (Element Nothing (codes "span") [] Nothing)) (codes "div") [] (Element (Element (Element Nothing (codes "nobr") [] (Characters Nothing (codes "yx"))) (codes "nobr") [] Nothing) (codes "nobr") [] (Element Nothing (codes "b") [] (Characters Nothing (codes "x"))))))) (codes "b") [] (Element Nothing (codes "b") [] (Element (Element (Element (Characters Nothing (codes "y")) (codes "nobr") [] Nothing) (codes "nobr") [] Nothing) (codes "nobr") [] (Element Nothing (codes "b") [] (Element Nothing (codes "div") [] (Element Nothing (codes "div") [] (Element (Element Nothing (codes "div") [] (Element Nothing (codes "span") [] (Element Nothing (codes "b") [] (Element Nothing (codes "b") [] (Element Nothing (codes "span") [] (Element Nothing (codes "b") [] (Characters Nothing (codes "x")))))))) (codes "b") [] (Element Nothing (codes "b") [] (Characters Nothing (codes "y"))))))))))))))
     ∷ (Element (Characters (Element (Element Nothing (codes "table") (attribute (codes "class") (codes "2") ∷ attribute (codes "id") (codes "1") ∷ []) Nothing) (codes "p") [] Nothing) (codes "x ")) (codes "p") [] Nothing)
-    ∷ (Element (Element (Element (Element Nothing (codes "p") (attribute (codes "class") (codes "2") ∷ attribute (codes "id") (codes "1") ∷ []) Nothing) (codes "dd") (attribute (codes "id") (codes "1") ∷ attribute (codes "class") (codes "2") ∷ []) (Element (Element Nothing (codes "p") [] Nothing) (codes "p") [] (Characters Nothing (10 ∷ 10 ∷ [])))) (codes "p") (attribute (codes "id") (codes "1") ∷ attribute (codes "class") (codes "2") ∷ []) Nothing) (codes "p") [] Nothing)
-    ∷ (Element (Characters Nothing (10 ∷ 120 ∷ [])) (codes "data") [] Nothing)
-    ∷ (Element Nothing (codes "table") [] Nothing)
+    ∷ (Element (Characters (Element (Element (Characters (Element Nothing (codes "p") (attribute (codes "class") (codes "1") ∷ []) Nothing) (10 ∷ 10 ∷ 10 ∷ 10 ∷ [])) (codes "p") [] (Characters Nothing (10 ∷ []))) (codes "p") [] Nothing) (10 ∷ 10 ∷ [])) (codes "dd") [] Nothing)
+    ∷ (Element Nothing (codes "footer") [] (Element (Characters Nothing (120 ∷ 32 ∷ 121 ∷ 10 ∷ 10 ∷ [])) (codes "dialog") [] (Element Nothing (codes "data") (attribute (codes "class") (codes "1") ∷ []) (Element (Element Nothing (codes "dialog") [] (Element Nothing (codes "ul") [] Nothing)) (codes "dialog") (attribute (codes "id") (codes "1") ∷ attribute (codes "class") (codes "2") ∷ []) (Element (Characters Nothing (codes "x y")) (codes "table") [] Nothing)))))
+    ∷ (Element (Element (Characters (Element (Element (Element (Element Nothing (codes "nobr") [] Nothing) (codes "nobr") [] (Characters (Element Nothing (codes "span") [] (Characters Nothing (codes "x"))) (codes "x"))) (codes "nobr") [] Nothing) (codes "nobr") [] (Element Nothing (codes "b") [] (Characters Nothing (codes "x")))) (codes "x")) (codes "nobr") [] Nothing) (codes "div") [] (Element (Element (Element Nothing (codes "nobr") [] (Characters (Element Nothing (codes "span") [] (Characters Nothing (codes "y"))) (codes "y"))) (codes "nobr") [] Nothing) (codes "div") [] (Element (Element Nothing (codes "nobr") [] Nothing) (codes "div") [] (Element (Characters (Element Nothing (codes "nobr") [] (Characters Nothing (codes "y"))) (codes "x")) (codes "nobr") [] (Element Nothing (codes "div") [] (Characters Nothing (codes "yx")))))))
     ∷ (Characters (Element Nothing (codes "table") [] Nothing) (10 ∷ 120 ∷ 120 ∷ 32 ∷ 121 ∷ []))
-    ∷ (Element (Characters (Element Nothing (codes "s") [] (Characters Nothing (codes "y"))) (codes "x y")) (codes "ruby") [] (Element Nothing (codes "dl") [] Nothing))
+    ∷ (Element (Element (Characters Nothing (codes "x")) (codes "dl") (attribute (codes "class") (codes "2") ∷ attribute (codes "id") (codes "1") ∷ []) Nothing) (codes "ruby") [] (Characters (Element Nothing (codes "dl") [] (Element Nothing (codes "form") (attribute (codes "class") (codes "2") ∷ attribute (codes "id") (codes "1") ∷ []) (Element Nothing (codes "h4") [] Nothing))) (10 ∷ 10 ∷ 120 ∷ [])))
     ∷ []
 
 trees_13 : map tree_of trees_13_items ≡ trees_13_answers
@@ -477,35 +469,195 @@ trees_13 = refl
 
 trees_14_items : List (List Item)
 trees_14_items =
-    (start (codes "nobr") ∷ end (codes "nobr") ∷ StartTag (codes "ruby") (attribute (codes "class") (codes "2") ∷ attribute (codes "id") (codes "1") ∷ []) ∷ Text (10 ∷ 120 ∷ []) ∷ end (codes "ruby") ∷ StartTag (codes "dt") (attribute (codes "id") (codes "1") ∷ attribute (codes "class") (codes "2") ∷ []) ∷ start (codes "rp") ∷ end (codes "rp") ∷ end (codes "dt") ∷ [])
-    ∷ (start (codes "ul") ∷ end (codes "ul") ∷ end (codes "pre") ∷ StartTag (codes "ul") (attribute (codes "class") (codes "1") ∷ []) ∷ Text (10 ∷ 10 ∷ []) ∷ Text [] ∷ Text (codes "x") ∷ start (codes "var") ∷ StartTag (codes "var") (attribute (codes "class") (codes "1") ∷ []) ∷ end (codes "var") ∷ Text (codes "x") ∷ end (codes "ul") ∷ end (codes "var") ∷ StartTag (codes "dfn") (attribute (codes "id") (codes "1") ∷ attribute (codes "class") (codes "2") ∷ []) ∷ [])
+    (start (codes "table") ∷ Text (codes "y") ∷ start (codes "ruby") ∷ Text (10 ∷ []) ∷ start (codes "nobr") ∷ StartTag (codes "dt") (attribute (codes "id") (codes "1") ∷ attribute (codes "class") (codes "2") ∷ []) ∷ start (codes "rp") ∷ start (codes "time") ∷ start (codes "table") ∷ end (codes "table") ∷ end (codes "rp") ∷ StartTag (codes "rp") (attribute (codes "class") (codes "2") ∷ attribute (codes "id") (codes "1") ∷ []) ∷ Text (codes " ") ∷ StartTag (codes "ruby") (attribute (codes "class") (codes "2") ∷ attribute (codes "id") (codes "1") ∷ []) ∷ Text (codes "x ") ∷ [])
+    ∷ (start (codes "a") ∷ start (codes "b") ∷ start (codes "b") ∷ start (codes "div") ∷ Text (codes "y") ∷ end (codes "a") ∷ Text (codes "x") ∷ [])
     ∷ (Text (codes "x ") ∷ end (codes "ul") ∷ start (codes "h5") ∷ end (codes "h5") ∷ end (codes "form") ∷ end (codes "a") ∷ Text (10 ∷ 10 ∷ []) ∷ start (codes "form") ∷ [])
-    ∷ (end (codes "p") ∷ end (codes "dd") ∷ end (codes "listing") ∷ start (codes "table") ∷ Text (codes " ") ∷ end (codes "table") ∷ end (codes "listing") ∷ end (codes "button") ∷ [])
-    ∷ (Text (codes "x y") ∷ start (codes "ins") ∷ Text (10 ∷ 120 ∷ []) ∷ end (codes "ins") ∷ [])
-    ∷ (Text (10 ∷ 120 ∷ []) ∷ end (codes "tr") ∷ Text (10 ∷ []) ∷ StartTag (codes "a") (attribute (codes "id") (codes "1") ∷ attribute (codes "class") (codes "2") ∷ []) ∷ end (codes "a") ∷ end (codes "pre") ∷ end (codes "tr") ∷ StartTag (codes "nobr") (attribute (codes "class") (codes "1") ∷ []) ∷ [])
+    ∷ (start (codes "listing") ∷ end (codes "listing") ∷ start (codes "dd") ∷ StartTag (codes "p") (attribute (codes "id") (codes "1") ∷ attribute (codes "class") (codes "2") ∷ []) ∷ end (codes "p") ∷ start (codes "hr") ∷ end (codes "dd") ∷ [])
+    ∷ (Text (codes "x y") ∷ end (codes "p") ∷ Text (10 ∷ 120 ∷ []) ∷ start (codes "ins") ∷ [])
+    ∷ (start (codes "u") ∷ start (codes "div") ∷ start (codes "div") ∷ start (codes "div") ∷ Text (codes "x") ∷ end (codes "div") ∷ Text (codes "x") ∷ start (codes "u") ∷ start (codes "u") ∷ start (codes "b") ∷ start (codes "div") ∷ start (codes "div") ∷ start (codes "div") ∷ start (codes "div") ∷ start (codes "div") ∷ start (codes "div") ∷ start (codes "div") ∷ start (codes "div") ∷ start (codes "div") ∷ Text (codes "x") ∷ end (codes "b") ∷ Text (codes "x") ∷ start (codes "b") ∷ start (codes "div") ∷ Text (codes "x") ∷ end (codes "u") ∷ end (codes "b") ∷ Text (codes "y") ∷ start (codes "u") ∷ start (codes "b") ∷ start (codes "u") ∷ start (codes "div") ∷ start (codes "div") ∷ Text (codes "x") ∷ end (codes "b") ∷ Text (codes "x") ∷ start (codes "b") ∷ start (codes "u") ∷ start (codes "div") ∷ Text (codes "x") ∷ end (codes "b") ∷ Text (codes "y") ∷ [])
     ∷ (Text (codes "x ") ∷ Text (10 ∷ 120 ∷ []) ∷ Text (10 ∷ []) ∷ start (codes "big") ∷ end (codes "big") ∷ [])
-    ∷ (start (codes "ul") ∷ start (codes "tr") ∷ StartTag (codes "th") (attribute (codes "class") (codes "2") ∷ attribute (codes "id") (codes "1") ∷ []) ∷ Text (10 ∷ 120 ∷ []) ∷ end (codes "th") ∷ start (codes "tbody") ∷ end (codes "tbody") ∷ StartTag (codes "th") (attribute (codes "id") (codes "1") ∷ attribute (codes "class") (codes "2") ∷ []) ∷ [])
-    ∷ (Text (10 ∷ 10 ∷ []) ∷ start (codes "h4") ∷ end (codes "h4") ∷ start (codes "h4") ∷ Text (codes "x y") ∷ Text (codes "y") ∷ start (codes "table") ∷ start (codes "caption") ∷ Text (10 ∷ []) ∷ end (codes "caption") ∷ end (codes "table") ∷ end (codes "h4") ∷ [])
-    ∷ (end (codes "table") ∷ start (codes "table") ∷ start (codes "table") ∷ StartTag (codes "tbody") (attribute (codes "class") (codes "1") ∷ []) ∷ [])
+    ∷ (StartTag (codes "ul") (attribute (codes "class") (codes "1") ∷ []) ∷ end (codes "ul") ∷ Text (codes "x y") ∷ start (codes "h3") ∷ Text (codes " ") ∷ StartTag (codes "samp") (attribute (codes "class") (codes "2") ∷ attribute (codes "id") (codes "1") ∷ []) ∷ end (codes "samp") ∷ start (codes "ul") ∷ Text (codes "y") ∷ Text (10 ∷ 120 ∷ []) ∷ Text (10 ∷ []) ∷ end (codes "ul") ∷ end (codes "h3") ∷ [])
+    ∷ (start (codes "listing") ∷ end (codes "listing") ∷ StartTag (codes "h4") (attribute (codes "class") (codes "2") ∷ attribute (codes "id") (codes "1") ∷ []) ∷ end (codes "h4") ∷ end (codes "h4") ∷ [])
+    ∷ (start (codes "i") ∷ start (codes "i") ∷ start (codes "i") ∷ start (codes "div") ∷ start (codes "div") ∷ Text (codes "x") ∷ end (codes "i") ∷ Text (codes "x") ∷ [])
     ∷ []
 
 trees_14_answers : List Tree
 trees_14_answers =
-    (Element (Element (Element Nothing (codes "nobr") [] Nothing) (codes "ruby") (attribute (codes "class") (codes "2") ∷ attribute (codes "id") (codes "1") ∷ []) (Characters Nothing (10 ∷ 120 ∷ []))) (codes "dt") (attribute (codes "id") (codes "1") ∷ attribute (codes "class") (codes "2") ∷ []) (Element Nothing (codes "rp") [] Nothing))
-    ∷ (Element (Element (Element Nothing (codes "ul") [] Nothing) (codes "ul") (attribute (codes "class") (codes "1") ∷ []) (Element (Characters Nothing (10 ∷ 10 ∷ 120 ∷ [])) (codes "var") [] (Characters (Element Nothing (codes "var") (attribute (codes "class") (codes "1") ∷ []) Nothing) (codes "x")))) (codes "dfn") (attribute (codes "id") (codes "1") ∷ attribute (codes "class") (codes "2") ∷ []) Nothing)
+    (Element (Element (Element (Element (Characters Nothing (codes "y")) (codes "ruby") [] (Element (Characters Nothing (10 ∷ [])) (codes "nobr") [] (Element (Element Nothing (codes "dt") (attribute (codes "id") (codes "1") ∷ attribute (codes "class") (codes "2") ∷ []) Nothing) (codes "rp") [] (Element Nothing (codes "time") [] Nothing)))) (codes "table") [] Nothing) (codes "table") [] Nothing) (codes "rp") (attribute (codes "class") (codes "2") ∷ attribute (codes "id") (codes "1") ∷ []) (Element Nothing (codes "nobr") [] (Element (Characters Nothing (codes " ")) (codes "ruby") (attribute (codes "class") (codes "2") ∷ attribute (codes "id") (codes "1") ∷ []) (Characters Nothing (codes "x ")))))
+    ∷ (Element (Element Nothing (codes "a") [] (Element Nothing (codes "b") [] (Element Nothing (codes "b") [] Nothing))) (codes "b") [] (Element Nothing (codes "b") [] (Element Nothing (codes "div") [] (Characters (Element Nothing (codes "a") [] (Characters Nothing (codes "y"))) (codes "x")))))
     ∷ (Element (Characters (Element (Characters Nothing (codes "x ")) (codes "h5") [] Nothing) (10 ∷ 10 ∷ [])) (codes "form") [] Nothing)
-    ∷ (Element (Element Nothing (codes "p") [] Nothing) (codes "table") [] (Characters Nothing (codes " ")))
-    ∷ (Element (Characters Nothing (codes "x y")) (codes "ins") [] (Characters Nothing (10 ∷ 120 ∷ [])))
-    ∷ (Element (Element (Characters Nothing (10 ∷ 120 ∷ 10 ∷ [])) (codes "a") (attribute (codes "id") (codes "1") ∷ attribute (codes "class") (codes "2") ∷ []) Nothing) (codes "nobr") (attribute (codes "class") (codes "1") ∷ []) Nothing)
+    ∷ (Element (Element Nothing (codes "listing") [] Nothing) (codes "dd") [] (Element (Element Nothing (codes "p") (attribute (codes "id") (codes "1") ∷ attribute (codes "class") (codes "2") ∷ []) Nothing) (codes "hr") [] Nothing))
+    ∷ (Element (Characters (Element (Characters Nothing (codes "x y")) (codes "p") [] Nothing) (10 ∷ 120 ∷ [])) (codes "ins") [] Nothing)
+    ∷ (Element Nothing (codes "u") [] (Element Nothing (codes "div") [] (Element Nothing (codes "div") [] (Element (Characters (Element Nothing (codes "div") [] (Characters Nothing (codes "x"))) (codes "x")) (codes "u") [] (Element (Element Nothing (codes "u") [] (Element Nothing (codes "b") [] Nothing)) (codes "div") [] (Element (Element Nothing (codes "u") [] (Element Nothing (codes "b") [] Nothing)) (codes "div") [] (Element (Element Nothing (codes "u") [] (Element Nothing (codes "b") [] Nothing)) (codes "div") [] (Element (Element Nothing (codes "u") [] (Element Nothing (codes "b") [] Nothing)) (codes "div") [] (Element (Element Nothing (codes "u") [] (Element Nothing (codes "b") [] Nothing)) (codes "div") [] (Element (Element Nothing (codes "u") [] (Element Nothing (codes "b") [] Nothing)) (codes "div") [] (Element (Element Nothing (codes "u") [] (Element Nothing (codes "b") [] Nothing)) (codes "div") [] (Element (Element Nothing (codes "u") [] (Element Nothing (codes "b") [] Nothing)) (codes "div") [] (Element Nothing (codes "u") [] (Element Nothing (codes "b") [] (Element Nothing (codes "div") [] (Element (Element (Characters Nothing (codes "xx")) (codes "b") [] Nothing) (codes "div") [] (Element (Characters (Element Nothing (codes "b") [] (Characters Nothing (codes "x"))) (codes "y")) (codes "u") [] (Element (Element Nothing (codes "b") [] (Element Nothing (codes "u") [] Nothing)) (codes "u") [] (Element Nothing (codes "div") [] (Element (Element Nothing (codes "b") [] Nothing) (codes "div") [] (Element (Element (Characters (Element Nothing (codes "b") [] (Characters Nothing (codes "x"))) (codes "x")) (codes "b") [] (Element Nothing (codes "u") [] Nothing)) (codes "u") [] (Element Nothing (codes "div") [] (Characters (Element Nothing (codes "b") [] (Characters Nothing (codes "x"))) (codes "y"))))))))))))))))))))))))
     ∷ (Element (Characters Nothing (120 ∷ 32 ∷ 10 ∷ 120 ∷ 10 ∷ [])) (codes "big") [] Nothing)
-    ∷ (Element Nothing (codes "ul") [] (Characters Nothing (10 ∷ 120 ∷ [])))
-    ∷ (Element (Element (Characters Nothing (10 ∷ 10 ∷ [])) (codes "h4") [] Nothing) (codes "h4") [] (Element (Characters Nothing (codes "x yy")) (codes "table") [] (Element Nothing (codes "caption") [] (Characters Nothing (10 ∷ [])))))
-    ∷ (Element (Element Nothing (codes "table") [] Nothing) (codes "table") [] (Element Nothing (codes "tbody") (attribute (codes "class") (codes "1") ∷ []) Nothing))
+    ∷ (Element (Characters (Element Nothing (codes "ul") (attribute (codes "class") (codes "1") ∷ []) Nothing) (codes "x y")) (codes "h3") [] (Element (Element (Characters Nothing (codes " ")) (codes "samp") (attribute (codes "class") (codes "2") ∷ attribute (codes "id") (codes "1") ∷ []) Nothing) (codes "ul") [] (Characters Nothing (121 ∷ 10 ∷ 120 ∷ 10 ∷ []))))
+    ∷ (Element (Element Nothing (codes "listing") [] Nothing) (codes "h4") (attribute (codes "class") (codes "2") ∷ attribute (codes "id") (codes "1") ∷ []) Nothing)
+    ∷ (Element Nothing (codes "i") [] (Element Nothing (codes "i") [] (Element (Element Nothing (codes "i") [] Nothing) (codes "div") [] (Element (Element Nothing (codes "i") [] Nothing) (codes "div") [] (Characters (Element Nothing (codes "i") [] (Characters Nothing (codes "x"))) (codes "x"))))))
     ∷ []
 
 trees_14 : map tree_of trees_14_items ≡ trees_14_answers
 unfolding trees_14_items trees_14_answers is_among kind_in all_names kind_of in_front whole_texts without_newlines near joined changed changed_before found without applied built bare has_node inside outside without_node is_bounded popped_until implied_ended has_entry without_entry last_named is_one_of are_all_of count_alike without_earliest pushed cleared last_table lost kept reopened ended_by furthest_block replaced inner_loop added_after adopted outer_loop innermost mode_of back_to is_hidden leading_space after_space process run
 trees_14 = refl
+
+trees_15_items : List (List Item)
+trees_15_items =
+    (end (codes "input") ∷ StartTag (codes "font") (attribute (codes "class") (codes "1") ∷ []) ∷ Text (codes " ") ∷ Text (codes " ") ∷ StartTag (codes "font") (attribute (codes "class") (codes "2") ∷ attribute (codes "id") (codes "1") ∷ []) ∷ [])
+    ∷ (start (codes "rp") ∷ end (codes "rp") ∷ Text (codes "x") ∷ Text (10 ∷ 120 ∷ []) ∷ StartTag (codes "ruby") (attribute (codes "class") (codes "2") ∷ attribute (codes "id") (codes "1") ∷ []) ∷ start (codes "ruby") ∷ start (codes "hr") ∷ StartTag (codes "rp") (attribute (codes "class") (codes "2") ∷ attribute (codes "id") (codes "1") ∷ []) ∷ start (codes "nobr") ∷ StartTag (codes "ruby") (attribute (codes "id") (codes "1") ∷ attribute (codes "class") (codes "2") ∷ []) ∷ end (codes "ruby") ∷ Text (codes "x y") ∷ end (codes "nobr") ∷ end (codes "rp") ∷ end (codes "ruby") ∷ end (codes "ruby") ∷ [])
+    ∷ (StartTag (codes "listing") (attribute (codes "class") (codes "1") ∷ []) ∷ start (codes "rb") ∷ start (codes "div") ∷ start (codes "listing") ∷ [])
+    ∷ (start (codes "b") ∷ start (codes "a") ∷ start (codes "div") ∷ Text (codes "y") ∷ end (codes "a") ∷ end (codes "div") ∷ Text (codes "y") ∷ start (codes "b") ∷ start (codes "a") ∷ start (codes "div") ∷ Text (codes "x") ∷ end (codes "a") ∷ end (codes "u") ∷ end (codes "a") ∷ Text (codes "y") ∷ start (codes "u") ∷ start (codes "a") ∷ start (codes "b") ∷ start (codes "div") ∷ start (codes "div") ∷ start (codes "div") ∷ Text (codes "y") ∷ end (codes "u") ∷ end (codes "div") ∷ Text (codes "y") ∷ start (codes "u") ∷ start (codes "a") ∷ start (codes "u") ∷ start (codes "div") ∷ start (codes "div") ∷ start (codes "div") ∷ Text (codes "x") ∷ end (codes "div") ∷ end (codes "u") ∷ Text (codes "y") ∷ start (codes "b") ∷ start (codes "b") ∷ start (codes "u") ∷ start (codes "div") ∷ Text (codes "y") ∷ end (codes "u") ∷ end (codes "b") ∷ Text (codes "x") ∷ [])
+    ∷ (StartTag (codes "h2") (attribute (codes "class") (codes "1") ∷ []) ∷ Text (codes "y") ∷ end (codes "h2") ∷ end (codes "tr") ∷ Text (codes "y") ∷ end (codes "td") ∷ Text (codes "x y") ∷ [])
+    ∷ (start (codes "header") ∷ end (codes "header") ∷ [])
+    ∷ (end (codes "h2") ∷ StartTag (codes "h1") (attribute (codes "class") (codes "2") ∷ attribute (codes "id") (codes "1") ∷ []) ∷ Text (codes "y") ∷ StartTag (codes "rtc") (attribute (codes "class") (codes "1") ∷ []) ∷ end (codes "rtc") ∷ end (codes "h1") ∷ Text (codes "x ") ∷ Text (10 ∷ []) ∷ start (codes "nobr") ∷ [])
+    ∷ (start (codes "a") ∷ start (codes "b") ∷ start (codes "b") ∷ start (codes "span") ∷ start (codes "span") ∷ Text (codes "y") ∷ end (codes "a") ∷ end (codes "a") ∷ Text (codes "y") ∷ [])
+    ∷ (start (codes "area") ∷ StartTag (codes "data") (attribute (codes "id") (codes "1") ∷ attribute (codes "class") (codes "2") ∷ []) ∷ start (codes "data") ∷ end (codes "data") ∷ [])
+    ∷ (start (codes "pre") ∷ end (codes "pre") ∷ start (codes "nobr") ∷ end (codes "nobr") ∷ Text (codes " ") ∷ end (codes "h4") ∷ Text (codes " ") ∷ start (codes "pre") ∷ StartTag (codes "listing") (attribute (codes "class") (codes "2") ∷ attribute (codes "id") (codes "1") ∷ []) ∷ Text (codes " ") ∷ StartTag (codes "form") (attribute (codes "class") (codes "2") ∷ attribute (codes "id") (codes "1") ∷ []) ∷ end (codes "form") ∷ end (codes "listing") ∷ end (codes "pre") ∷ [])
+    ∷ []
+
+trees_15_answers : List Tree
+trees_15_answers =
+    (Element Nothing (codes "font") (attribute (codes "class") (codes "1") ∷ []) (Element (Characters Nothing (codes "  ")) (codes "font") (attribute (codes "class") (codes "2") ∷ attribute (codes "id") (codes "1") ∷ []) Nothing))
+    ∷ (Element (Characters (Element Nothing (codes "rp") [] Nothing) (120 ∷ 10 ∷ 120 ∷ [])) (codes "ruby") (attribute (codes "class") (codes "2") ∷ attribute (codes "id") (codes "1") ∷ []) (Element Nothing (codes "ruby") [] (Element (Element Nothing (codes "hr") [] Nothing) (codes "rp") (attribute (codes "class") (codes "2") ∷ attribute (codes "id") (codes "1") ∷ []) (Element Nothing (codes "nobr") [] (Characters (Element Nothing (codes "ruby") (attribute (codes "id") (codes "1") ∷ attribute (codes "class") (codes "2") ∷ []) Nothing) (codes "x y"))))))
+    ∷ (Element Nothing (codes "listing") (attribute (codes "class") (codes "1") ∷ []) (Element Nothing (codes "rb") [] (Element Nothing (codes "div") [] (Element Nothing (codes "listing") [] Nothing))))
+    ∷ (Element Nothing (codes "b") [] (Element (Characters (Element (Element Nothing (codes "a") [] Nothing) (codes "div") [] (Element Nothing (codes "a") [] (Characters Nothing (codes "y")))) (codes "y")) (codes "b") [] (Element (Element Nothing (codes "a") [] Nothing) (codes "div") [] (Element (Element (Element (Characters (Element Nothing (codes "a") [] (Characters Nothing (codes "x"))) (codes "y")) (codes "u") [] (Element Nothing (codes "a") [] (Element Nothing (codes "b") [] Nothing))) (codes "a") [] (Element Nothing (codes "b") [] Nothing)) (codes "b") [] (Element Nothing (codes "div") [] (Element (Element Nothing (codes "a") [] (Element Nothing (codes "u") [] Nothing)) (codes "div") [] (Element (Element Nothing (codes "a") [] (Element (Characters (Element (Element Nothing (codes "u") [] Nothing) (codes "div") [] (Element Nothing (codes "u") [] (Characters Nothing (codes "y")))) (codes "y")) (codes "u") [] Nothing)) (codes "u") [] (Element Nothing (codes "a") [] (Element (Element Nothing (codes "u") [] Nothing) (codes "div") [] (Element (Element Nothing (codes "u") [] Nothing) (codes "div") [] (Element (Characters (Element Nothing (codes "u") [] (Element Nothing (codes "div") [] (Characters Nothing (codes "x")))) (codes "y")) (codes "b") [] (Element (Element Nothing (codes "b") [] (Element Nothing (codes "u") [] Nothing)) (codes "div") [] (Characters (Element Nothing (codes "b") [] (Element Nothing (codes "u") [] (Characters Nothing (codes "y")))) (codes "x"))))))))))))))
+    ∷ (Characters (Element Nothing (codes "h2") (attribute (codes "class") (codes "1") ∷ []) (Characters Nothing (codes "y"))) (codes "yx y"))
+    ∷ (Element Nothing (codes "header") [] Nothing)
+    ∷ (Element (Characters (Element Nothing (codes "h1") (attribute (codes "class") (codes "2") ∷ attribute (codes "id") (codes "1") ∷ []) (Element (Characters Nothing (codes "y")) (codes "rtc") (attribute (codes "class") (codes "1") ∷ []) Nothing)) (120 ∷ 32 ∷ 10 ∷ [])) (codes "nobr") [] Nothing)
+    ∷ (Element (Element Nothing (codes "a") [] (Element Nothing (codes "b") [] (Element Nothing (codes "b") [] (Element Nothing (codes "span") [] (Element Nothing (codes "span") [] (Characters Nothing (codes "y"))))))) (codes "b") [] (Element Nothing (codes "b") [] (Characters Nothing (codes "y"))))
+    ∷ (Element (Element Nothing (codes "area") [] Nothing) (codes "data") (attribute (codes "id") (codes "1") ∷ attribute (codes "class") (codes "2") ∷ []) (Element Nothing (codes "data") [] Nothing))
+    ∷ (Element (Characters (Element (Element Nothing (codes "pre") [] Nothing) (codes "nobr") [] Nothing) (codes "  ")) (codes "pre") [] (Element Nothing (codes "listing") (attribute (codes "class") (codes "2") ∷ attribute (codes "id") (codes "1") ∷ []) (Element (Characters Nothing (codes " ")) (codes "form") (attribute (codes "class") (codes "2") ∷ attribute (codes "id") (codes "1") ∷ []) Nothing)))
+    ∷ []
+
+trees_15 : map tree_of trees_15_items ≡ trees_15_answers
+unfolding trees_15_items trees_15_answers is_among kind_in all_names kind_of in_front whole_texts without_newlines near joined changed changed_before found without applied built bare has_node inside outside without_node is_bounded popped_until implied_ended has_entry without_entry last_named is_one_of are_all_of count_alike without_earliest pushed cleared last_table lost kept reopened ended_by furthest_block replaced inner_loop added_after adopted outer_loop innermost mode_of back_to is_hidden leading_space after_space process run
+trees_15 = refl
+
+trees_16_items : List (List Item)
+trees_16_items =
+    (start (codes "b") ∷ end (codes "b") ∷ start (codes "b") ∷ [])
+    ∷ (start (codes "b") ∷ start (codes "b") ∷ start (codes "b") ∷ start (codes "span") ∷ start (codes "span") ∷ Text (codes "x") ∷ end (codes "b") ∷ Text (codes "x") ∷ start (codes "b") ∷ start (codes "span") ∷ start (codes "div") ∷ Text (codes "x") ∷ end (codes "span") ∷ end (codes "div") ∷ end (codes "b") ∷ Text (codes "y") ∷ start (codes "b") ∷ start (codes "b") ∷ start (codes "div") ∷ Text (codes "y") ∷ end (codes "span") ∷ end (codes "b") ∷ Text (codes "y") ∷ start (codes "b") ∷ start (codes "span") ∷ start (codes "div") ∷ start (codes "b") ∷ start (codes "div") ∷ start (codes "span") ∷ start (codes "span") ∷ start (codes "div") ∷ start (codes "span") ∷ start (codes "b") ∷ Text (codes "x") ∷ end (codes "div") ∷ Text (codes "x") ∷ [])
+    ∷ (Text (10 ∷ []) ∷ start (codes "code") ∷ Text (codes "x ") ∷ end (codes "var") ∷ Text (10 ∷ 120 ∷ []) ∷ start (codes "code") ∷ end (codes "code") ∷ Text (codes "x y") ∷ Text (codes "y") ∷ end (codes "code") ∷ Text (10 ∷ []) ∷ end (codes "var") ∷ StartTag (codes "var") (attribute (codes "class") (codes "1") ∷ []) ∷ end (codes "var") ∷ [])
+    ∷ (Text (codes "y") ∷ [])
+    ∷ (end (codes "abbr") ∷ Text (codes "x ") ∷ end (codes "listing") ∷ start (codes "div") ∷ Text (codes "y") ∷ Text (10 ∷ 10 ∷ []) ∷ start (codes "abbr") ∷ start (codes "div") ∷ Text (10 ∷ 10 ∷ []) ∷ Text (codes "x ") ∷ start (codes "tr") ∷ start (codes "td") ∷ Text (codes "x y") ∷ [])
+    ∷ (start (codes "a") ∷ start (codes "a") ∷ start (codes "b") ∷ start (codes "ul") ∷ start (codes "ul") ∷ start (codes "div") ∷ Text (codes "y") ∷ end (codes "b") ∷ end (codes "a") ∷ Text (codes "x") ∷ start (codes "b") ∷ start (codes "b") ∷ start (codes "a") ∷ start (codes "div") ∷ start (codes "div") ∷ Text (codes "x") ∷ end (codes "ul") ∷ end (codes "a") ∷ Text (codes "y") ∷ start (codes "b") ∷ start (codes "b") ∷ start (codes "a") ∷ start (codes "ul") ∷ Text (codes "y") ∷ end (codes "ul") ∷ end (codes "a") ∷ end (codes "b") ∷ Text (codes "x") ∷ [])
+    ∷ (StartTag (codes "i") (attribute (codes "id") (codes "1") ∷ attribute (codes "class") (codes "2") ∷ []) ∷ start (codes "i") ∷ start (codes "q") ∷ end (codes "q") ∷ [])
+    ∷ (Text (codes " x") ∷ Text (10 ∷ 10 ∷ []) ∷ start (codes "rtc") ∷ end (codes "rtc") ∷ Text (codes "x y") ∷ Text (codes "x y") ∷ Text (codes "x") ∷ start (codes "table") ∷ end (codes "table") ∷ start (codes "h6") ∷ Text (codes " x") ∷ Text (codes "x y") ∷ start (codes "ol") ∷ start (codes "h6") ∷ start (codes "rtc") ∷ end (codes "rtc") ∷ end (codes "h6") ∷ end (codes "ol") ∷ end (codes "h6") ∷ [])
+    ∷ (Text (codes " x") ∷ StartTag (codes "colgroup") (attribute (codes "id") (codes "1") ∷ attribute (codes "class") (codes "2") ∷ []) ∷ start (codes "col") ∷ end (codes "colgroup") ∷ StartTag (codes "b") (attribute (codes "id") (codes "1") ∷ attribute (codes "class") (codes "2") ∷ []) ∷ Text (codes "y") ∷ [])
+    ∷ (start (codes "b") ∷ start (codes "b") ∷ start (codes "div") ∷ Text (codes "x") ∷ end (codes "div") ∷ Text (codes "x") ∷ start (codes "b") ∷ start (codes "b") ∷ start (codes "b") ∷ start (codes "p") ∷ start (codes "p") ∷ start (codes "div") ∷ start (codes "div") ∷ start (codes "div") ∷ start (codes "p") ∷ start (codes "p") ∷ start (codes "p") ∷ start (codes "div") ∷ Text (codes "y") ∷ end (codes "p") ∷ end (codes "b") ∷ Text (codes "y") ∷ start (codes "b") ∷ start (codes "p") ∷ Text (codes "y") ∷ end (codes "p") ∷ end (codes "div") ∷ end (codes "b") ∷ Text (codes "x") ∷ start (codes "b") ∷ start (codes "b") ∷ start (codes "b") ∷ start (codes "p") ∷ start (codes "p") ∷ start (codes "p") ∷ start (codes "div") ∷ start (codes "p") ∷ start (codes "p") ∷ start (codes "div") ∷ start (codes "p") ∷ start (codes "p") ∷ Text (codes "x") ∷ end (codes "b") ∷ end (codes "div") ∷ end (codes "div") ∷ Text (codes "x") ∷ start (codes "b") ∷ start (codes "div") ∷ Text (codes "y") ∷ end (codes "p") ∷ Text (codes "x") ∷ [])
+    ∷ []
+
+trees_16_answers : List Tree
+trees_16_answers =
+    (Element (Element Nothing (codes "b") [] Nothing) (codes "b") [] Nothing)
+    ∷ (Element Nothing (codes "b") [] (Element Nothing (codes "b") [] (Element (Characters (Element (Characters (Element Nothing (codes "b") [] (Element Nothing (codes "span") [] (Element Nothing (codes "span") [] (Characters Nothing (codes "x"))))) (codes "x")) (codes "b") [] (Element Nothing (codes "span") [] (Element Nothing (codes "div") [] (Characters Nothing (codes "x"))))) (codes "y")) (codes "b") [] (Element (Element Nothing (codes "b") [] Nothing) (codes "div") [] (Element (Characters (Element Nothing (codes "b") [] (Characters Nothing (codes "y"))) (codes "y")) (codes "b") [] (Element Nothing (codes "span") [] (Element Nothing (codes "div") [] (Element Nothing (codes "b") [] (Element Nothing (codes "div") [] (Element Nothing (codes "span") [] (Element Nothing (codes "span") [] (Element (Element Nothing (codes "div") [] (Element Nothing (codes "span") [] (Element Nothing (codes "b") [] (Characters Nothing (codes "x"))))) (codes "b") [] (Characters Nothing (codes "x"))))))))))))))
+    ∷ (Element (Characters (Element (Characters Nothing (10 ∷ [])) (codes "code") [] (Characters (Element (Characters Nothing (120 ∷ 32 ∷ 10 ∷ 120 ∷ [])) (codes "code") [] Nothing) (codes "x yy"))) (10 ∷ [])) (codes "var") (attribute (codes "class") (codes "1") ∷ []) Nothing)
+    ∷ (Characters Nothing (codes "y"))
+    ∷ (Element (Characters Nothing (codes "x ")) (codes "div") [] (Element (Characters Nothing (121 ∷ 10 ∷ 10 ∷ [])) (codes "abbr") [] (Element Nothing (codes "div") [] (Characters Nothing (10 ∷ 10 ∷ 120 ∷ 32 ∷ 120 ∷ 32 ∷ 121 ∷ [])))))
+    ∷ (Element (Element (Element Nothing (codes "a") [] Nothing) (codes "a") [] (Element Nothing (codes "b") [] Nothing)) (codes "ul") [] (Element (Element (Element Nothing (codes "a") [] (Element Nothing (codes "b") [] Nothing)) (codes "ul") [] (Element (Element Nothing (codes "a") [] (Element Nothing (codes "b") [] Nothing)) (codes "div") [] (Element (Characters (Element Nothing (codes "a") [] (Element Nothing (codes "b") [] (Characters Nothing (codes "y")))) (codes "x")) (codes "b") [] (Element Nothing (codes "b") [] (Element Nothing (codes "a") [] (Element Nothing (codes "div") [] (Element Nothing (codes "div") [] (Characters Nothing (codes "x"))))))))) (codes "b") [] (Element Nothing (codes "b") [] (Element (Characters Nothing (codes "y")) (codes "b") [] (Characters (Element Nothing (codes "b") [] (Element Nothing (codes "a") [] (Element Nothing (codes "ul") [] (Characters Nothing (codes "y"))))) (codes "x"))))))
+    ∷ (Element Nothing (codes "i") (attribute (codes "id") (codes "1") ∷ attribute (codes "class") (codes "2") ∷ []) (Element Nothing (codes "i") [] (Element Nothing (codes "q") [] Nothing)))
+    ∷ (Element (Element (Characters (Element (Characters Nothing (32 ∷ 120 ∷ 10 ∷ 10 ∷ [])) (codes "rtc") [] Nothing) (codes "x yx yx")) (codes "table") [] Nothing) (codes "h6") [] (Element (Characters Nothing (codes " xx y")) (codes "ol") [] (Element Nothing (codes "h6") [] (Element Nothing (codes "rtc") [] Nothing))))
+    ∷ (Element (Characters Nothing (codes " x")) (codes "b") (attribute (codes "id") (codes "1") ∷ attribute (codes "class") (codes "2") ∷ []) (Characters Nothing (codes "y")))
+    ∷ (Element Nothing (codes "b") [] (Element Nothing (codes "b") [] (Element (Characters (Element Nothing (codes "div") [] (Characters Nothing (codes "x"))) (codes "x")) (codes "b") [] (Element Nothing (codes "b") [] (Element (Element Nothing (codes "b") [] (Element (Element Nothing (codes "p") [] Nothing) (codes "p") [] Nothing)) (codes "div") [] (Element (Element Nothing (codes "b") [] Nothing) (codes "div") [] (Element (Element Nothing (codes "b") [] Nothing) (codes "div") [] (Element (Characters (Element (Element Nothing (codes "b") [] (Element (Element (Element Nothing (codes "p") [] Nothing) (codes "p") [] Nothing) (codes "p") [] Nothing)) (codes "div") [] (Element (Characters (Element Nothing (codes "b") [] (Element (Characters Nothing (codes "y")) (codes "p") [] Nothing)) (codes "y")) (codes "b") [] (Element Nothing (codes "p") [] (Characters Nothing (codes "y"))))) (codes "x")) (codes "b") [] (Element Nothing (codes "b") [] (Element (Characters (Element (Element Nothing (codes "b") [] (Element (Element (Element Nothing (codes "p") [] Nothing) (codes "p") [] Nothing) (codes "p") [] Nothing)) (codes "div") [] (Element (Element Nothing (codes "b") [] (Element (Element Nothing (codes "p") [] Nothing) (codes "p") [] Nothing)) (codes "div") [] (Element (Element Nothing (codes "b") [] (Element Nothing (codes "p") [] Nothing)) (codes "p") [] (Element Nothing (codes "b") [] (Characters Nothing (codes "x")))))) (codes "x")) (codes "b") [] (Element Nothing (codes "div") [] (Characters (Element (Characters Nothing (codes "y")) (codes "p") [] Nothing) (codes "x")))))))))))))
+    ∷ []
+
+trees_16 : map tree_of trees_16_items ≡ trees_16_answers
+unfolding trees_16_items trees_16_answers is_among kind_in all_names kind_of in_front whole_texts without_newlines near joined changed changed_before found without applied built bare has_node inside outside without_node is_bounded popped_until implied_ended has_entry without_entry last_named is_one_of are_all_of count_alike without_earliest pushed cleared last_table lost kept reopened ended_by furthest_block replaced inner_loop added_after adopted outer_loop innermost mode_of back_to is_hidden leading_space after_space process run
+trees_16 = refl
+
+trees_17_items : List (List Item)
+trees_17_items =
+    (start (codes "tr") ∷ end (codes "tr") ∷ Text (codes "x") ∷ start (codes "h1") ∷ Text (10 ∷ []) ∷ StartTag (codes "h1") (attribute (codes "class") (codes "1") ∷ []) ∷ Text (codes " ") ∷ Text [] ∷ end (codes "h1") ∷ end (codes "tr") ∷ Text (10 ∷ 10 ∷ []) ∷ StartTag (codes "tr") (attribute (codes "class") (codes "1") ∷ []) ∷ [])
+    ∷ (StartTag (codes "b") (attribute (codes "id") (codes "1") ∷ attribute (codes "class") (codes "2") ∷ []) ∷ start (codes "b") ∷ start (codes "mark") ∷ Text (10 ∷ 10 ∷ []) ∷ end (codes "mark") ∷ end (codes "b") ∷ start (codes "table") ∷ Text (10 ∷ 120 ∷ []) ∷ start (codes "tbody") ∷ end (codes "tbody") ∷ end (codes "table") ∷ end (codes "b") ∷ [])
+    ∷ (end (codes "li") ∷ StartTag (codes "li") (attribute (codes "class") (codes "2") ∷ attribute (codes "id") (codes "1") ∷ []) ∷ Text (codes "x y") ∷ end (codes "li") ∷ [])
+    ∷ (start (codes "b") ∷ start (codes "div") ∷ start (codes "div") ∷ Text (codes "y") ∷ end (codes "nobr") ∷ end (codes "b") ∷ end (codes "b") ∷ Text (codes "y") ∷ start (codes "nobr") ∷ start (codes "b") ∷ start (codes "b") ∷ start (codes "div") ∷ start (codes "div") ∷ Text (codes "x") ∷ end (codes "b") ∷ Text (codes "x") ∷ start (codes "b") ∷ start (codes "nobr") ∷ start (codes "b") ∷ start (codes "div") ∷ start (codes "p") ∷ start (codes "p") ∷ start (codes "div") ∷ start (codes "div") ∷ start (codes "p") ∷ start (codes "div") ∷ start (codes "div") ∷ start (codes "div") ∷ Text (codes "y") ∷ end (codes "nobr") ∷ end (codes "b") ∷ end (codes "div") ∷ Text (codes "y") ∷ start (codes "nobr") ∷ start (codes "nobr") ∷ start (codes "div") ∷ start (codes "p") ∷ start (codes "div") ∷ start (codes "div") ∷ start (codes "p") ∷ start (codes "p") ∷ start (codes "div") ∷ start (codes "p") ∷ start (codes "p") ∷ Text (codes "y") ∷ end (codes "nobr") ∷ Text (codes "y") ∷ [])
+    ∷ (start (codes "table") ∷ start (codes "dt") ∷ Text (10 ∷ []) ∷ end (codes "dt") ∷ Text (codes "x y") ∷ start (codes "tbody") ∷ StartTag (codes "table") (attribute (codes "class") (codes "1") ∷ []) ∷ start (codes "table") ∷ Text (10 ∷ []) ∷ start (codes "colgroup") ∷ Text (10 ∷ 10 ∷ []) ∷ Text [] ∷ Text (codes " ") ∷ start (codes "table") ∷ end (codes "table") ∷ Text (codes "x y") ∷ [])
+    ∷ (Text (codes "x") ∷ StartTag (codes "pre") (attribute (codes "id") (codes "1") ∷ attribute (codes "class") (codes "2") ∷ []) ∷ start (codes "form") ∷ StartTag (codes "table") (attribute (codes "class") (codes "2") ∷ attribute (codes "id") (codes "1") ∷ []) ∷ StartTag (codes "tfoot") (attribute (codes "id") (codes "1") ∷ attribute (codes "class") (codes "2") ∷ []) ∷ StartTag (codes "tr") (attribute (codes "id") (codes "1") ∷ attribute (codes "class") (codes "2") ∷ []) ∷ StartTag (codes "td") (attribute (codes "class") (codes "1") ∷ []) ∷ start (codes "rb") ∷ end (codes "rb") ∷ end (codes "td") ∷ end (codes "tr") ∷ end (codes "tfoot") ∷ end (codes "table") ∷ end (codes "form") ∷ end (codes "pre") ∷ [])
+    ∷ (StartTag (codes "strong") (attribute (codes "class") (codes "2") ∷ attribute (codes "id") (codes "1") ∷ []) ∷ StartTag (codes "nav") (attribute (codes "class") (codes "2") ∷ attribute (codes "id") (codes "1") ∷ []) ∷ end (codes "nav") ∷ StartTag (codes "dd") (attribute (codes "class") (codes "1") ∷ []) ∷ StartTag (codes "dd") (attribute (codes "class") (codes "2") ∷ attribute (codes "id") (codes "1") ∷ []) ∷ Text [] ∷ end (codes "strong") ∷ [])
+    ∷ (start (codes "nobr") ∷ start (codes "nobr") ∷ start (codes "b") ∷ Text (codes "x") ∷ end (codes "nobr") ∷ Text (codes "y") ∷ [])
+    ∷ (StartTag (codes "code") (attribute (codes "class") (codes "1") ∷ []) ∷ Text (codes "x") ∷ start (codes "rb") ∷ end (codes "code") ∷ start (codes "rb") ∷ [])
+    ∷ (StartTag (codes "b") (attribute (codes "id") (codes "1") ∷ attribute (codes "class") (codes "2") ∷ []) ∷ StartTag (codes "b") (attribute (codes "id") (codes "1") ∷ attribute (codes "class") (codes "2") ∷ []) ∷ StartTag (codes "b") (attribute (codes "class") (codes "2") ∷ attribute (codes "id") (codes "1") ∷ []) ∷ Text [] ∷ end (codes "b") ∷ end (codes "b") ∷ end (codes "b") ∷ [])
+    ∷ []
+
+trees_17_answers : List Tree
+trees_17_answers =
+    (Characters (Element (Element (Characters Nothing (codes "x")) (codes "h1") [] (Characters Nothing (10 ∷ []))) (codes "h1") (attribute (codes "class") (codes "1") ∷ []) (Characters Nothing (codes " "))) (10 ∷ 10 ∷ []))
+    ∷ (Element Nothing (codes "b") (attribute (codes "id") (codes "1") ∷ attribute (codes "class") (codes "2") ∷ []) (Element (Characters (Element Nothing (codes "b") [] (Element Nothing (codes "mark") [] (Characters Nothing (10 ∷ 10 ∷ [])))) (10 ∷ 120 ∷ [])) (codes "table") [] (Element Nothing (codes "tbody") [] Nothing)))
+    ∷ (Element Nothing (codes "li") (attribute (codes "class") (codes "2") ∷ attribute (codes "id") (codes "1") ∷ []) (Characters Nothing (codes "x y")))
+    ∷ (Element (Element Nothing (codes "b") [] Nothing) (codes "div") [] (Element (Element Nothing (codes "b") [] Nothing) (codes "div") [] (Element (Element (Characters (Element Nothing (codes "b") [] (Characters Nothing (codes "y"))) (codes "y")) (codes "nobr") [] (Element Nothing (codes "b") [] (Element Nothing (codes "b") [] Nothing))) (codes "b") [] (Element Nothing (codes "div") [] (Element (Element Nothing (codes "nobr") [] (Element Nothing (codes "b") [] Nothing)) (codes "div") [] (Element (Element Nothing (codes "nobr") [] (Element (Characters (Element Nothing (codes "b") [] (Characters Nothing (codes "x"))) (codes "x")) (codes "b") [] Nothing)) (codes "b") [] (Element (Element (Element Nothing (codes "nobr") [] (Element Nothing (codes "b") [] Nothing)) (codes "b") [] Nothing) (codes "div") [] (Element (Element Nothing (codes "b") [] (Element Nothing (codes "nobr") [] (Element (Element Nothing (codes "p") [] Nothing) (codes "p") [] Nothing))) (codes "div") [] (Element (Element Nothing (codes "b") [] (Element Nothing (codes "nobr") [] Nothing)) (codes "div") [] (Element (Element Nothing (codes "b") [] (Element Nothing (codes "nobr") [] (Element Nothing (codes "p") [] Nothing))) (codes "div") [] (Element (Element Nothing (codes "b") [] (Element Nothing (codes "nobr") [] Nothing)) (codes "div") [] (Element (Element (Element (Characters (Element (Element Nothing (codes "b") [] (Element Nothing (codes "nobr") [] Nothing)) (codes "div") [] (Element Nothing (codes "b") [] (Element Nothing (codes "nobr") [] (Characters Nothing (codes "y"))))) (codes "y")) (codes "nobr") [] Nothing) (codes "nobr") [] Nothing) (codes "div") [] (Element (Element Nothing (codes "nobr") [] (Element Nothing (codes "p") [] Nothing)) (codes "div") [] (Element (Element Nothing (codes "nobr") [] Nothing) (codes "div") [] (Element (Element Nothing (codes "nobr") [] (Element (Element Nothing (codes "p") [] Nothing) (codes "p") [] Nothing)) (codes "div") [] (Element (Element Nothing (codes "nobr") [] (Element Nothing (codes "p") [] Nothing)) (codes "p") [] (Characters (Element Nothing (codes "nobr") [] (Characters Nothing (codes "y"))) (codes "y"))))))))))))))))))
+    ∷ (Characters (Element (Element (Element (Element (Characters (Element Nothing (codes "dt") [] (Characters Nothing (10 ∷ []))) (codes "x y")) (codes "table") [] (Element Nothing (codes "tbody") [] Nothing)) (codes "table") (attribute (codes "class") (codes "1") ∷ []) Nothing) (codes "table") [] (Element (Characters Nothing (10 ∷ [])) (codes "colgroup") [] (Characters Nothing (10 ∷ 10 ∷ 32 ∷ [])))) (codes "table") [] Nothing) (codes "x y"))
+    ∷ (Element (Characters Nothing (codes "x")) (codes "pre") (attribute (codes "id") (codes "1") ∷ attribute (codes "class") (codes "2") ∷ []) (Element Nothing (codes "form") [] (Element Nothing (codes "table") (attribute (codes "class") (codes "2") ∷ attribute (codes "id") (codes "1") ∷ []) (Element Nothing (codes "tfoot") (attribute (codes "id") (codes "1") ∷ attribute (codes "class") (codes "2") ∷ []) (Element Nothing (codes "tr") (attribute (codes "id") (codes "1") ∷ attribute (codes "class") (codes "2") ∷ []) (Element Nothing (codes "td") (attribute (codes "class") (codes "1") ∷ []) (Element Nothing (codes "rb") [] Nothing)))))))
+    ∷ (Element (Element Nothing (codes "strong") (attribute (codes "class") (codes "2") ∷ attribute (codes "id") (codes "1") ∷ []) (Element (Element Nothing (codes "nav") (attribute (codes "class") (codes "2") ∷ attribute (codes "id") (codes "1") ∷ []) Nothing) (codes "dd") (attribute (codes "class") (codes "1") ∷ []) Nothing)) (codes "dd") (attribute (codes "class") (codes "2") ∷ attribute (codes "id") (codes "1") ∷ []) (Element Nothing (codes "strong") (attribute (codes "class") (codes "2") ∷ attribute (codes "id") (codes "1") ∷ []) Nothing))
+    ∷ (Element (Element (Element Nothing (codes "nobr") [] Nothing) (codes "nobr") [] (Element Nothing (codes "b") [] (Characters Nothing (codes "x")))) (codes "b") [] (Characters Nothing (codes "y")))
+    ∷ (Element (Element Nothing (codes "code") (attribute (codes "class") (codes "1") ∷ []) (Element (Characters Nothing (codes "x")) (codes "rb") [] Nothing)) (codes "rb") [] Nothing)
+    ∷ (Element Nothing (codes "b") (attribute (codes "id") (codes "1") ∷ attribute (codes "class") (codes "2") ∷ []) (Element Nothing (codes "b") (attribute (codes "id") (codes "1") ∷ attribute (codes "class") (codes "2") ∷ []) (Element Nothing (codes "b") (attribute (codes "class") (codes "2") ∷ attribute (codes "id") (codes "1") ∷ []) Nothing)))
+    ∷ []
+
+trees_17 : map tree_of trees_17_items ≡ trees_17_answers
+unfolding trees_17_items trees_17_answers is_among kind_in all_names kind_of in_front whole_texts without_newlines near joined changed changed_before found without applied built bare has_node inside outside without_node is_bounded popped_until implied_ended has_entry without_entry last_named is_one_of are_all_of count_alike without_earliest pushed cleared last_table lost kept reopened ended_by furthest_block replaced inner_loop added_after adopted outer_loop innermost mode_of back_to is_hidden leading_space after_space process run
+trees_17 = refl
+
+trees_18_items : List (List Item)
+trees_18_items =
+    (end (codes "li") ∷ Text (codes " x") ∷ end (codes "nav") ∷ StartTag (codes "div") (attribute (codes "class") (codes "1") ∷ []) ∷ Text (codes "x ") ∷ Text (codes " ") ∷ Text (codes "y") ∷ Text (10 ∷ 120 ∷ []) ∷ Text (10 ∷ 120 ∷ []) ∷ Text (codes "x y") ∷ StartTag (codes "caption") (attribute (codes "class") (codes "1") ∷ []) ∷ Text (codes "x") ∷ [])
+    ∷ (start (codes "u") ∷ start (codes "u") ∷ start (codes "u") ∷ start (codes "div") ∷ Text (codes "y") ∷ end (codes "u") ∷ end (codes "nobr") ∷ end (codes "div") ∷ Text (codes "y") ∷ start (codes "i") ∷ start (codes "div") ∷ start (codes "p") ∷ Text (codes "x") ∷ end (codes "nobr") ∷ end (codes "p") ∷ Text (codes "x") ∷ [])
+    ∷ (StartTag (codes "main") (attribute (codes "class") (codes "2") ∷ attribute (codes "id") (codes "1") ∷ []) ∷ Text (10 ∷ 120 ∷ []) ∷ start (codes "table") ∷ end (codes "table") ∷ start (codes "main") ∷ Text (codes "x") ∷ Text (codes " x") ∷ start (codes "table") ∷ end (codes "table") ∷ start (codes "h5") ∷ end (codes "table") ∷ end (codes "main") ∷ [])
+    ∷ (Text (10 ∷ []) ∷ StartTag (codes "table") (attribute (codes "class") (codes "1") ∷ []) ∷ end (codes "table") ∷ StartTag (codes "table") (attribute (codes "class") (codes "1") ∷ []) ∷ end (codes "table") ∷ [])
+    ∷ (Text (codes " ") ∷ start (codes "ul") ∷ end (codes "ul") ∷ start (codes "tfoot") ∷ end (codes "tfoot") ∷ start (codes "abbr") ∷ start (codes "img") ∷ start (codes "pre") ∷ Text (codes "x") ∷ end (codes "pre") ∷ [])
+    ∷ (start (codes "a") ∷ start (codes "a") ∷ start (codes "div") ∷ start (codes "p") ∷ start (codes "p") ∷ Text (codes "x") ∷ end (codes "div") ∷ Text (codes "y") ∷ start (codes "b") ∷ start (codes "b") ∷ start (codes "b") ∷ start (codes "div") ∷ start (codes "div") ∷ Text (codes "y") ∷ end (codes "p") ∷ end (codes "a") ∷ end (codes "div") ∷ Text (codes "x") ∷ start (codes "a") ∷ start (codes "div") ∷ Text (codes "y") ∷ end (codes "a") ∷ Text (codes "y") ∷ start (codes "b") ∷ start (codes "b") ∷ start (codes "p") ∷ start (codes "p") ∷ start (codes "p") ∷ start (codes "p") ∷ start (codes "div") ∷ start (codes "p") ∷ start (codes "p") ∷ start (codes "div") ∷ start (codes "div") ∷ Text (codes "y") ∷ end (codes "b") ∷ Text (codes "y") ∷ start (codes "a") ∷ start (codes "b") ∷ start (codes "b") ∷ start (codes "p") ∷ Text (codes "y") ∷ end (codes "div") ∷ end (codes "b") ∷ Text (codes "x") ∷ [])
+    ∷ (end (codes "h1") ∷ end (codes "h1") ∷ StartTag (codes "u") (attribute (codes "class") (codes "2") ∷ attribute (codes "id") (codes "1") ∷ []) ∷ Text (10 ∷ 120 ∷ []) ∷ end (codes "u") ∷ [])
+    ∷ (Text (codes " x") ∷ start (codes "sub") ∷ start (codes "rtc") ∷ start (codes "nobr") ∷ Text (10 ∷ 120 ∷ []) ∷ end (codes "nobr") ∷ Text (10 ∷ 10 ∷ []) ∷ Text (codes "x") ∷ end (codes "rtc") ∷ end (codes "sub") ∷ [])
+    ∷ (StartTag (codes "i") (attribute (codes "class") (codes "1") ∷ []) ∷ end (codes "i") ∷ end (codes "i") ∷ StartTag (codes "p") (attribute (codes "class") (codes "1") ∷ []) ∷ Text [] ∷ Text [] ∷ [])
+    ∷ (start (codes "i") ∷ start (codes "i") ∷ start (codes "i") ∷ start (codes "span") ∷ start (codes "div") ∷ Text (codes "x") ∷ end (codes "i") ∷ Text (codes "x") ∷ start (codes "i") ∷ start (codes "div") ∷ start (codes "b") ∷ start (codes "div") ∷ Text (codes "y") ∷ end (codes "b") ∷ end (codes "i") ∷ end (codes "i") ∷ Text (codes "y") ∷ start (codes "i") ∷ start (codes "div") ∷ start (codes "span") ∷ start (codes "b") ∷ Text (codes "y") ∷ end (codes "i") ∷ Text (codes "y") ∷ [])
+    ∷ []
+
+trees_18_answers : List Tree
+trees_18_answers =
+    (Element (Characters Nothing (codes " x")) (codes "div") (attribute (codes "class") (codes "1") ∷ []) (Characters Nothing (120 ∷ 32 ∷ 32 ∷ 121 ∷ 10 ∷ 120 ∷ 10 ∷ 120 ∷ 120 ∷ 32 ∷ 121 ∷ 120 ∷ [])))
+    ∷ (Element Nothing (codes "u") [] (Element Nothing (codes "u") [] (Element (Characters (Element (Element Nothing (codes "u") [] Nothing) (codes "div") [] (Element Nothing (codes "u") [] (Characters Nothing (codes "y")))) (codes "y")) (codes "i") [] (Element Nothing (codes "div") [] (Characters (Element Nothing (codes "p") [] (Characters Nothing (codes "x"))) (codes "x"))))))
+    ∷ (Element Nothing (codes "main") (attribute (codes "class") (codes "2") ∷ attribute (codes "id") (codes "1") ∷ []) (Element (Element (Characters Nothing (10 ∷ 120 ∷ [])) (codes "table") [] Nothing) (codes "main") [] (Element (Element (Characters Nothing (codes "x x")) (codes "table") [] Nothing) (codes "h5") [] Nothing)))
+    ∷ (Element (Element (Characters Nothing (10 ∷ [])) (codes "table") (attribute (codes "class") (codes "1") ∷ []) Nothing) (codes "table") (attribute (codes "class") (codes "1") ∷ []) Nothing)
+    ∷ (Element (Element (Characters Nothing (codes " ")) (codes "ul") [] Nothing) (codes "abbr") [] (Element (Element Nothing (codes "img") [] Nothing) (codes "pre") [] (Characters Nothing (codes "x"))))
+    ∷ (Element (Element (Element Nothing (codes "a") [] Nothing) (codes "a") [] (Element (Characters (Element Nothing (codes "div") [] (Element (Element Nothing (codes "p") [] Nothing) (codes "p") [] (Characters Nothing (codes "x")))) (codes "y")) (codes "b") [] (Element Nothing (codes "b") [] (Element Nothing (codes "b") [] Nothing)))) (codes "b") [] (Element Nothing (codes "b") [] (Element Nothing (codes "b") [] (Element Nothing (codes "div") [] (Element (Element (Characters (Element (Element Nothing (codes "a") [] Nothing) (codes "div") [] (Element Nothing (codes "a") [] (Element (Characters Nothing (codes "y")) (codes "p") [] Nothing))) (codes "x")) (codes "a") [] Nothing) (codes "div") [] (Element (Characters (Element Nothing (codes "a") [] (Characters Nothing (codes "y"))) (codes "y")) (codes "b") [] (Element (Element Nothing (codes "b") [] (Element (Element (Element (Element Nothing (codes "p") [] Nothing) (codes "p") [] Nothing) (codes "p") [] Nothing) (codes "p") [] Nothing)) (codes "div") [] (Element (Element Nothing (codes "b") [] (Element (Element Nothing (codes "p") [] Nothing) (codes "p") [] Nothing)) (codes "div") [] (Element (Element (Element Nothing (codes "b") [] Nothing) (codes "div") [] (Element (Characters (Element Nothing (codes "b") [] (Characters Nothing (codes "y"))) (codes "y")) (codes "a") [] (Element Nothing (codes "b") [] (Element Nothing (codes "b") [] (Element Nothing (codes "p") [] (Characters Nothing (codes "y"))))))) (codes "a") [] (Element Nothing (codes "b") [] (Characters Nothing (codes "x"))))))))))))
+    ∷ (Element Nothing (codes "u") (attribute (codes "class") (codes "2") ∷ attribute (codes "id") (codes "1") ∷ []) (Characters Nothing (10 ∷ 120 ∷ [])))
+    ∷ (Element (Characters Nothing (codes " x")) (codes "sub") [] (Element Nothing (codes "rtc") [] (Characters (Element Nothing (codes "nobr") [] (Characters Nothing (10 ∷ 120 ∷ []))) (10 ∷ 10 ∷ 120 ∷ []))))
+    ∷ (Element (Element Nothing (codes "i") (attribute (codes "class") (codes "1") ∷ []) Nothing) (codes "p") (attribute (codes "class") (codes "1") ∷ []) Nothing)
+    ∷ (Element Nothing (codes "i") [] (Element (Element Nothing (codes "i") [] (Element Nothing (codes "i") [] (Element Nothing (codes "span") [] Nothing))) (codes "div") [] (Element (Element Nothing (codes "i") [] (Element (Characters (Element Nothing (codes "i") [] (Characters Nothing (codes "x"))) (codes "x")) (codes "i") [] Nothing)) (codes "div") [] (Element (Element Nothing (codes "i") [] (Element Nothing (codes "i") [] (Element Nothing (codes "b") [] Nothing))) (codes "div") [] (Element (Element (Characters (Element Nothing (codes "i") [] (Element Nothing (codes "i") [] (Element Nothing (codes "b") [] (Characters Nothing (codes "y"))))) (codes "y")) (codes "i") [] Nothing) (codes "div") [] (Element (Element Nothing (codes "i") [] (Element Nothing (codes "span") [] (Element Nothing (codes "b") [] (Characters Nothing (codes "y"))))) (codes "b") [] (Characters Nothing (codes "y"))))))))
+    ∷ []
+
+trees_18 : map tree_of trees_18_items ≡ trees_18_answers
+unfolding trees_18_items trees_18_answers is_among kind_in all_names kind_of in_front whole_texts without_newlines near joined changed changed_before found without applied built bare has_node inside outside without_node is_bounded popped_until implied_ended has_entry without_entry last_named is_one_of are_all_of count_alike without_earliest pushed cleared last_table lost kept reopened ended_by furthest_block replaced inner_loop added_after adopted outer_loop innermost mode_of back_to is_hidden leading_space after_space process run
+trees_18 = refl
+
+trees_19_items : List (List Item)
+trees_19_items =
+    (StartTag (codes "b") (attribute (codes "id") (codes "1") ∷ attribute (codes "class") (codes "2") ∷ []) ∷ start (codes "label") ∷ Text (codes "y") ∷ StartTag (codes "p") (attribute (codes "class") (codes "2") ∷ attribute (codes "id") (codes "1") ∷ []) ∷ [])
+    ∷ (Text [] ∷ Text (codes "x") ∷ [])
+    ∷ (end (codes "td") ∷ Text (codes "x ") ∷ StartTag (codes "td") (attribute (codes "class") (codes "1") ∷ []) ∷ StartTag (codes "listing") (attribute (codes "class") (codes "1") ∷ []) ∷ start (codes "table") ∷ StartTag (codes "tbody") (attribute (codes "id") (codes "1") ∷ attribute (codes "class") (codes "2") ∷ []) ∷ start (codes "tr") ∷ end (codes "tr") ∷ end (codes "tbody") ∷ start (codes "pre") ∷ Text (codes " x") ∷ StartTag (codes "table") (attribute (codes "id") (codes "1") ∷ attribute (codes "class") (codes "2") ∷ []) ∷ start (codes "table") ∷ start (codes "pre") ∷ Text (codes " x") ∷ [])
+    ∷ (start (codes "nobr") ∷ start (codes "li") ∷ start (codes "ul") ∷ start (codes "li") ∷ Text (codes "y") ∷ end (codes "nobr") ∷ end (codes "nobr") ∷ end (codes "div") ∷ Text (codes "y") ∷ start (codes "nobr") ∷ start (codes "nobr") ∷ start (codes "nobr") ∷ start (codes "li") ∷ start (codes "li") ∷ start (codes "li") ∷ start (codes "div") ∷ start (codes "ul") ∷ start (codes "ul") ∷ start (codes "ul") ∷ start (codes "li") ∷ start (codes "li") ∷ Text (codes "y") ∷ end (codes "nobr") ∷ end (codes "li") ∷ Text (codes "y") ∷ [])
+    ∷ (Text (codes " x") ∷ end (codes "table") ∷ end (codes "pre") ∷ Text (codes "x") ∷ [])
+    ∷ (start (codes "p") ∷ end (codes "p") ∷ StartTag (codes "h3") (attribute (codes "class") (codes "1") ∷ []) ∷ start (codes "listing") ∷ end (codes "listing") ∷ Text (10 ∷ 10 ∷ []) ∷ Text (10 ∷ 120 ∷ []) ∷ Text (10 ∷ 10 ∷ []) ∷ end (codes "h3") ∷ [])
+    ∷ (StartTag (codes "tr") (attribute (codes "id") (codes "1") ∷ attribute (codes "class") (codes "2") ∷ []) ∷ Text (codes "x y") ∷ end (codes "tr") ∷ end (codes "rp") ∷ Text (codes " x") ∷ end (codes "table") ∷ end (codes "h3") ∷ StartTag (codes "tr") (attribute (codes "class") (codes "2") ∷ attribute (codes "id") (codes "1") ∷ []) ∷ end (codes "tr") ∷ end (codes "dt") ∷ start (codes "rp") ∷ [])
+    ∷ (start (codes "u") ∷ start (codes "table") ∷ Text (codes "x") ∷ end (codes "tr") ∷ end (codes "nobr") ∷ end (codes "nobr") ∷ Text (codes "x") ∷ start (codes "a") ∷ start (codes "u") ∷ start (codes "a") ∷ start (codes "tr") ∷ Text (codes "y") ∷ end (codes "tr") ∷ end (codes "a") ∷ end (codes "tr") ∷ Text (codes "y") ∷ start (codes "u") ∷ start (codes "u") ∷ start (codes "a") ∷ start (codes "tr") ∷ Text (codes "x") ∷ end (codes "td") ∷ end (codes "u") ∷ end (codes "nobr") ∷ Text (codes "y") ∷ start (codes "u") ∷ start (codes "a") ∷ start (codes "a") ∷ start (codes "table") ∷ Text (codes "y") ∷ end (codes "a") ∷ end (codes "nobr") ∷ Text (codes "y") ∷ [])
+    ∷ (end (codes "nobr") ∷ end (codes "tt") ∷ start (codes "tt") ∷ end (codes "tt") ∷ StartTag (codes "hr") (attribute (codes "class") (codes "1") ∷ []) ∷ Text (codes "x ") ∷ start (codes "nobr") ∷ [])
+    ∷ (Text (10 ∷ []) ∷ StartTag (codes "i") (attribute (codes "id") (codes "1") ∷ attribute (codes "class") (codes "2") ∷ []) ∷ end (codes "i") ∷ start (codes "div") ∷ Text (codes " x") ∷ end (codes "div") ∷ Text (codes "x") ∷ Text (codes " x") ∷ [])
+    ∷ []
+
+trees_19_answers : List Tree
+trees_19_answers =
+    (Element Nothing (codes "b") (attribute (codes "id") (codes "1") ∷ attribute (codes "class") (codes "2") ∷ []) (Element Nothing (codes "label") [] (Element (Characters Nothing (codes "y")) (codes "p") (attribute (codes "class") (codes "2") ∷ attribute (codes "id") (codes "1") ∷ []) Nothing)))
+    ∷ (Characters Nothing (codes "x"))
+    ∷ (Element (Characters Nothing (codes "x ")) (codes "listing") (attribute (codes "class") (codes "1") ∷ []) (Element (Element (Element (Element (Element Nothing (codes "pre") [] (Characters Nothing (codes " x"))) (codes "table") [] (Element Nothing (codes "tbody") (attribute (codes "id") (codes "1") ∷ attribute (codes "class") (codes "2") ∷ []) (Element Nothing (codes "tr") [] Nothing))) (codes "table") (attribute (codes "id") (codes "1") ∷ attribute (codes "class") (codes "2") ∷ []) Nothing) (codes "pre") [] (Characters Nothing (codes " x"))) (codes "table") [] Nothing))
+    ∷ (Element (Element Nothing (codes "nobr") [] Nothing) (codes "li") [] (Element (Element Nothing (codes "nobr") [] Nothing) (codes "ul") [] (Element (Element (Element (Element (Element Nothing (codes "nobr") [] Nothing) (codes "li") [] (Element (Element (Element (Characters (Element Nothing (codes "nobr") [] (Characters Nothing (codes "y"))) (codes "y")) (codes "nobr") [] Nothing) (codes "nobr") [] Nothing) (codes "nobr") [] Nothing)) (codes "li") [] Nothing) (codes "li") [] Nothing) (codes "li") [] (Element Nothing (codes "div") [] (Element Nothing (codes "ul") [] (Element Nothing (codes "ul") [] (Element Nothing (codes "ul") [] (Characters (Element (Element Nothing (codes "li") [] Nothing) (codes "li") [] (Element Nothing (codes "nobr") [] (Characters Nothing (codes "y")))) (codes "y")))))))))
+    ∷ (Characters Nothing (codes " xx"))
+    ∷ (Element (Element Nothing (codes "p") [] Nothing) (codes "h3") (attribute (codes "class") (codes "1") ∷ []) (Characters (Element Nothing (codes "listing") [] Nothing) (10 ∷ 10 ∷ 10 ∷ 120 ∷ 10 ∷ 10 ∷ [])))
+    ∷ (Element (Characters Nothing (codes "x y x")) (codes "rp") [] Nothing)
+    ∷ (Element Nothing (codes "u") [] (Element (Element (Element (Element (Element (Element (Element (Element (Characters Nothing (codes "xx")) (codes "a") [] (Element Nothing (codes "u") [] Nothing)) (codes "u") [] (Element Nothing (codes "a") [] Nothing)) (codes "u") [] (Element Nothing (codes "a") [] (Characters Nothing (codes "y")))) (codes "u") [] (Element (Characters Nothing (codes "y")) (codes "u") [] (Element Nothing (codes "u") [] (Element Nothing (codes "a") [] Nothing)))) (codes "u") [] (Element Nothing (codes "u") [] (Element (Element (Element Nothing (codes "u") [] (Element Nothing (codes "a") [] (Characters Nothing (codes "x")))) (codes "a") [] (Element (Characters Nothing (codes "y")) (codes "u") [] Nothing)) (codes "u") [] (Element (Element Nothing (codes "a") [] Nothing) (codes "a") [] Nothing)))) (codes "table") [] (Element Nothing (codes "tbody") [] (Element (Element Nothing (codes "tr") [] Nothing) (codes "tr") [] Nothing))) (codes "u") [] (Element Nothing (codes "u") [] (Element Nothing (codes "u") [] (Characters (Element Nothing (codes "a") [] (Characters Nothing (codes "y"))) (codes "y"))))) (codes "table") [] Nothing))
+    ∷ (Element (Characters (Element (Element Nothing (codes "tt") [] Nothing) (codes "hr") (attribute (codes "class") (codes "1") ∷ []) Nothing) (codes "x ")) (codes "nobr") [] Nothing)
+    ∷ (Characters (Element (Element (Characters Nothing (10 ∷ [])) (codes "i") (attribute (codes "id") (codes "1") ∷ attribute (codes "class") (codes "2") ∷ []) Nothing) (codes "div") [] (Characters Nothing (codes " x"))) (codes "x x"))
+    ∷ []
+
+trees_19 : map tree_of trees_19_items ≡ trees_19_answers
+unfolding trees_19_items trees_19_answers is_among kind_in all_names kind_of in_front whole_texts without_newlines near joined changed changed_before found without applied built bare has_node inside outside without_node is_bounded popped_until implied_ended has_entry without_entry last_named is_one_of are_all_of count_alike without_earliest pushed cleared last_table lost kept reopened ended_by furthest_block replaced inner_loop added_after adopted outer_loop innermost mode_of back_to is_hidden leading_space after_space process run
+trees_19 = refl
 
 -- ---- which items all fit
 
