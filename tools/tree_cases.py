@@ -13,6 +13,7 @@ from __future__ import annotations
 import argparse
 import pathlib
 import random
+import re
 import sys
 
 from model import tree
@@ -38,7 +39,47 @@ GROUPS = [
         tree.names("a b i nobr p div"),
     )
 ]
-BATCH = 10
+BATCH = 10  # cases that are one proof
+# Inputs of which a model with one line changed makes another tree: each shows what some rule is for.
+CHOSEN = [
+    "<p><li>",
+    "<p><form>",
+    "<p><u><p><u>",
+    "<em><dl></em>",
+    "<table><form>",
+    "<ruby><rp><rp>",
+    "<table><col>\nx",
+    "<table><form> x",
+    "<font><h3></font>",
+    "<table><td></td>y",
+    "<table><tr></tr>\n",
+    "<nobr><s></nobr> x",
+    "<p><button><table>",
+    "<table><thead><h6>",
+    "<table><thead><tr>",
+    "<table><tr><i><td>",
+    "<button><i><button>",
+    "<table><code><tr>\nx",
+    "<p><strong><p><abbr>",
+    "<small><pre></small>",
+    "<table><u><tr>x</tr>y",
+    "<form><rtc></form><ol>",
+    "<table><i><i><tr>y</i>y",
+    "<table><tr></tfoot><th>",
+    "<table><tr></tr></i><tr>",
+    "<table><u><u><tr>x</tr>y",
+    "<b><span><div></b></div>x",
+    "<table><input type=HiDDen>",
+    "<table><tfoot></tfoot><th>",
+    "<table><tfoot><tr></tfoot>",
+    "<nobr><strike></nobr><nobr>",
+    "<table><tfoot><tr></tfoot><th>",
+    "<form><table></form></table><h2>",
+    "<i><table><i><i><i></table></i>y",
+    "<a><b><u><div><div><div><div><div><div><div><div></b></a></a>x",
+]
+# An input that tells the kind of a name, which stands for NAME.
+BY_NAME = "<b><NAME>1</b>2</NAME>3<li><NAME><li><ruby><NAME><rt></ruby><table><NAME>x"
 
 HEAD = """-- Random items, with the trees that a model of the standard's tree construction builds of them, and with whether they all fit: by
 -- `python3 tools/tree_cases.py`, and not by hand.
@@ -120,11 +161,14 @@ class Maker:
     def misnested_items(self):
         """Formatting elements with blocks in them, which are closed in another order."""
         formatting = self.choices.sample(["a", "b", "i", "u", "nobr"], self.choices.randrange(1, 4))
-        blocks = self.choices.choice([["div"], ["p", "div"], ["div", "ul", "li"], ["table", "tr", "td"], ["span", "div", "b"]])
+        several = [["div"], ["p", "div"], ["div", "ul", "li"], ["table", "tr", "td"], ["table", "div"], ["span", "div", "b"]]
+        blocks = self.choices.choice(several)
+        attributes = self.choices.choice([[()], [(), (("id", "1"),)], [(("id", "1"), ("class", "2")), (("class", "2"), ("id", "1"))]])
         items = []
         for _ in range(self.choices.randrange(1, 6)):
-            items += [Start(name) for name in self.choices.choices(formatting, k=self.choices.randrange(1, 4))]
-            items += [Start(name) for name in self.choices.choices(blocks, k=self.choices.choice([1, 1, 2, 3, 9]))]
+            names = self.choices.choices(formatting, k=self.choices.choice([1, 2, 3, 5]))
+            items += [Start(name, self.choices.choice(attributes)) for name in names]
+            items += [Start(name) for name in self.choices.choices(blocks, k=self.choices.choice([1, 1, 2, 3, 8]))]
             items.append(Text(self.choices.choice("xy")))
             closed = self.choices.choices([*formatting, *formatting, *blocks], k=self.choices.randrange(1, 4))
             items += [End(name) for name in closed]
@@ -141,6 +185,19 @@ class Maker:
                 items.append(item)
                 self.note(item)
         return items + [End(name) for name in reversed(self.opened)]
+
+
+def items_of(markup: str):
+    """The items of tags without spaces but before attributes, and of texts."""
+    items = []
+    for solidus, name, attributes, text in re.findall(r"<(/?)(\w+)((?: \w+=\w+)*)>|([^<]+)", markup):
+        if text:
+            items.append(Text(text))
+        elif solidus:
+            items.append(End(name))
+        else:
+            items.append(Start(name, tuple(tuple(it.split("=")) for it in attributes.split())))
+    return items
 
 
 def codes(text: str) -> str:
@@ -202,10 +259,21 @@ def lemma(name: str, function: str, kind: str, cases: list[tuple[str, str]], unf
     )
 
 
-def tree_cases(number: int) -> list[tuple[str, str]]:
+def built(items) -> tuple[str, str]:
+    return items_term(items), tree_term(tree.tree_of(items))
+
+
+def random_cases(number: int) -> list[tuple[str, str]]:
     made = [Maker(f"tree {at}") for at in range(number)]
-    several = [(it.items, it.misnested_items, it.items, it.fitting_items)[at % 4]() for at, it in enumerate(made)]
-    return [(items_term(items), tree_term(tree.tree_of(items))) for items in several]
+    return [built((it.items, it.misnested_items, it.items, it.fitting_items)[at % 4]()) for at, it in enumerate(made)]
+
+
+def chosen_cases() -> list[tuple[str, str]]:
+    return [built(items_of(markup)) for markup in CHOSEN]
+
+
+def name_cases() -> list[tuple[str, str]]:
+    return [built(items_of(BY_NAME.replace("NAME", name))) for name in sorted(tree.ALL)]
 
 
 def fitting_cases(number: int) -> list[tuple[str, str]]:
@@ -215,12 +283,15 @@ def fitting_cases(number: int) -> list[tuple[str, str]]:
 
 
 def proofs() -> str:
-    parts = [HEAD, "-- ---- trees\n"]
-    for at, batch in enumerate(batches(tree_cases(200))):
-        parts.append(lemma(f"trees_{at}", "tree_of", "Tree", batch, TREES))
-    parts.append("-- ---- which items all fit\n")
-    for at, batch in enumerate(batches(fitting_cases(150))):
-        parts.append(lemma(f"fitting_{at}", "(all_fit [])", "Bool", batch, FITTING))
+    parts = [HEAD]
+    for head, name, function, kind, cases, unfolding in [
+        ("trees of random items", "random", "tree_of", "Tree", random_cases(120), TREES),
+        ("trees of items that were chosen", "chosen", "tree_of", "Tree", chosen_cases(), TREES),
+        ("trees by name", "names", "tree_of", "Tree", name_cases(), TREES),
+        ("which random items all fit", "fitting", "(all_fit [])", "Bool", fitting_cases(120), FITTING),
+    ]:
+        parts.append(f"-- ---- {head}\n")
+        parts += [lemma(f"{name}_{at}", function, kind, batch, unfolding) for at, batch in enumerate(batches(cases))]
     return "\n".join(parts)
 
 

@@ -577,11 +577,11 @@ def nesting(items) -> list[Node]:
 
 
 def shown(nodes: list[Node]) -> str:
-    """Nodes as text, with attributes in the order of their tags."""
+    """Nodes as text, with all their tags, and attributes in the order in which they came."""
     parts = []
     for node in nodes:
-        attributes = "".join(f" {name}={value!r}" for name, value in node.attributes)
-        parts.append(f"<{node.name}{attributes}>{shown(node.children)}</>" if node.name else repr(node.text))
+        attributes = "".join(f" {name}={value}" for name, value in node.attributes)
+        parts.append(f"<{node.name}{attributes}>{shown(node.children)}</{node.name}>" if node.name else node.text)
     return "".join(parts)
 
 

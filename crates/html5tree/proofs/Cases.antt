@@ -58,6 +58,15 @@ cases =
     -- `<b><div><p>x</b>y`: so it goes on from block to block, the outermost first
     ∷ case (start (codes "b") ∷ start (codes "div") ∷ start (codes "p") ∷ Text (codes "x") ∷ end (codes "b") ∷ Text (codes "y") ∷ [])
     (Element (Element Nothing (codes "b") [] Nothing) (codes "div") [] (Element (Element Nothing (codes "b") [] Nothing) (codes "p") [] (Characters (Element Nothing (codes "b") [] (Characters Nothing (codes "x"))) (codes "y"))))
+    -- `<i>` around eight `div`: the algorithm goes no further
+    ∷ case (start (codes "i") ∷ start (codes "div") ∷ start (codes "div") ∷ start (codes "div") ∷ start (codes "div") ∷ start (codes "div") ∷ start (codes "div") ∷ start (codes "div") ∷ start (codes "div") ∷ end (codes "i") ∷ Text (codes "x") ∷ [])
+    (Element (Element Nothing (codes "i") [] Nothing) (codes "div") [] (Element (Element Nothing (codes "i") [] Nothing) (codes "div") [] (Element (Element Nothing (codes "i") [] Nothing) (codes "div") [] (Element (Element Nothing (codes "i") [] Nothing) (codes "div") [] (Element (Element Nothing (codes "i") [] Nothing) (codes "div") [] (Element (Element Nothing (codes "i") [] Nothing) (codes "div") [] (Element (Element Nothing (codes "i") [] Nothing) (codes "div") [] (Element (Element Nothing (codes "i") [] Nothing) (codes "div") [] (Element Nothing (codes "i") [] (Characters Nothing (codes "x")))))))))))
+    -- `<nobr><u><b><b><u><div></nobr>`: four elements are between, and the fourth is not opened again
+    ∷ case (start (codes "nobr") ∷ start (codes "u") ∷ start (codes "b") ∷ start (codes "b") ∷ start (codes "u") ∷ start (codes "div") ∷ end (codes "nobr") ∷ [])
+    (Element (Element Nothing (codes "nobr") [] (Element Nothing (codes "u") [] (Element Nothing (codes "b") [] (Element Nothing (codes "b") [] (Element Nothing (codes "u") [] Nothing))))) (codes "b") [] (Element Nothing (codes "b") [] (Element Nothing (codes "u") [] (Element Nothing (codes "div") [] (Element Nothing (codes "nobr") [] Nothing)))))
+    -- `<table><b><div></b>x`: by foster parenting too
+    ∷ case (start (codes "table") ∷ start (codes "b") ∷ start (codes "div") ∷ end (codes "b") ∷ Text (codes "x") ∷ [])
+    (Element (Element (Element Nothing (codes "b") [] Nothing) (codes "div") [] (Characters (Element Nothing (codes "b") [] Nothing) (codes "x"))) (codes "table") [] Nothing)
     -- `<h1>a<h2>b`: a heading closes the one that it stands in
     ∷ case (start (codes "h1") ∷ Text (codes "a") ∷ start (codes "h2") ∷ Text (codes "b") ∷ [])
     (Element (Element Nothing (codes "h1") [] (Characters Nothing (codes "a"))) (codes "h2") [] (Characters Nothing (codes "b")))
@@ -72,6 +81,11 @@ cases =
     (Element Nothing (codes "b") [] (Element Nothing (codes "b") [] (Element Nothing (codes "b") [] (Element Nothing (codes "b") [] (Characters Nothing (codes "x"))))))
     ∷ case (start (codes "p") ∷ start (codes "b") ∷ start (codes "b") ∷ start (codes "b") ∷ start (codes "b") ∷ Text (codes "x") ∷ end (codes "p") ∷ Text (codes "y") ∷ [])
     (Element (Element Nothing (codes "p") [] (Element Nothing (codes "b") [] (Element Nothing (codes "b") [] (Element Nothing (codes "b") [] (Element Nothing (codes "b") [] (Characters Nothing (codes "x"))))))) (codes "b") [] (Element Nothing (codes "b") [] (Element Nothing (codes "b") [] (Characters Nothing (codes "y")))))
+    -- `<p><b><b id=1><b><b>x</p>y`, and with attributes in another order: alike are those of one name, with the same attributes
+    ∷ case (start (codes "p") ∷ start (codes "b") ∷ StartTag (codes "b") (attribute (codes "id") (codes "1") ∷ []) ∷ start (codes "b") ∷ start (codes "b") ∷ Text (codes "x") ∷ end (codes "p") ∷ Text (codes "y") ∷ [])
+    (Element (Element Nothing (codes "p") [] (Element Nothing (codes "b") [] (Element Nothing (codes "b") (attribute (codes "id") (codes "1") ∷ []) (Element Nothing (codes "b") [] (Element Nothing (codes "b") [] (Characters Nothing (codes "x"))))))) (codes "b") [] (Element Nothing (codes "b") (attribute (codes "id") (codes "1") ∷ []) (Element Nothing (codes "b") [] (Element Nothing (codes "b") [] (Characters Nothing (codes "y"))))))
+    ∷ case (start (codes "p") ∷ StartTag (codes "b") (attribute (codes "id") (codes "1") ∷ attribute (codes "class") (codes "2") ∷ []) ∷ StartTag (codes "b") (attribute (codes "class") (codes "2") ∷ attribute (codes "id") (codes "1") ∷ []) ∷ StartTag (codes "b") (attribute (codes "id") (codes "1") ∷ attribute (codes "class") (codes "2") ∷ []) ∷ StartTag (codes "b") (attribute (codes "id") (codes "1") ∷ attribute (codes "class") (codes "2") ∷ []) ∷ Text (codes "x") ∷ end (codes "p") ∷ Text (codes "y") ∷ [])
+    (Element (Element Nothing (codes "p") [] (Element Nothing (codes "b") (attribute (codes "id") (codes "1") ∷ attribute (codes "class") (codes "2") ∷ []) (Element Nothing (codes "b") (attribute (codes "class") (codes "2") ∷ attribute (codes "id") (codes "1") ∷ []) (Element Nothing (codes "b") (attribute (codes "id") (codes "1") ∷ attribute (codes "class") (codes "2") ∷ []) (Element Nothing (codes "b") (attribute (codes "id") (codes "1") ∷ attribute (codes "class") (codes "2") ∷ []) (Characters Nothing (codes "x"))))))) (codes "b") (attribute (codes "class") (codes "2") ∷ attribute (codes "id") (codes "1") ∷ []) (Element Nothing (codes "b") (attribute (codes "id") (codes "1") ∷ attribute (codes "class") (codes "2") ∷ []) (Element Nothing (codes "b") (attribute (codes "id") (codes "1") ∷ attribute (codes "class") (codes "2") ∷ []) (Characters Nothing (codes "y")))))
     -- `<button><button>`
     ∷ case (start (codes "button") ∷ start (codes "button") ∷ [])
     (Element (Element Nothing (codes "button") [] Nothing) (codes "button") [] Nothing)
