@@ -77,9 +77,23 @@ CHOSEN = [
     "<form><table></form></table><h2>",
     "<i><table><i><i><i></table></i>y",
     "<a><b><u><div><div><div><div><div><div><div><div></b></a></a>x",
+    "<p><hr>x",
+    "<li><ol></li>x",
+    "<li><ul></li>x",
+    "<form><li></form>x",
+    "<form><dd></form>x",
+    "<form><p></form>x",
+    "<form><rb></form>x",
+    "<form><rtc></form>x",
+    "<ruby><rt><rb>x<rtc>y<rt>z<rp>",
+    "<table><input type=hidden><b>x",
+    "<a><table><caption><a>x</caption></table>y",
+    "<table><caption><b>x</caption></table>z",
+    "<b><span><b><b><b></b></b></b></b>x",
+    "<a><table><tr><td><a>x</td></tr></table>y",
 ]
 # An input that tells the kind of a name, which stands for NAME.
-BY_NAME = "<b><NAME>1</b>2</NAME>3<li><NAME><li><ruby><NAME><rt></ruby><table><NAME>x"
+BY_NAME = "<p><NAME>0</p><b><NAME>1</b>2</NAME>3<li><NAME><li><ruby><NAME><rt></ruby><table><NAME>x"
 
 HEAD = """-- Random items, with the trees that a model of the standard's tree construction builds of them, and with whether they all fit: by
 -- `python3 tools/tree_cases.py`, and not by hand.

@@ -1,12 +1,10 @@
--- Worked cases: trees that tree construction builds, each by hand from the standard; items that fit, and others; hosts.
-use Rattle.std.proofs.Common.{◌≡◌, Bool, true, false, List, [], ◌∷◌, refl}
+-- Worked cases, by hand from the standard: trees that tree construction builds; items that fit, and others; hosts.
+use Rattle.std.proofs.Common.{◌≡◌, true, false, List, [], ◌∷◌, refl}
 use Rattle.std.specs.Prelude.{ℕ, codes, map, not}
 use Rattle.std.specs.List.{list_all}
 use Rattle.html5tree.specs.Names.{is_among, kind_in, all_names, kind_of}
-use Rattle.html5tree.specs.Items.{Item, in_front, whole_texts, without_newlines}
-use Rattle.html5tree.specs.Items.Item.{StartTag, Text}
-use Rattle.html5tree.specs.Tree.{Tree}
-use Rattle.html5tree.specs.Tree.Tree.{Nothing, Element, Characters}
+use Rattle.html5tree.specs.Items.{in_front, whole_texts, without_newlines}
+use Rattle.html5tree.specs.Items.Item.{Text}
 use Rattle.html5tree.specs.Scopes.{near}
 use Rattle.html5tree.specs.Fitting.{fits, open_after, each_fits, all_open_after, all_fit}
 use Rattle.html5tree.specs.Hosts.{is_flow_host}
@@ -16,143 +14,127 @@ use Rattle.html5tree.specs.Adoption.{ended_by, furthest_block, replaced, inner_l
 use Rattle.html5tree.specs.InBody.{innermost}
 use Rattle.html5tree.specs.Tables.{mode_of, back_to, is_hidden, leading_space, after_space}
 use Rattle.html5tree.specs.Construction.{process, run, tree_of}
-use Rattle.html5tree.proofs.Shorthand.{start, end, attribute}
+use Rattle.html5tree.proofs.Markup.{up_to, beyond, attributes_of, items_from, items_of, attributes_text, shown}
+use Rattle.html5tree.proofs.Shorthand.{start}
 
--- ---- trees
+-- ---- trees: items, and what is built of them
 
 record Case : Type 0 where
-  items : List Item
-  tree : Tree
+  items : List ℕ
+  tree : List ℕ
 
-case : List Item → Tree → Case
+case : List ℕ → List ℕ → Case
 case items tree = record { items = items; tree = tree }
 
 cases : List Case
 cases =
-    -- `<p>1<p>2`: a `p` closes the one that is open
-    case (start (codes "p") ∷ Text (codes "1") ∷ start (codes "p") ∷ Text (codes "2") ∷ [])
-    (Element (Element Nothing (codes "p") [] (Characters Nothing (codes "1"))) (codes "p") [] (Characters Nothing (codes "2")))
-    -- `<ul><li>a<li>b</ul>`: so does a `li`, and `</ul>` closes both
-    ∷ case (start (codes "ul") ∷ start (codes "li") ∷ Text (codes "a") ∷ start (codes "li") ∷ Text (codes "b") ∷ end (codes "ul") ∷ [])
-    (Element Nothing (codes "ul") [] (Element (Element Nothing (codes "li") [] (Characters Nothing (codes "a"))) (codes "li") [] (Characters Nothing (codes "b"))))
-    -- `<table><tr><td>x`: a row has a body
-    ∷ case (start (codes "table") ∷ start (codes "tr") ∷ start (codes "td") ∷ Text (codes "x") ∷ [])
-    (Element Nothing (codes "table") [] (Element Nothing (codes "tbody") [] (Element Nothing (codes "tr") [] (Element Nothing (codes "td") [] (Characters Nothing (codes "x"))))))
-    -- `<table>x<tr>`: text is put before the table
-    ∷ case (start (codes "table") ∷ Text (codes "x") ∷ start (codes "tr") ∷ [])
-    (Element (Characters Nothing (codes "x")) (codes "table") [] (Element Nothing (codes "tbody") [] (Element Nothing (codes "tr") [] Nothing)))
-    -- `<table>x <tr>` and `<table> <tr>`: white space too, unless it is all of the text
-    ∷ case (start (codes "table") ∷ Text (codes "x ") ∷ start (codes "tr") ∷ [])
-    (Element (Characters Nothing (codes "x ")) (codes "table") [] (Element Nothing (codes "tbody") [] (Element Nothing (codes "tr") [] Nothing)))
-    ∷ case (start (codes "table") ∷ Text (codes " ") ∷ start (codes "tr") ∷ [])
-    (Element Nothing (codes "table") [] (Element (Characters Nothing (codes " ")) (codes "tbody") [] (Element Nothing (codes "tr") [] Nothing)))
-    -- `<table><a><tr><td></a>`: so is an `a`, and `</a>` in a cell means none outside it
-    ∷ case (start (codes "table") ∷ start (codes "a") ∷ start (codes "tr") ∷ start (codes "td") ∷ end (codes "a") ∷ [])
-    (Element (Element Nothing (codes "a") [] Nothing) (codes "table") [] (Element Nothing (codes "tbody") [] (Element Nothing (codes "tr") [] (Element Nothing (codes "td") [] Nothing))))
-    -- `<a href=u>1<a href=v>2`: an `a` closes the one that is open
-    ∷ case (StartTag (codes "a") (attribute (codes "href") (codes "u") ∷ []) ∷ Text (codes "1") ∷ StartTag (codes "a") (attribute (codes "href") (codes "v") ∷ []) ∷ Text (codes "2") ∷ [])
-    (Element (Element Nothing (codes "a") (attribute (codes "href") (codes "u") ∷ []) (Characters Nothing (codes "1"))) (codes "a") (attribute (codes "href") (codes "v") ∷ []) (Characters Nothing (codes "2")))
-    -- `<b><p>x</b>y</p>`: the `b` is taken apart, around the `p` and within it
-    ∷ case (start (codes "b") ∷ start (codes "p") ∷ Text (codes "x") ∷ end (codes "b") ∷ Text (codes "y") ∷ end (codes "p") ∷ [])
-    (Element (Element Nothing (codes "b") [] Nothing) (codes "p") [] (Characters (Element Nothing (codes "b") [] (Characters Nothing (codes "x"))) (codes "y")))
-    -- `<b><div><p>x</b>y`: so it goes on from block to block, the outermost first
-    ∷ case (start (codes "b") ∷ start (codes "div") ∷ start (codes "p") ∷ Text (codes "x") ∷ end (codes "b") ∷ Text (codes "y") ∷ [])
-    (Element (Element Nothing (codes "b") [] Nothing) (codes "div") [] (Element (Element Nothing (codes "b") [] Nothing) (codes "p") [] (Characters (Element Nothing (codes "b") [] (Characters Nothing (codes "x"))) (codes "y"))))
-    -- `<i>` around eight `div`: the algorithm goes no further
-    ∷ case (start (codes "i") ∷ start (codes "div") ∷ start (codes "div") ∷ start (codes "div") ∷ start (codes "div") ∷ start (codes "div") ∷ start (codes "div") ∷ start (codes "div") ∷ start (codes "div") ∷ end (codes "i") ∷ Text (codes "x") ∷ [])
-    (Element (Element Nothing (codes "i") [] Nothing) (codes "div") [] (Element (Element Nothing (codes "i") [] Nothing) (codes "div") [] (Element (Element Nothing (codes "i") [] Nothing) (codes "div") [] (Element (Element Nothing (codes "i") [] Nothing) (codes "div") [] (Element (Element Nothing (codes "i") [] Nothing) (codes "div") [] (Element (Element Nothing (codes "i") [] Nothing) (codes "div") [] (Element (Element Nothing (codes "i") [] Nothing) (codes "div") [] (Element (Element Nothing (codes "i") [] Nothing) (codes "div") [] (Element Nothing (codes "i") [] (Characters Nothing (codes "x")))))))))))
-    -- `<nobr><u><b><b><u><div></nobr>`: four elements are between, and the fourth is not opened again
-    ∷ case (start (codes "nobr") ∷ start (codes "u") ∷ start (codes "b") ∷ start (codes "b") ∷ start (codes "u") ∷ start (codes "div") ∷ end (codes "nobr") ∷ [])
-    (Element (Element Nothing (codes "nobr") [] (Element Nothing (codes "u") [] (Element Nothing (codes "b") [] (Element Nothing (codes "b") [] (Element Nothing (codes "u") [] Nothing))))) (codes "b") [] (Element Nothing (codes "b") [] (Element Nothing (codes "u") [] (Element Nothing (codes "div") [] (Element Nothing (codes "nobr") [] Nothing)))))
-    -- `<table><b><div></b>x`: by foster parenting too
-    ∷ case (start (codes "table") ∷ start (codes "b") ∷ start (codes "div") ∷ end (codes "b") ∷ Text (codes "x") ∷ [])
-    (Element (Element (Element Nothing (codes "b") [] Nothing) (codes "div") [] (Characters (Element Nothing (codes "b") [] Nothing) (codes "x"))) (codes "table") [] Nothing)
-    -- `<h1>a<h2>b`: a heading closes the one that it stands in
-    ∷ case (start (codes "h1") ∷ Text (codes "a") ∷ start (codes "h2") ∷ Text (codes "b") ∷ [])
-    (Element (Element Nothing (codes "h1") [] (Characters Nothing (codes "a"))) (codes "h2") [] (Characters Nothing (codes "b")))
-    -- `<dl><dt>a<dd>b</dl>`
-    ∷ case (start (codes "dl") ∷ start (codes "dt") ∷ Text (codes "a") ∷ start (codes "dd") ∷ Text (codes "b") ∷ end (codes "dl") ∷ [])
-    (Element Nothing (codes "dl") [] (Element (Element Nothing (codes "dt") [] (Characters Nothing (codes "a"))) (codes "dd") [] (Characters Nothing (codes "b"))))
-    -- `</div></p></td>x`: of end tags without an element `</p>` alone makes one
-    ∷ case (end (codes "div") ∷ end (codes "p") ∷ end (codes "td") ∷ Text (codes "x") ∷ [])
-    (Characters (Element Nothing (codes "p") [] Nothing) (codes "x"))
-    -- `<b><b><b><b>x`, and `<p><b><b><b><b>x</p>y`: all four are open, and three of them are opened again
-    ∷ case (start (codes "b") ∷ start (codes "b") ∷ start (codes "b") ∷ start (codes "b") ∷ Text (codes "x") ∷ [])
-    (Element Nothing (codes "b") [] (Element Nothing (codes "b") [] (Element Nothing (codes "b") [] (Element Nothing (codes "b") [] (Characters Nothing (codes "x"))))))
-    ∷ case (start (codes "p") ∷ start (codes "b") ∷ start (codes "b") ∷ start (codes "b") ∷ start (codes "b") ∷ Text (codes "x") ∷ end (codes "p") ∷ Text (codes "y") ∷ [])
-    (Element (Element Nothing (codes "p") [] (Element Nothing (codes "b") [] (Element Nothing (codes "b") [] (Element Nothing (codes "b") [] (Element Nothing (codes "b") [] (Characters Nothing (codes "x"))))))) (codes "b") [] (Element Nothing (codes "b") [] (Element Nothing (codes "b") [] (Characters Nothing (codes "y")))))
-    -- `<p><b><b id=1><b><b>x</p>y`, and with attributes in another order: alike are those of one name, with the same attributes
-    ∷ case (start (codes "p") ∷ start (codes "b") ∷ StartTag (codes "b") (attribute (codes "id") (codes "1") ∷ []) ∷ start (codes "b") ∷ start (codes "b") ∷ Text (codes "x") ∷ end (codes "p") ∷ Text (codes "y") ∷ [])
-    (Element (Element Nothing (codes "p") [] (Element Nothing (codes "b") [] (Element Nothing (codes "b") (attribute (codes "id") (codes "1") ∷ []) (Element Nothing (codes "b") [] (Element Nothing (codes "b") [] (Characters Nothing (codes "x"))))))) (codes "b") [] (Element Nothing (codes "b") (attribute (codes "id") (codes "1") ∷ []) (Element Nothing (codes "b") [] (Element Nothing (codes "b") [] (Characters Nothing (codes "y"))))))
-    ∷ case (start (codes "p") ∷ StartTag (codes "b") (attribute (codes "id") (codes "1") ∷ attribute (codes "class") (codes "2") ∷ []) ∷ StartTag (codes "b") (attribute (codes "class") (codes "2") ∷ attribute (codes "id") (codes "1") ∷ []) ∷ StartTag (codes "b") (attribute (codes "id") (codes "1") ∷ attribute (codes "class") (codes "2") ∷ []) ∷ StartTag (codes "b") (attribute (codes "id") (codes "1") ∷ attribute (codes "class") (codes "2") ∷ []) ∷ Text (codes "x") ∷ end (codes "p") ∷ Text (codes "y") ∷ [])
-    (Element (Element Nothing (codes "p") [] (Element Nothing (codes "b") (attribute (codes "id") (codes "1") ∷ attribute (codes "class") (codes "2") ∷ []) (Element Nothing (codes "b") (attribute (codes "class") (codes "2") ∷ attribute (codes "id") (codes "1") ∷ []) (Element Nothing (codes "b") (attribute (codes "id") (codes "1") ∷ attribute (codes "class") (codes "2") ∷ []) (Element Nothing (codes "b") (attribute (codes "id") (codes "1") ∷ attribute (codes "class") (codes "2") ∷ []) (Characters Nothing (codes "x"))))))) (codes "b") (attribute (codes "class") (codes "2") ∷ attribute (codes "id") (codes "1") ∷ []) (Element Nothing (codes "b") (attribute (codes "id") (codes "1") ∷ attribute (codes "class") (codes "2") ∷ []) (Element Nothing (codes "b") (attribute (codes "id") (codes "1") ∷ attribute (codes "class") (codes "2") ∷ []) (Characters Nothing (codes "y")))))
-    -- `<button><button>`
-    ∷ case (start (codes "button") ∷ start (codes "button") ∷ [])
-    (Element (Element Nothing (codes "button") [] Nothing) (codes "button") [] Nothing)
-    -- `<form><form>`: the second is ignored
-    ∷ case (start (codes "form") ∷ start (codes "form") ∷ [])
-    (Element Nothing (codes "form") [] Nothing)
-    -- `<pre>`, two newlines and `x`: the first is ignored
-    ∷ case (start (codes "pre") ∷ Text (10 ∷ 10 ∷ 120 ∷ []) ∷ [])
-    (Element Nothing (codes "pre") [] (Characters Nothing (10 ∷ 120 ∷ [])))
-    -- `<ruby>a<rt>b<rp>`
-    ∷ case (start (codes "ruby") ∷ Text (codes "a") ∷ start (codes "rt") ∷ Text (codes "b") ∷ start (codes "rp") ∷ [])
-    (Element Nothing (codes "ruby") [] (Element (Element (Characters Nothing (codes "a")) (codes "rt") [] (Characters Nothing (codes "b"))) (codes "rp") [] Nothing))
-    -- `<p><table>`: a table closes a `p`, as the document is not in quirks mode
-    ∷ case (start (codes "p") ∷ start (codes "table") ∷ [])
-    (Element (Element Nothing (codes "p") [] Nothing) (codes "table") [] Nothing)
+    -- a `p` closes the one that is open
+    case (codes "<p>1<p>2") (codes "<p>1</p><p>2</p>")
+    -- so does a `li`, and `</ul>` closes both
+    ∷ case (codes "<ul><li>a<li>b</ul>") (codes "<ul><li>a</li><li>b</li></ul>")
+    -- a row has a body
+    ∷ case (codes "<table><tr><td>x") (codes "<table><tbody><tr><td>x</td></tr></tbody></table>")
+    -- text is put before the table; white space, too, unless it is all of the text
+    ∷ case (codes "<table>x<tr>") (codes "x<table><tbody><tr></tr></tbody></table>")
+    ∷ case (codes "<table>x <tr>") (codes "x <table><tbody><tr></tr></tbody></table>")
+    ∷ case (codes "<table> <tr>") (codes "<table> <tbody><tr></tr></tbody></table>")
+    -- so is an `a`, and `</a>` in a cell means none outside it
+    ∷ case (codes "<table><a><tr><td></a>") (codes "<a></a><table><tbody><tr><td></td></tr></tbody></table>")
+    -- an `a` closes the one that is open
+    ∷ case (codes "<a href=u>1<a href=v>2") (codes "<a href=u>1</a><a href=v>2</a>")
+    -- the adoption agency: the `b` is around the `p`, and then within it
+    ∷ case (codes "<b><p>x</b>y</p>") (codes "<b></b><p><b>x</b>y</p>")
+    -- so it goes on from block to block, the outermost first
+    ∷ case (codes "<b><div><p>x</b>y") (codes "<b></b><div><b></b><p><b>x</b>y</p></div>")
+    -- after eight blocks it goes no further
+    ∷ case (codes "<i><div><div><div><div><div><div><div><div></i>x") (codes "<i></i><div><i></i><div><i></i><div><i></i><div><i></i><div><i></i><div><i></i><div><i></i><div><i>x</i></div></div></div></div></div></div></div></div>")
+    -- of the elements between, the fourth is not made anew
+    ∷ case (codes "<nobr><u><b><b><u><div></nobr>") (codes "<nobr><u><b><b><u></u></b></b></u></nobr><b><b><u><div><nobr></nobr></div></u></b></b>")
+    -- by foster parenting, too
+    ∷ case (codes "<table><b><div></b>x") (codes "<b></b><div><b></b>x</div><table></table>")
+    -- a heading closes the one that it stands in
+    ∷ case (codes "<h1>a<h2>b") (codes "<h1>a</h1><h2>b</h2>")
+    -- a `dd` closes a `dt`
+    ∷ case (codes "<dl><dt>a<dd>b</dl>") (codes "<dl><dt>a</dt><dd>b</dd></dl>")
+    -- of end tags without an element `</p>` alone makes one
+    ∷ case (codes "</div></p></td>x") (codes "<p></p>x")
+    -- Noah's Ark: all four are open, and three of them are opened again
+    ∷ case (codes "<b><b><b><b>x") (codes "<b><b><b><b>x</b></b></b></b>")
+    ∷ case (codes "<p><b><b><b><b>x</p>y") (codes "<p><b><b><b><b>x</b></b></b></b></p><b><b><b>y</b></b></b>")
+    -- alike are those of one name with the same attributes, in any order
+    ∷ case (codes "<p><b><b id=1><b><b>x</p>y") (codes "<p><b><b id=1><b><b>x</b></b></b></b></p><b><b id=1><b><b>y</b></b></b></b>")
+    ∷ case (codes "<p><b id=1 class=2><b class=2 id=1><b id=1 class=2><b id=1 class=2>x</p>y") (codes "<p><b id=1 class=2><b class=2 id=1><b id=1 class=2><b id=1 class=2>x</b></b></b></b></p><b class=2 id=1><b id=1 class=2><b id=1 class=2>y</b></b></b>")
+    -- a `button` closes the one that is open
+    ∷ case (codes "<button><button>") (codes "<button></button><button></button>")
+    -- a second `form` is ignored
+    ∷ case (codes "<form><form>") (codes "<form></form>")
+    -- a newline after `<pre>` is ignored
+    ∷ case (codes "<pre>\n\nx") (codes "<pre>\nx</pre>")
+    -- an `rp` closes an `rt`
+    ∷ case (codes "<ruby>a<rt>b<rp>") (codes "<ruby>a<rt>b</rt><rp></rp></ruby>")
+    -- a `table` closes a `p`, as the document is not in quirks mode
+    ∷ case (codes "<p><table>") (codes "<p></p><table></table>")
     ∷ []
 
-built-by-hand : map (λ c. tree_of c.items) cases ≡ map (λ c. c.tree) cases
-unfolding case cases is_among kind_in all_names kind_of in_front whole_texts without_newlines near joined changed changed_before found without applied built bare has_node inside outside without_node is_bounded popped_until implied_ended has_entry without_entry last_named is_one_of are_all_of count_alike without_earliest pushed cleared last_table lost kept reopened ended_by furthest_block replaced inner_loop added_after adopted outer_loop innermost mode_of back_to is_hidden leading_space after_space process run
+built-by-hand : map (λ c. shown (tree_of (items_of c.items))) cases ≡ map (λ c. c.tree) cases
+unfolding case cases up_to beyond attributes_of items_from is_among kind_in all_names kind_of near attributes_text shown in_front whole_texts without_newlines joined changed changed_before found without applied built bare has_node inside outside without_node is_bounded popped_until implied_ended has_entry without_entry last_named is_one_of are_all_of count_alike without_earliest pushed cleared last_table lost kept reopened ended_by furthest_block replaced inner_loop added_after adopted outer_loop innermost mode_of back_to is_hidden leading_space after_space process run
 built-by-hand = refl
+
+-- texts that stand side by side, and empty ones, are read as the whole texts that they make
+cut-texts : map (λ items. shown (tree_of items))
+    ((start (codes "table") ∷ Text (codes " ") ∷ Text (codes "x") ∷ []) ∷ (start (codes "pre") ∷ Text [] ∷ Text (codes "\n") ∷ Text (codes "\n") ∷ []) ∷ [])
+    ≡ codes " x<table></table>" ∷ codes "<pre>\n</pre>" ∷ []
+unfolding up_to beyond attributes_of items_from is_among kind_in all_names kind_of near attributes_text shown in_front whole_texts without_newlines joined changed changed_before found without applied built bare has_node inside outside without_node is_bounded popped_until implied_ended has_entry without_entry last_named is_one_of are_all_of count_alike without_earliest pushed cleared last_table lost kept reopened ended_by furthest_block replaced inner_loop added_after adopted outer_loop innermost mode_of back_to is_hidden leading_space after_space process run
+cut-texts = refl
 
 -- ---- what fits
 
-record Judged : Type 0 where
-  judged : List Item
-  fits_whole : Bool
-
-judge : List Item → Bool → Judged
-judge items fits_whole = record { judged = items; fits_whole = fits_whole }
-
-judgements : List Judged
-judgements =
-    -- a `p` after a `p`, and in one
-    judge (start (codes "p") ∷ Text (codes "1") ∷ end (codes "p") ∷ start (codes "p") ∷ Text (codes "2") ∷ end (codes "p") ∷ []) true
-    ∷ judge (start (codes "p") ∷ Text (codes "1") ∷ start (codes "p") ∷ Text (codes "2") ∷ end (codes "p") ∷ end (codes "p") ∷ []) false
-    -- an `a` in an `a`, but for one in a cell
-    ∷ judge (start (codes "a") ∷ start (codes "b") ∷ Text (codes "x") ∷ end (codes "b") ∷ end (codes "a") ∷ []) true
-    ∷ judge (start (codes "a") ∷ start (codes "b") ∷ start (codes "a") ∷ Text (codes "x") ∷ end (codes "a") ∷ end (codes "b") ∷ end (codes "a") ∷ []) false
-    ∷ judge (start (codes "a") ∷ start (codes "table") ∷ start (codes "tbody") ∷ start (codes "tr") ∷ start (codes "td") ∷ start (codes "a") ∷ Text (codes "x") ∷ end (codes "a") ∷ end (codes "td") ∷ end (codes "tr") ∷ end (codes "tbody") ∷ end (codes "table") ∷ end (codes "a") ∷ []) true
-    -- a `li` in a `li`, but for one in a list of its own; a `div` between them is no list
-    ∷ judge (start (codes "ul") ∷ start (codes "li") ∷ Text (codes "a") ∷ start (codes "ul") ∷ start (codes "li") ∷ Text (codes "b") ∷ end (codes "li") ∷ end (codes "ul") ∷ end (codes "li") ∷ end (codes "ul") ∷ []) true
-    ∷ judge (start (codes "ul") ∷ start (codes "li") ∷ Text (codes "a") ∷ start (codes "li") ∷ Text (codes "b") ∷ end (codes "li") ∷ end (codes "li") ∷ end (codes "ul") ∷ []) false
-    ∷ judge (start (codes "li") ∷ start (codes "div") ∷ start (codes "li") ∷ Text (codes "b") ∷ end (codes "li") ∷ end (codes "div") ∷ end (codes "li") ∷ []) false
-    -- a table has its body, and white space alone beside its rows
-    ∷ judge (start (codes "table") ∷ start (codes "tbody") ∷ Text (codes " ") ∷ start (codes "tr") ∷ start (codes "td") ∷ Text (codes "x") ∷ end (codes "td") ∷ end (codes "tr") ∷ end (codes "tbody") ∷ end (codes "table") ∷ []) true
-    ∷ judge (start (codes "table") ∷ start (codes "tr") ∷ start (codes "td") ∷ Text (codes "x") ∷ end (codes "td") ∷ end (codes "tr") ∷ end (codes "table") ∷ []) false
-    ∷ judge (start (codes "table") ∷ start (codes "tbody") ∷ Text (codes "x") ∷ start (codes "tr") ∷ start (codes "td") ∷ Text (codes "x") ∷ end (codes "td") ∷ end (codes "tr") ∷ end (codes "tbody") ∷ end (codes "table") ∷ []) false
-    -- a heading in a heading
-    ∷ judge (start (codes "h1") ∷ start (codes "b") ∷ start (codes "h2") ∷ Text (codes "x") ∷ end (codes "h2") ∷ end (codes "b") ∷ end (codes "h1") ∷ []) true
-    ∷ judge (start (codes "h1") ∷ start (codes "h2") ∷ Text (codes "x") ∷ end (codes "h2") ∷ end (codes "h1") ∷ []) false
-    -- `rt` in a `ruby`, and in an `rb` of one
-    ∷ judge (start (codes "ruby") ∷ Text (codes "a") ∷ start (codes "rt") ∷ Text (codes "b") ∷ end (codes "rt") ∷ end (codes "ruby") ∷ []) true
-    ∷ judge (start (codes "ruby") ∷ start (codes "rb") ∷ Text (codes "a") ∷ start (codes "rt") ∷ Text (codes "b") ∷ end (codes "rt") ∷ end (codes "rb") ∷ end (codes "ruby") ∷ []) false
-    -- a form in a form; a button in a button; an end tag of another element; an element that stays open; a name that is not in the table
-    ∷ judge (start (codes "form") ∷ start (codes "div") ∷ start (codes "form") ∷ end (codes "form") ∷ end (codes "div") ∷ end (codes "form") ∷ []) false
-    ∷ judge (start (codes "button") ∷ start (codes "b") ∷ start (codes "button") ∷ Text (codes "x") ∷ end (codes "button") ∷ end (codes "b") ∷ end (codes "button") ∷ []) false
-    ∷ judge (start (codes "b") ∷ start (codes "i") ∷ Text (codes "x") ∷ end (codes "b") ∷ end (codes "i") ∷ []) false
-    ∷ judge (start (codes "div") ∷ Text (codes "x") ∷ []) false
-    ∷ judge (start (codes "video") ∷ end (codes "video") ∷ []) false
-    -- no end tag of `br`
-    ∷ judge (Text (codes "a") ∷ start (codes "br") ∷ Text (codes "b") ∷ start (codes "hr") ∷ Text (codes "c") ∷ start (codes "img") ∷ []) true
-    ∷ judge (start (codes "br") ∷ end (codes "br") ∷ []) false
+fitting : List (List ℕ)
+fitting =
+    (codes "<p>1</p><p>2</p>")
+    ∷ (codes "<a><b>x</b></a>")
+    ∷ (codes "<a><table><tbody><tr><td><a>x</a></td></tr></tbody></table></a>")
+    ∷ (codes "<ul><li>a<ul><li>b</li></ul></li></ul>")
+    ∷ (codes "<table><tbody> <tr><td>x</td></tr></tbody></table>")
+    ∷ (codes "<h1><b><h2>x</h2></b></h1>")
+    ∷ (codes "<ruby>a<rt>b</rt></ruby>")
+    ∷ (codes "a<br>b<hr>c<img>")
+    ∷ (codes "<table><caption>x</caption><colgroup><col></colgroup><thead><tr><th>a</th></tr></thead></table>")
+    ∷ (codes "<p><button><p>x</p></button></p>")
+    ∷ (codes "<dl><dt>a</dt><dd>b<dl><dd>c</dd></dl></dd></dl>")
     ∷ []
 
-judged-by-hand : map (λ j. all_fit [] j.judged) judgements ≡ map (λ j. j.fits_whole) judgements
-unfolding judge judgements is_among kind_in all_names kind_of near fits open_after each_fits all_open_after
-judged-by-hand = refl
+all-of-these-fit : list_all (λ markup. all_fit [] (items_of markup)) fitting ≡ true
+unfolding fitting up_to beyond attributes_of items_from is_among kind_in all_names kind_of near fits open_after each_fits all_open_after
+all-of-these-fit = refl
+
+unfit : List (List ℕ)
+unfit =
+    (codes "<p>1<p>2</p></p>")
+    ∷ (codes "<a><b><a>x</a></b></a>")
+    ∷ (codes "<ul><li>a<li>b</li></li></ul>")
+    ∷ (codes "<li><div><li>b</li></div></li>")
+    ∷ (codes "<table><tr><td>x</td></tr></table>")
+    ∷ (codes "<table><tbody>x<tr><td>x</td></tr></tbody></table>")
+    ∷ (codes "<h1><h2>x</h2></h1>")
+    ∷ (codes "<ruby><rb>a<rt>b</rt></rb></ruby>")
+    ∷ (codes "<form><div><form></form></div></form>")
+    ∷ (codes "<button><b><button>x</button></b></button>")
+    ∷ (codes "<b><i>x</b></i>")
+    ∷ (codes "<div>x")
+    ∷ (codes "<video></video>")
+    ∷ (codes "<br></br>")
+    ∷ (codes "<table><p>x</p></table>")
+    ∷ (codes "<tr></tr>")
+    ∷ (codes "<b></b></b>")
+    ∷ (codes "<p><b><div>x</div></b></p>")
+    ∷ (codes "<nobr><i><nobr>x</nobr></i></nobr>")
+    ∷ (codes "<dl><dt>a<dd>b</dd></dt></dl>")
+    ∷ []
+
+none-of-these-fits : list_all (λ markup. not (all_fit [] (items_of markup))) unfit ≡ true
+unfolding unfit up_to beyond attributes_of items_from is_among kind_in all_names kind_of near fits open_after each_fits all_open_after
+none-of-these-fits = refl
 
 -- ---- hosts, innermost element first
 
@@ -174,28 +156,28 @@ unfolding other_hosts is_flow_host near is_among kind_in all_names kind_of
 others-are-no-hosts = refl
 
 -- by host what fits there, and what fits by itself and not there
-in-paragraph : (each_fits (codes "p" ∷ []) (start (codes "b") ∷ Text (codes "x") ∷ end (codes "b") ∷ start (codes "br") ∷ []) ≡ true)
-    × (each_fits (codes "p" ∷ []) (start (codes "div") ∷ Text (codes "x") ∷ end (codes "div") ∷ []) ≡ false)
-unfolding is_among kind_in all_names kind_of near fits open_after each_fits all_open_after
+in-paragraph : (each_fits (codes "p" ∷ []) (items_of (codes "<b>x</b><br>")) ≡ true)
+    × (each_fits (codes "p" ∷ []) (items_of (codes "<div>x</div>")) ≡ false)
+unfolding up_to beyond attributes_of items_from is_among kind_in all_names kind_of near fits open_after each_fits all_open_after
 in-paragraph = (refl, refl)
 
-in-anchor : (each_fits (codes "a" ∷ []) (start (codes "p") ∷ Text (codes "x") ∷ end (codes "p") ∷ []) ≡ true)
-    × (each_fits (codes "a" ∷ []) (start (codes "b") ∷ start (codes "a") ∷ Text (codes "x") ∷ end (codes "a") ∷ end (codes "b") ∷ []) ≡ false)
-unfolding is_among kind_in all_names kind_of near fits open_after each_fits all_open_after
+in-anchor : (each_fits (codes "a" ∷ []) (items_of (codes "<p>x</p>")) ≡ true)
+    × (each_fits (codes "a" ∷ []) (items_of (codes "<b><a>x</a></b>")) ≡ false)
+unfolding up_to beyond attributes_of items_from is_among kind_in all_names kind_of near fits open_after each_fits all_open_after
 in-anchor = (refl, refl)
 
-in-item : (each_fits (codes "li" ∷ codes "ul" ∷ []) (start (codes "ul") ∷ start (codes "li") ∷ Text (codes "x") ∷ end (codes "li") ∷ end (codes "ul") ∷ []) ≡ true)
-    × (each_fits (codes "li" ∷ codes "ul" ∷ []) (start (codes "div") ∷ start (codes "li") ∷ Text (codes "x") ∷ end (codes "li") ∷ end (codes "div") ∷ []) ≡ false)
-unfolding is_among kind_in all_names kind_of near fits open_after each_fits all_open_after
+in-item : (each_fits (codes "li" ∷ codes "ul" ∷ []) (items_of (codes "<ul><li>x</li></ul>")) ≡ true)
+    × (each_fits (codes "li" ∷ codes "ul" ∷ []) (items_of (codes "<div><li>x</li></div>")) ≡ false)
+unfolding up_to beyond attributes_of items_from is_among kind_in all_names kind_of near fits open_after each_fits all_open_after
 in-item = (refl, refl)
 
-in-cell : (each_fits (codes "td" ∷ codes "tr" ∷ codes "tbody" ∷ codes "table" ∷ codes "p" ∷ codes "a" ∷ codes "li" ∷ []) (start (codes "p") ∷ start (codes "a") ∷ Text (codes "x") ∷ end (codes "a") ∷ end (codes "p") ∷ start (codes "li") ∷ Text (codes "y") ∷ end (codes "li") ∷ []) ≡ true)
-    × (each_fits (codes "td" ∷ codes "tr" ∷ codes "tbody" ∷ codes "table" ∷ codes "form" ∷ []) (start (codes "form") ∷ end (codes "form") ∷ []) ≡ false)
-unfolding is_among kind_in all_names kind_of near fits open_after each_fits all_open_after
+in-cell : (each_fits (codes "td" ∷ codes "tr" ∷ codes "tbody" ∷ codes "table" ∷ codes "p" ∷ codes "a" ∷ codes "li" ∷ []) (items_of (codes "<p><a>x</a></p><li>y</li>")) ≡ true)
+    × (each_fits (codes "td" ∷ codes "tr" ∷ codes "tbody" ∷ codes "table" ∷ codes "form" ∷ []) (items_of (codes "<form></form>")) ≡ false)
+unfolding up_to beyond attributes_of items_from is_among kind_in all_names kind_of near fits open_after each_fits all_open_after
 in-cell = (refl, refl)
 
 -- in a table only its parts and white space
-in-table : (each_fits (codes "table" ∷ []) (start (codes "caption") ∷ Text (codes "x") ∷ end (codes "caption") ∷ Text (codes " ") ∷ []) ≡ true)
-    × (each_fits (codes "table" ∷ []) (start (codes "b") ∷ Text (codes "x") ∷ end (codes "b") ∷ []) ≡ false)
-unfolding is_among kind_in all_names kind_of near fits open_after each_fits all_open_after
+in-table : (each_fits (codes "table" ∷ []) (items_of (codes "<caption>x</caption> ")) ≡ true)
+    × (each_fits (codes "table" ∷ []) (items_of (codes "<b>x</b>")) ≡ false)
+unfolding up_to beyond attributes_of items_from is_among kind_in all_names kind_of near fits open_after each_fits all_open_after
 in-table = (refl, refl)

@@ -7,5 +7,6 @@ pub mod InPlace
 pub mod Hosted
 pub mod FlowHosts
 pub mod Shorthand
+pub mod Markup
 pub mod RandomCases
 pub mod Cases

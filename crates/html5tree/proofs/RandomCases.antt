@@ -508,6 +508,11 @@ chosen_3_items =
     ∷ (start (codes "form") ∷ start (codes "table") ∷ end (codes "form") ∷ end (codes "table") ∷ start (codes "h2") ∷ [])
     ∷ (start (codes "i") ∷ start (codes "table") ∷ start (codes "i") ∷ start (codes "i") ∷ start (codes "i") ∷ end (codes "table") ∷ end (codes "i") ∷ Text (codes "y") ∷ [])
     ∷ (start (codes "a") ∷ start (codes "b") ∷ start (codes "u") ∷ start (codes "div") ∷ start (codes "div") ∷ start (codes "div") ∷ start (codes "div") ∷ start (codes "div") ∷ start (codes "div") ∷ start (codes "div") ∷ start (codes "div") ∷ end (codes "b") ∷ end (codes "a") ∷ end (codes "a") ∷ Text (codes "x") ∷ [])
+    ∷ (start (codes "p") ∷ start (codes "hr") ∷ Text (codes "x") ∷ [])
+    ∷ (start (codes "li") ∷ start (codes "ol") ∷ end (codes "li") ∷ Text (codes "x") ∷ [])
+    ∷ (start (codes "li") ∷ start (codes "ul") ∷ end (codes "li") ∷ Text (codes "x") ∷ [])
+    ∷ (start (codes "form") ∷ start (codes "li") ∷ end (codes "form") ∷ Text (codes "x") ∷ [])
+    ∷ (start (codes "form") ∷ start (codes "dd") ∷ end (codes "form") ∷ Text (codes "x") ∷ [])
     ∷ []
 
 chosen_3_answers : List Tree
@@ -517,40 +522,75 @@ chosen_3_answers =
     ∷ (Element Nothing (codes "form") [] (Element (Element Nothing (codes "table") [] Nothing) (codes "h2") [] Nothing))
     ∷ (Element (Element Nothing (codes "i") [] (Element (Element Nothing (codes "i") [] (Element Nothing (codes "i") [] (Element Nothing (codes "i") [] Nothing))) (codes "table") [] Nothing)) (codes "i") [] (Element Nothing (codes "i") [] (Element Nothing (codes "i") [] (Characters Nothing (codes "y")))))
     ∷ (Element (Element Nothing (codes "a") [] (Element (Element Nothing (codes "b") [] (Element Nothing (codes "u") [] Nothing)) (codes "u") [] Nothing)) (codes "u") [] (Element Nothing (codes "div") [] (Element (Element Nothing (codes "a") [] (Element Nothing (codes "b") [] Nothing)) (codes "div") [] (Element (Element Nothing (codes "a") [] (Element Nothing (codes "b") [] Nothing)) (codes "div") [] (Element (Element Nothing (codes "a") [] (Element Nothing (codes "b") [] Nothing)) (codes "div") [] (Element (Element Nothing (codes "a") [] (Element Nothing (codes "b") [] Nothing)) (codes "div") [] (Element (Element Nothing (codes "a") [] (Element Nothing (codes "b") [] Nothing)) (codes "div") [] (Element (Element Nothing (codes "a") [] (Element Nothing (codes "b") [] Nothing)) (codes "div") [] (Element (Element Nothing (codes "a") [] (Element Nothing (codes "b") [] Nothing)) (codes "div") [] (Element (Element Nothing (codes "a") [] (Element Nothing (codes "b") [] Nothing)) (codes "b") [] (Characters Nothing (codes "x"))))))))))))
+    ∷ (Characters (Element (Element Nothing (codes "p") [] Nothing) (codes "hr") [] Nothing) (codes "x"))
+    ∷ (Element Nothing (codes "li") [] (Element Nothing (codes "ol") [] (Characters Nothing (codes "x"))))
+    ∷ (Element Nothing (codes "li") [] (Element Nothing (codes "ul") [] (Characters Nothing (codes "x"))))
+    ∷ (Characters (Element Nothing (codes "form") [] (Element Nothing (codes "li") [] Nothing)) (codes "x"))
+    ∷ (Characters (Element Nothing (codes "form") [] (Element Nothing (codes "dd") [] Nothing)) (codes "x"))
     ∷ []
 
 chosen_3 : map tree_of chosen_3_items ≡ chosen_3_answers
 unfolding chosen_3_items chosen_3_answers is_among kind_in all_names kind_of in_front whole_texts without_newlines near joined changed changed_before found without applied built bare has_node inside outside without_node is_bounded popped_until implied_ended has_entry without_entry last_named is_one_of are_all_of count_alike without_earliest pushed cleared last_table lost kept reopened ended_by furthest_block replaced inner_loop added_after adopted outer_loop innermost mode_of back_to is_hidden leading_space after_space process run
 chosen_3 = refl
 
+chosen_4_items : List (List Item)
+chosen_4_items =
+    (start (codes "form") ∷ start (codes "p") ∷ end (codes "form") ∷ Text (codes "x") ∷ [])
+    ∷ (start (codes "form") ∷ start (codes "rb") ∷ end (codes "form") ∷ Text (codes "x") ∷ [])
+    ∷ (start (codes "form") ∷ start (codes "rtc") ∷ end (codes "form") ∷ Text (codes "x") ∷ [])
+    ∷ (start (codes "ruby") ∷ start (codes "rt") ∷ start (codes "rb") ∷ Text (codes "x") ∷ start (codes "rtc") ∷ Text (codes "y") ∷ start (codes "rt") ∷ Text (codes "z") ∷ start (codes "rp") ∷ [])
+    ∷ (start (codes "table") ∷ StartTag (codes "input") (attribute (codes "type") (codes "hidden") ∷ []) ∷ start (codes "b") ∷ Text (codes "x") ∷ [])
+    ∷ (start (codes "a") ∷ start (codes "table") ∷ start (codes "caption") ∷ start (codes "a") ∷ Text (codes "x") ∷ end (codes "caption") ∷ end (codes "table") ∷ Text (codes "y") ∷ [])
+    ∷ (start (codes "table") ∷ start (codes "caption") ∷ start (codes "b") ∷ Text (codes "x") ∷ end (codes "caption") ∷ end (codes "table") ∷ Text (codes "z") ∷ [])
+    ∷ (start (codes "b") ∷ start (codes "span") ∷ start (codes "b") ∷ start (codes "b") ∷ start (codes "b") ∷ end (codes "b") ∷ end (codes "b") ∷ end (codes "b") ∷ end (codes "b") ∷ Text (codes "x") ∷ [])
+    ∷ (start (codes "a") ∷ start (codes "table") ∷ start (codes "tr") ∷ start (codes "td") ∷ start (codes "a") ∷ Text (codes "x") ∷ end (codes "td") ∷ end (codes "tr") ∷ end (codes "table") ∷ Text (codes "y") ∷ [])
+    ∷ []
+
+chosen_4_answers : List Tree
+chosen_4_answers =
+    (Characters (Element Nothing (codes "form") [] (Element Nothing (codes "p") [] Nothing)) (codes "x"))
+    ∷ (Characters (Element Nothing (codes "form") [] (Element Nothing (codes "rb") [] Nothing)) (codes "x"))
+    ∷ (Characters (Element Nothing (codes "form") [] (Element Nothing (codes "rtc") [] Nothing)) (codes "x"))
+    ∷ (Element Nothing (codes "ruby") [] (Element (Element (Element Nothing (codes "rt") [] Nothing) (codes "rb") [] (Characters Nothing (codes "x"))) (codes "rtc") [] (Element (Element (Characters Nothing (codes "y")) (codes "rt") [] (Characters Nothing (codes "z"))) (codes "rp") [] Nothing)))
+    ∷ (Element (Element Nothing (codes "b") [] (Characters Nothing (codes "x"))) (codes "table") [] (Element Nothing (codes "input") (attribute (codes "type") (codes "hidden") ∷ []) Nothing))
+    ∷ (Element Nothing (codes "a") [] (Characters (Element Nothing (codes "table") [] (Element Nothing (codes "caption") [] (Element Nothing (codes "a") [] (Characters Nothing (codes "x"))))) (codes "y")))
+    ∷ (Characters (Element Nothing (codes "table") [] (Element Nothing (codes "caption") [] (Element Nothing (codes "b") [] (Characters Nothing (codes "x"))))) (codes "z"))
+    ∷ (Characters (Element Nothing (codes "b") [] (Element Nothing (codes "span") [] (Element Nothing (codes "b") [] (Element Nothing (codes "b") [] (Element Nothing (codes "b") [] Nothing))))) (codes "x"))
+    ∷ (Element Nothing (codes "a") [] (Characters (Element Nothing (codes "table") [] (Element Nothing (codes "tbody") [] (Element Nothing (codes "tr") [] (Element Nothing (codes "td") [] (Element Nothing (codes "a") [] (Characters Nothing (codes "x"))))))) (codes "y")))
+    ∷ []
+
+chosen_4 : map tree_of chosen_4_items ≡ chosen_4_answers
+unfolding chosen_4_items chosen_4_answers is_among kind_in all_names kind_of in_front whole_texts without_newlines near joined changed changed_before found without applied built bare has_node inside outside without_node is_bounded popped_until implied_ended has_entry without_entry last_named is_one_of are_all_of count_alike without_earliest pushed cleared last_table lost kept reopened ended_by furthest_block replaced inner_loop added_after adopted outer_loop innermost mode_of back_to is_hidden leading_space after_space process run
+chosen_4 = refl
+
 -- ---- trees by name
 
 names_0_items : List (List Item)
 names_0_items =
-    (start (codes "b") ∷ start (codes "a") ∷ Text (codes "1") ∷ end (codes "b") ∷ Text (codes "2") ∷ end (codes "a") ∷ Text (codes "3") ∷ start (codes "li") ∷ start (codes "a") ∷ start (codes "li") ∷ start (codes "ruby") ∷ start (codes "a") ∷ start (codes "rt") ∷ end (codes "ruby") ∷ start (codes "table") ∷ start (codes "a") ∷ Text (codes "x") ∷ [])
-    ∷ (start (codes "b") ∷ start (codes "abbr") ∷ Text (codes "1") ∷ end (codes "b") ∷ Text (codes "2") ∷ end (codes "abbr") ∷ Text (codes "3") ∷ start (codes "li") ∷ start (codes "abbr") ∷ start (codes "li") ∷ start (codes "ruby") ∷ start (codes "abbr") ∷ start (codes "rt") ∷ end (codes "ruby") ∷ start (codes "table") ∷ start (codes "abbr") ∷ Text (codes "x") ∷ [])
-    ∷ (start (codes "b") ∷ start (codes "address") ∷ Text (codes "1") ∷ end (codes "b") ∷ Text (codes "2") ∷ end (codes "address") ∷ Text (codes "3") ∷ start (codes "li") ∷ start (codes "address") ∷ start (codes "li") ∷ start (codes "ruby") ∷ start (codes "address") ∷ start (codes "rt") ∷ end (codes "ruby") ∷ start (codes "table") ∷ start (codes "address") ∷ Text (codes "x") ∷ [])
-    ∷ (start (codes "b") ∷ start (codes "area") ∷ Text (codes "1") ∷ end (codes "b") ∷ Text (codes "2") ∷ end (codes "area") ∷ Text (codes "3") ∷ start (codes "li") ∷ start (codes "area") ∷ start (codes "li") ∷ start (codes "ruby") ∷ start (codes "area") ∷ start (codes "rt") ∷ end (codes "ruby") ∷ start (codes "table") ∷ start (codes "area") ∷ Text (codes "x") ∷ [])
-    ∷ (start (codes "b") ∷ start (codes "article") ∷ Text (codes "1") ∷ end (codes "b") ∷ Text (codes "2") ∷ end (codes "article") ∷ Text (codes "3") ∷ start (codes "li") ∷ start (codes "article") ∷ start (codes "li") ∷ start (codes "ruby") ∷ start (codes "article") ∷ start (codes "rt") ∷ end (codes "ruby") ∷ start (codes "table") ∷ start (codes "article") ∷ Text (codes "x") ∷ [])
-    ∷ (start (codes "b") ∷ start (codes "aside") ∷ Text (codes "1") ∷ end (codes "b") ∷ Text (codes "2") ∷ end (codes "aside") ∷ Text (codes "3") ∷ start (codes "li") ∷ start (codes "aside") ∷ start (codes "li") ∷ start (codes "ruby") ∷ start (codes "aside") ∷ start (codes "rt") ∷ end (codes "ruby") ∷ start (codes "table") ∷ start (codes "aside") ∷ Text (codes "x") ∷ [])
-    ∷ (start (codes "b") ∷ start (codes "b") ∷ Text (codes "1") ∷ end (codes "b") ∷ Text (codes "2") ∷ end (codes "b") ∷ Text (codes "3") ∷ start (codes "li") ∷ start (codes "b") ∷ start (codes "li") ∷ start (codes "ruby") ∷ start (codes "b") ∷ start (codes "rt") ∷ end (codes "ruby") ∷ start (codes "table") ∷ start (codes "b") ∷ Text (codes "x") ∷ [])
-    ∷ (start (codes "b") ∷ start (codes "bdi") ∷ Text (codes "1") ∷ end (codes "b") ∷ Text (codes "2") ∷ end (codes "bdi") ∷ Text (codes "3") ∷ start (codes "li") ∷ start (codes "bdi") ∷ start (codes "li") ∷ start (codes "ruby") ∷ start (codes "bdi") ∷ start (codes "rt") ∷ end (codes "ruby") ∷ start (codes "table") ∷ start (codes "bdi") ∷ Text (codes "x") ∷ [])
-    ∷ (start (codes "b") ∷ start (codes "bdo") ∷ Text (codes "1") ∷ end (codes "b") ∷ Text (codes "2") ∷ end (codes "bdo") ∷ Text (codes "3") ∷ start (codes "li") ∷ start (codes "bdo") ∷ start (codes "li") ∷ start (codes "ruby") ∷ start (codes "bdo") ∷ start (codes "rt") ∷ end (codes "ruby") ∷ start (codes "table") ∷ start (codes "bdo") ∷ Text (codes "x") ∷ [])
-    ∷ (start (codes "b") ∷ start (codes "big") ∷ Text (codes "1") ∷ end (codes "b") ∷ Text (codes "2") ∷ end (codes "big") ∷ Text (codes "3") ∷ start (codes "li") ∷ start (codes "big") ∷ start (codes "li") ∷ start (codes "ruby") ∷ start (codes "big") ∷ start (codes "rt") ∷ end (codes "ruby") ∷ start (codes "table") ∷ start (codes "big") ∷ Text (codes "x") ∷ [])
+    (start (codes "p") ∷ start (codes "a") ∷ Text (codes "0") ∷ end (codes "p") ∷ start (codes "b") ∷ start (codes "a") ∷ Text (codes "1") ∷ end (codes "b") ∷ Text (codes "2") ∷ end (codes "a") ∷ Text (codes "3") ∷ start (codes "li") ∷ start (codes "a") ∷ start (codes "li") ∷ start (codes "ruby") ∷ start (codes "a") ∷ start (codes "rt") ∷ end (codes "ruby") ∷ start (codes "table") ∷ start (codes "a") ∷ Text (codes "x") ∷ [])
+    ∷ (start (codes "p") ∷ start (codes "abbr") ∷ Text (codes "0") ∷ end (codes "p") ∷ start (codes "b") ∷ start (codes "abbr") ∷ Text (codes "1") ∷ end (codes "b") ∷ Text (codes "2") ∷ end (codes "abbr") ∷ Text (codes "3") ∷ start (codes "li") ∷ start (codes "abbr") ∷ start (codes "li") ∷ start (codes "ruby") ∷ start (codes "abbr") ∷ start (codes "rt") ∷ end (codes "ruby") ∷ start (codes "table") ∷ start (codes "abbr") ∷ Text (codes "x") ∷ [])
+    ∷ (start (codes "p") ∷ start (codes "address") ∷ Text (codes "0") ∷ end (codes "p") ∷ start (codes "b") ∷ start (codes "address") ∷ Text (codes "1") ∷ end (codes "b") ∷ Text (codes "2") ∷ end (codes "address") ∷ Text (codes "3") ∷ start (codes "li") ∷ start (codes "address") ∷ start (codes "li") ∷ start (codes "ruby") ∷ start (codes "address") ∷ start (codes "rt") ∷ end (codes "ruby") ∷ start (codes "table") ∷ start (codes "address") ∷ Text (codes "x") ∷ [])
+    ∷ (start (codes "p") ∷ start (codes "area") ∷ Text (codes "0") ∷ end (codes "p") ∷ start (codes "b") ∷ start (codes "area") ∷ Text (codes "1") ∷ end (codes "b") ∷ Text (codes "2") ∷ end (codes "area") ∷ Text (codes "3") ∷ start (codes "li") ∷ start (codes "area") ∷ start (codes "li") ∷ start (codes "ruby") ∷ start (codes "area") ∷ start (codes "rt") ∷ end (codes "ruby") ∷ start (codes "table") ∷ start (codes "area") ∷ Text (codes "x") ∷ [])
+    ∷ (start (codes "p") ∷ start (codes "article") ∷ Text (codes "0") ∷ end (codes "p") ∷ start (codes "b") ∷ start (codes "article") ∷ Text (codes "1") ∷ end (codes "b") ∷ Text (codes "2") ∷ end (codes "article") ∷ Text (codes "3") ∷ start (codes "li") ∷ start (codes "article") ∷ start (codes "li") ∷ start (codes "ruby") ∷ start (codes "article") ∷ start (codes "rt") ∷ end (codes "ruby") ∷ start (codes "table") ∷ start (codes "article") ∷ Text (codes "x") ∷ [])
+    ∷ (start (codes "p") ∷ start (codes "aside") ∷ Text (codes "0") ∷ end (codes "p") ∷ start (codes "b") ∷ start (codes "aside") ∷ Text (codes "1") ∷ end (codes "b") ∷ Text (codes "2") ∷ end (codes "aside") ∷ Text (codes "3") ∷ start (codes "li") ∷ start (codes "aside") ∷ start (codes "li") ∷ start (codes "ruby") ∷ start (codes "aside") ∷ start (codes "rt") ∷ end (codes "ruby") ∷ start (codes "table") ∷ start (codes "aside") ∷ Text (codes "x") ∷ [])
+    ∷ (start (codes "p") ∷ start (codes "b") ∷ Text (codes "0") ∷ end (codes "p") ∷ start (codes "b") ∷ start (codes "b") ∷ Text (codes "1") ∷ end (codes "b") ∷ Text (codes "2") ∷ end (codes "b") ∷ Text (codes "3") ∷ start (codes "li") ∷ start (codes "b") ∷ start (codes "li") ∷ start (codes "ruby") ∷ start (codes "b") ∷ start (codes "rt") ∷ end (codes "ruby") ∷ start (codes "table") ∷ start (codes "b") ∷ Text (codes "x") ∷ [])
+    ∷ (start (codes "p") ∷ start (codes "bdi") ∷ Text (codes "0") ∷ end (codes "p") ∷ start (codes "b") ∷ start (codes "bdi") ∷ Text (codes "1") ∷ end (codes "b") ∷ Text (codes "2") ∷ end (codes "bdi") ∷ Text (codes "3") ∷ start (codes "li") ∷ start (codes "bdi") ∷ start (codes "li") ∷ start (codes "ruby") ∷ start (codes "bdi") ∷ start (codes "rt") ∷ end (codes "ruby") ∷ start (codes "table") ∷ start (codes "bdi") ∷ Text (codes "x") ∷ [])
+    ∷ (start (codes "p") ∷ start (codes "bdo") ∷ Text (codes "0") ∷ end (codes "p") ∷ start (codes "b") ∷ start (codes "bdo") ∷ Text (codes "1") ∷ end (codes "b") ∷ Text (codes "2") ∷ end (codes "bdo") ∷ Text (codes "3") ∷ start (codes "li") ∷ start (codes "bdo") ∷ start (codes "li") ∷ start (codes "ruby") ∷ start (codes "bdo") ∷ start (codes "rt") ∷ end (codes "ruby") ∷ start (codes "table") ∷ start (codes "bdo") ∷ Text (codes "x") ∷ [])
+    ∷ (start (codes "p") ∷ start (codes "big") ∷ Text (codes "0") ∷ end (codes "p") ∷ start (codes "b") ∷ start (codes "big") ∷ Text (codes "1") ∷ end (codes "b") ∷ Text (codes "2") ∷ end (codes "big") ∷ Text (codes "3") ∷ start (codes "li") ∷ start (codes "big") ∷ start (codes "li") ∷ start (codes "ruby") ∷ start (codes "big") ∷ start (codes "rt") ∷ end (codes "ruby") ∷ start (codes "table") ∷ start (codes "big") ∷ Text (codes "x") ∷ [])
     ∷ []
 
 names_0_answers : List Tree
 names_0_answers =
-    (Element (Element (Characters (Element (Element Nothing (codes "b") [] (Element Nothing (codes "a") [] (Characters Nothing (codes "1")))) (codes "a") [] (Characters Nothing (codes "2"))) (codes "3")) (codes "li") [] (Element Nothing (codes "a") [] Nothing)) (codes "li") [] (Element (Element Nothing (codes "a") [] (Element Nothing (codes "ruby") [] Nothing)) (codes "a") [] (Element Nothing (codes "rt") [] (Element (Element Nothing (codes "a") [] (Characters Nothing (codes "x"))) (codes "table") [] Nothing))))
-    ∷ (Element (Element (Characters (Element Nothing (codes "b") [] (Element Nothing (codes "abbr") [] (Characters Nothing (codes "1")))) (codes "23")) (codes "li") [] (Element Nothing (codes "abbr") [] Nothing)) (codes "li") [] (Element (Element (Element Nothing (codes "ruby") [] (Element Nothing (codes "abbr") [] (Element Nothing (codes "rt") [] Nothing))) (codes "abbr") [] (Characters Nothing (codes "x"))) (codes "table") [] Nothing))
-    ∷ (Element (Element (Characters (Element (Element Nothing (codes "b") [] Nothing) (codes "address") [] (Characters (Element Nothing (codes "b") [] (Characters Nothing (codes "1"))) (codes "2"))) (codes "3")) (codes "li") [] (Element Nothing (codes "address") [] Nothing)) (codes "li") [] (Element Nothing (codes "ruby") [] (Element Nothing (codes "address") [] (Element Nothing (codes "rt") [] (Element (Element Nothing (codes "address") [] (Characters Nothing (codes "x"))) (codes "table") [] Nothing)))))
-    ∷ (Element (Element (Characters (Element Nothing (codes "b") [] (Characters (Element Nothing (codes "area") [] Nothing) (codes "1"))) (codes "23")) (codes "li") [] (Element Nothing (codes "area") [] Nothing)) (codes "li") [] (Element (Characters (Element (Element Nothing (codes "ruby") [] (Element (Element Nothing (codes "area") [] Nothing) (codes "rt") [] Nothing)) (codes "area") [] Nothing) (codes "x")) (codes "table") [] Nothing))
-    ∷ (Element (Characters (Element (Element Nothing (codes "b") [] Nothing) (codes "article") [] (Characters (Element Nothing (codes "b") [] (Characters Nothing (codes "1"))) (codes "2"))) (codes "3")) (codes "li") [] (Element Nothing (codes "article") [] (Element Nothing (codes "li") [] (Element Nothing (codes "ruby") [] (Element Nothing (codes "article") [] (Element Nothing (codes "rt") [] (Element (Element Nothing (codes "article") [] (Characters Nothing (codes "x"))) (codes "table") [] Nothing)))))))
-    ∷ (Element (Characters (Element (Element Nothing (codes "b") [] Nothing) (codes "aside") [] (Characters (Element Nothing (codes "b") [] (Characters Nothing (codes "1"))) (codes "2"))) (codes "3")) (codes "li") [] (Element Nothing (codes "aside") [] (Element Nothing (codes "li") [] (Element Nothing (codes "ruby") [] (Element Nothing (codes "aside") [] (Element Nothing (codes "rt") [] (Element (Element Nothing (codes "aside") [] (Characters Nothing (codes "x"))) (codes "table") [] Nothing)))))))
-    ∷ (Element (Element (Characters (Element Nothing (codes "b") [] (Characters (Element Nothing (codes "b") [] (Characters Nothing (codes "1"))) (codes "2"))) (codes "3")) (codes "li") [] (Element Nothing (codes "b") [] Nothing)) (codes "li") [] (Element Nothing (codes "b") [] (Element (Element (Element Nothing (codes "ruby") [] (Element Nothing (codes "b") [] (Element Nothing (codes "rt") [] Nothing))) (codes "b") [] (Element Nothing (codes "b") [] (Characters Nothing (codes "x")))) (codes "table") [] Nothing)))
-    ∷ (Element (Element (Characters (Element Nothing (codes "b") [] (Element Nothing (codes "bdi") [] (Characters Nothing (codes "1")))) (codes "23")) (codes "li") [] (Element Nothing (codes "bdi") [] Nothing)) (codes "li") [] (Element (Element (Element Nothing (codes "ruby") [] (Element Nothing (codes "bdi") [] (Element Nothing (codes "rt") [] Nothing))) (codes "bdi") [] (Characters Nothing (codes "x"))) (codes "table") [] Nothing))
-    ∷ (Element (Element (Characters (Element Nothing (codes "b") [] (Element Nothing (codes "bdo") [] (Characters Nothing (codes "1")))) (codes "23")) (codes "li") [] (Element Nothing (codes "bdo") [] Nothing)) (codes "li") [] (Element (Element (Element Nothing (codes "ruby") [] (Element Nothing (codes "bdo") [] (Element Nothing (codes "rt") [] Nothing))) (codes "bdo") [] (Characters Nothing (codes "x"))) (codes "table") [] Nothing))
-    ∷ (Element (Element (Characters (Element (Element Nothing (codes "b") [] (Element Nothing (codes "big") [] (Characters Nothing (codes "1")))) (codes "big") [] (Characters Nothing (codes "2"))) (codes "3")) (codes "li") [] (Element Nothing (codes "big") [] Nothing)) (codes "li") [] (Element Nothing (codes "big") [] (Element (Element (Element Nothing (codes "ruby") [] (Element Nothing (codes "big") [] (Element Nothing (codes "rt") [] Nothing))) (codes "big") [] (Element Nothing (codes "big") [] (Characters Nothing (codes "x")))) (codes "table") [] Nothing)))
+    (Element (Element (Characters (Element (Element (Element (Element Nothing (codes "p") [] (Element Nothing (codes "a") [] (Characters Nothing (codes "0")))) (codes "a") [] (Element Nothing (codes "b") [] Nothing)) (codes "b") [] (Element Nothing (codes "a") [] (Characters Nothing (codes "1")))) (codes "a") [] (Characters Nothing (codes "2"))) (codes "3")) (codes "li") [] (Element Nothing (codes "a") [] Nothing)) (codes "li") [] (Element (Element Nothing (codes "a") [] (Element Nothing (codes "ruby") [] Nothing)) (codes "a") [] (Element Nothing (codes "rt") [] (Element (Element Nothing (codes "a") [] (Characters Nothing (codes "x"))) (codes "table") [] Nothing))))
+    ∷ (Element (Element (Characters (Element (Element Nothing (codes "p") [] (Element Nothing (codes "abbr") [] (Characters Nothing (codes "0")))) (codes "b") [] (Element Nothing (codes "abbr") [] (Characters Nothing (codes "1")))) (codes "23")) (codes "li") [] (Element Nothing (codes "abbr") [] Nothing)) (codes "li") [] (Element (Element (Element Nothing (codes "ruby") [] (Element Nothing (codes "abbr") [] (Element Nothing (codes "rt") [] Nothing))) (codes "abbr") [] (Characters Nothing (codes "x"))) (codes "table") [] Nothing))
+    ∷ (Element (Element Nothing (codes "p") [] Nothing) (codes "address") [] (Element (Element (Characters (Element (Element (Element (Characters Nothing (codes "0")) (codes "p") [] Nothing) (codes "b") [] Nothing) (codes "address") [] (Characters (Element Nothing (codes "b") [] (Characters Nothing (codes "1"))) (codes "2"))) (codes "3")) (codes "li") [] (Element Nothing (codes "address") [] Nothing)) (codes "li") [] (Element Nothing (codes "ruby") [] (Element Nothing (codes "address") [] (Element Nothing (codes "rt") [] (Element (Element Nothing (codes "address") [] (Characters Nothing (codes "x"))) (codes "table") [] Nothing))))))
+    ∷ (Element (Element (Characters (Element (Element Nothing (codes "p") [] (Characters (Element Nothing (codes "area") [] Nothing) (codes "0"))) (codes "b") [] (Characters (Element Nothing (codes "area") [] Nothing) (codes "1"))) (codes "23")) (codes "li") [] (Element Nothing (codes "area") [] Nothing)) (codes "li") [] (Element (Characters (Element (Element Nothing (codes "ruby") [] (Element (Element Nothing (codes "area") [] Nothing) (codes "rt") [] Nothing)) (codes "area") [] Nothing) (codes "x")) (codes "table") [] Nothing))
+    ∷ (Element (Element Nothing (codes "p") [] Nothing) (codes "article") [] (Element (Characters (Element (Element (Element (Characters Nothing (codes "0")) (codes "p") [] Nothing) (codes "b") [] Nothing) (codes "article") [] (Characters (Element Nothing (codes "b") [] (Characters Nothing (codes "1"))) (codes "2"))) (codes "3")) (codes "li") [] (Element Nothing (codes "article") [] (Element Nothing (codes "li") [] (Element Nothing (codes "ruby") [] (Element Nothing (codes "article") [] (Element Nothing (codes "rt") [] (Element (Element Nothing (codes "article") [] (Characters Nothing (codes "x"))) (codes "table") [] Nothing))))))))
+    ∷ (Element (Element Nothing (codes "p") [] Nothing) (codes "aside") [] (Element (Characters (Element (Element (Element (Characters Nothing (codes "0")) (codes "p") [] Nothing) (codes "b") [] Nothing) (codes "aside") [] (Characters (Element Nothing (codes "b") [] (Characters Nothing (codes "1"))) (codes "2"))) (codes "3")) (codes "li") [] (Element Nothing (codes "aside") [] (Element Nothing (codes "li") [] (Element Nothing (codes "ruby") [] (Element Nothing (codes "aside") [] (Element Nothing (codes "rt") [] (Element (Element Nothing (codes "aside") [] (Characters Nothing (codes "x"))) (codes "table") [] Nothing))))))))
+    ∷ (Element (Element Nothing (codes "p") [] (Element Nothing (codes "b") [] (Characters Nothing (codes "0")))) (codes "b") [] (Element (Element (Characters (Element Nothing (codes "b") [] (Characters (Element Nothing (codes "b") [] (Characters Nothing (codes "1"))) (codes "2"))) (codes "3")) (codes "li") [] (Element Nothing (codes "b") [] Nothing)) (codes "li") [] (Element Nothing (codes "b") [] (Element (Element (Element Nothing (codes "ruby") [] (Element Nothing (codes "b") [] (Element Nothing (codes "rt") [] Nothing))) (codes "b") [] (Element Nothing (codes "b") [] (Characters Nothing (codes "x")))) (codes "table") [] Nothing))))
+    ∷ (Element (Element (Characters (Element (Element Nothing (codes "p") [] (Element Nothing (codes "bdi") [] (Characters Nothing (codes "0")))) (codes "b") [] (Element Nothing (codes "bdi") [] (Characters Nothing (codes "1")))) (codes "23")) (codes "li") [] (Element Nothing (codes "bdi") [] Nothing)) (codes "li") [] (Element (Element (Element Nothing (codes "ruby") [] (Element Nothing (codes "bdi") [] (Element Nothing (codes "rt") [] Nothing))) (codes "bdi") [] (Characters Nothing (codes "x"))) (codes "table") [] Nothing))
+    ∷ (Element (Element (Characters (Element (Element Nothing (codes "p") [] (Element Nothing (codes "bdo") [] (Characters Nothing (codes "0")))) (codes "b") [] (Element Nothing (codes "bdo") [] (Characters Nothing (codes "1")))) (codes "23")) (codes "li") [] (Element Nothing (codes "bdo") [] Nothing)) (codes "li") [] (Element (Element (Element Nothing (codes "ruby") [] (Element Nothing (codes "bdo") [] (Element Nothing (codes "rt") [] Nothing))) (codes "bdo") [] (Characters Nothing (codes "x"))) (codes "table") [] Nothing))
+    ∷ (Element (Element Nothing (codes "p") [] (Element Nothing (codes "big") [] (Characters Nothing (codes "0")))) (codes "big") [] (Element (Element (Characters (Element (Element Nothing (codes "b") [] (Element Nothing (codes "big") [] (Characters Nothing (codes "1")))) (codes "big") [] (Characters Nothing (codes "2"))) (codes "3")) (codes "li") [] (Element Nothing (codes "big") [] Nothing)) (codes "li") [] (Element Nothing (codes "big") [] (Element (Element (Element Nothing (codes "ruby") [] (Element Nothing (codes "big") [] (Element Nothing (codes "rt") [] Nothing))) (codes "big") [] (Element Nothing (codes "big") [] (Characters Nothing (codes "x")))) (codes "table") [] Nothing))))
     ∷ []
 
 names_0 : map tree_of names_0_items ≡ names_0_answers
@@ -559,30 +599,30 @@ names_0 = refl
 
 names_1_items : List (List Item)
 names_1_items =
-    (start (codes "b") ∷ start (codes "blockquote") ∷ Text (codes "1") ∷ end (codes "b") ∷ Text (codes "2") ∷ end (codes "blockquote") ∷ Text (codes "3") ∷ start (codes "li") ∷ start (codes "blockquote") ∷ start (codes "li") ∷ start (codes "ruby") ∷ start (codes "blockquote") ∷ start (codes "rt") ∷ end (codes "ruby") ∷ start (codes "table") ∷ start (codes "blockquote") ∷ Text (codes "x") ∷ [])
-    ∷ (start (codes "b") ∷ start (codes "br") ∷ Text (codes "1") ∷ end (codes "b") ∷ Text (codes "2") ∷ end (codes "br") ∷ Text (codes "3") ∷ start (codes "li") ∷ start (codes "br") ∷ start (codes "li") ∷ start (codes "ruby") ∷ start (codes "br") ∷ start (codes "rt") ∷ end (codes "ruby") ∷ start (codes "table") ∷ start (codes "br") ∷ Text (codes "x") ∷ [])
-    ∷ (start (codes "b") ∷ start (codes "button") ∷ Text (codes "1") ∷ end (codes "b") ∷ Text (codes "2") ∷ end (codes "button") ∷ Text (codes "3") ∷ start (codes "li") ∷ start (codes "button") ∷ start (codes "li") ∷ start (codes "ruby") ∷ start (codes "button") ∷ start (codes "rt") ∷ end (codes "ruby") ∷ start (codes "table") ∷ start (codes "button") ∷ Text (codes "x") ∷ [])
-    ∷ (start (codes "b") ∷ start (codes "caption") ∷ Text (codes "1") ∷ end (codes "b") ∷ Text (codes "2") ∷ end (codes "caption") ∷ Text (codes "3") ∷ start (codes "li") ∷ start (codes "caption") ∷ start (codes "li") ∷ start (codes "ruby") ∷ start (codes "caption") ∷ start (codes "rt") ∷ end (codes "ruby") ∷ start (codes "table") ∷ start (codes "caption") ∷ Text (codes "x") ∷ [])
-    ∷ (start (codes "b") ∷ start (codes "center") ∷ Text (codes "1") ∷ end (codes "b") ∷ Text (codes "2") ∷ end (codes "center") ∷ Text (codes "3") ∷ start (codes "li") ∷ start (codes "center") ∷ start (codes "li") ∷ start (codes "ruby") ∷ start (codes "center") ∷ start (codes "rt") ∷ end (codes "ruby") ∷ start (codes "table") ∷ start (codes "center") ∷ Text (codes "x") ∷ [])
-    ∷ (start (codes "b") ∷ start (codes "cite") ∷ Text (codes "1") ∷ end (codes "b") ∷ Text (codes "2") ∷ end (codes "cite") ∷ Text (codes "3") ∷ start (codes "li") ∷ start (codes "cite") ∷ start (codes "li") ∷ start (codes "ruby") ∷ start (codes "cite") ∷ start (codes "rt") ∷ end (codes "ruby") ∷ start (codes "table") ∷ start (codes "cite") ∷ Text (codes "x") ∷ [])
-    ∷ (start (codes "b") ∷ start (codes "code") ∷ Text (codes "1") ∷ end (codes "b") ∷ Text (codes "2") ∷ end (codes "code") ∷ Text (codes "3") ∷ start (codes "li") ∷ start (codes "code") ∷ start (codes "li") ∷ start (codes "ruby") ∷ start (codes "code") ∷ start (codes "rt") ∷ end (codes "ruby") ∷ start (codes "table") ∷ start (codes "code") ∷ Text (codes "x") ∷ [])
-    ∷ (start (codes "b") ∷ start (codes "col") ∷ Text (codes "1") ∷ end (codes "b") ∷ Text (codes "2") ∷ end (codes "col") ∷ Text (codes "3") ∷ start (codes "li") ∷ start (codes "col") ∷ start (codes "li") ∷ start (codes "ruby") ∷ start (codes "col") ∷ start (codes "rt") ∷ end (codes "ruby") ∷ start (codes "table") ∷ start (codes "col") ∷ Text (codes "x") ∷ [])
-    ∷ (start (codes "b") ∷ start (codes "colgroup") ∷ Text (codes "1") ∷ end (codes "b") ∷ Text (codes "2") ∷ end (codes "colgroup") ∷ Text (codes "3") ∷ start (codes "li") ∷ start (codes "colgroup") ∷ start (codes "li") ∷ start (codes "ruby") ∷ start (codes "colgroup") ∷ start (codes "rt") ∷ end (codes "ruby") ∷ start (codes "table") ∷ start (codes "colgroup") ∷ Text (codes "x") ∷ [])
-    ∷ (start (codes "b") ∷ start (codes "data") ∷ Text (codes "1") ∷ end (codes "b") ∷ Text (codes "2") ∷ end (codes "data") ∷ Text (codes "3") ∷ start (codes "li") ∷ start (codes "data") ∷ start (codes "li") ∷ start (codes "ruby") ∷ start (codes "data") ∷ start (codes "rt") ∷ end (codes "ruby") ∷ start (codes "table") ∷ start (codes "data") ∷ Text (codes "x") ∷ [])
+    (start (codes "p") ∷ start (codes "blockquote") ∷ Text (codes "0") ∷ end (codes "p") ∷ start (codes "b") ∷ start (codes "blockquote") ∷ Text (codes "1") ∷ end (codes "b") ∷ Text (codes "2") ∷ end (codes "blockquote") ∷ Text (codes "3") ∷ start (codes "li") ∷ start (codes "blockquote") ∷ start (codes "li") ∷ start (codes "ruby") ∷ start (codes "blockquote") ∷ start (codes "rt") ∷ end (codes "ruby") ∷ start (codes "table") ∷ start (codes "blockquote") ∷ Text (codes "x") ∷ [])
+    ∷ (start (codes "p") ∷ start (codes "br") ∷ Text (codes "0") ∷ end (codes "p") ∷ start (codes "b") ∷ start (codes "br") ∷ Text (codes "1") ∷ end (codes "b") ∷ Text (codes "2") ∷ end (codes "br") ∷ Text (codes "3") ∷ start (codes "li") ∷ start (codes "br") ∷ start (codes "li") ∷ start (codes "ruby") ∷ start (codes "br") ∷ start (codes "rt") ∷ end (codes "ruby") ∷ start (codes "table") ∷ start (codes "br") ∷ Text (codes "x") ∷ [])
+    ∷ (start (codes "p") ∷ start (codes "button") ∷ Text (codes "0") ∷ end (codes "p") ∷ start (codes "b") ∷ start (codes "button") ∷ Text (codes "1") ∷ end (codes "b") ∷ Text (codes "2") ∷ end (codes "button") ∷ Text (codes "3") ∷ start (codes "li") ∷ start (codes "button") ∷ start (codes "li") ∷ start (codes "ruby") ∷ start (codes "button") ∷ start (codes "rt") ∷ end (codes "ruby") ∷ start (codes "table") ∷ start (codes "button") ∷ Text (codes "x") ∷ [])
+    ∷ (start (codes "p") ∷ start (codes "caption") ∷ Text (codes "0") ∷ end (codes "p") ∷ start (codes "b") ∷ start (codes "caption") ∷ Text (codes "1") ∷ end (codes "b") ∷ Text (codes "2") ∷ end (codes "caption") ∷ Text (codes "3") ∷ start (codes "li") ∷ start (codes "caption") ∷ start (codes "li") ∷ start (codes "ruby") ∷ start (codes "caption") ∷ start (codes "rt") ∷ end (codes "ruby") ∷ start (codes "table") ∷ start (codes "caption") ∷ Text (codes "x") ∷ [])
+    ∷ (start (codes "p") ∷ start (codes "center") ∷ Text (codes "0") ∷ end (codes "p") ∷ start (codes "b") ∷ start (codes "center") ∷ Text (codes "1") ∷ end (codes "b") ∷ Text (codes "2") ∷ end (codes "center") ∷ Text (codes "3") ∷ start (codes "li") ∷ start (codes "center") ∷ start (codes "li") ∷ start (codes "ruby") ∷ start (codes "center") ∷ start (codes "rt") ∷ end (codes "ruby") ∷ start (codes "table") ∷ start (codes "center") ∷ Text (codes "x") ∷ [])
+    ∷ (start (codes "p") ∷ start (codes "cite") ∷ Text (codes "0") ∷ end (codes "p") ∷ start (codes "b") ∷ start (codes "cite") ∷ Text (codes "1") ∷ end (codes "b") ∷ Text (codes "2") ∷ end (codes "cite") ∷ Text (codes "3") ∷ start (codes "li") ∷ start (codes "cite") ∷ start (codes "li") ∷ start (codes "ruby") ∷ start (codes "cite") ∷ start (codes "rt") ∷ end (codes "ruby") ∷ start (codes "table") ∷ start (codes "cite") ∷ Text (codes "x") ∷ [])
+    ∷ (start (codes "p") ∷ start (codes "code") ∷ Text (codes "0") ∷ end (codes "p") ∷ start (codes "b") ∷ start (codes "code") ∷ Text (codes "1") ∷ end (codes "b") ∷ Text (codes "2") ∷ end (codes "code") ∷ Text (codes "3") ∷ start (codes "li") ∷ start (codes "code") ∷ start (codes "li") ∷ start (codes "ruby") ∷ start (codes "code") ∷ start (codes "rt") ∷ end (codes "ruby") ∷ start (codes "table") ∷ start (codes "code") ∷ Text (codes "x") ∷ [])
+    ∷ (start (codes "p") ∷ start (codes "col") ∷ Text (codes "0") ∷ end (codes "p") ∷ start (codes "b") ∷ start (codes "col") ∷ Text (codes "1") ∷ end (codes "b") ∷ Text (codes "2") ∷ end (codes "col") ∷ Text (codes "3") ∷ start (codes "li") ∷ start (codes "col") ∷ start (codes "li") ∷ start (codes "ruby") ∷ start (codes "col") ∷ start (codes "rt") ∷ end (codes "ruby") ∷ start (codes "table") ∷ start (codes "col") ∷ Text (codes "x") ∷ [])
+    ∷ (start (codes "p") ∷ start (codes "colgroup") ∷ Text (codes "0") ∷ end (codes "p") ∷ start (codes "b") ∷ start (codes "colgroup") ∷ Text (codes "1") ∷ end (codes "b") ∷ Text (codes "2") ∷ end (codes "colgroup") ∷ Text (codes "3") ∷ start (codes "li") ∷ start (codes "colgroup") ∷ start (codes "li") ∷ start (codes "ruby") ∷ start (codes "colgroup") ∷ start (codes "rt") ∷ end (codes "ruby") ∷ start (codes "table") ∷ start (codes "colgroup") ∷ Text (codes "x") ∷ [])
+    ∷ (start (codes "p") ∷ start (codes "data") ∷ Text (codes "0") ∷ end (codes "p") ∷ start (codes "b") ∷ start (codes "data") ∷ Text (codes "1") ∷ end (codes "b") ∷ Text (codes "2") ∷ end (codes "data") ∷ Text (codes "3") ∷ start (codes "li") ∷ start (codes "data") ∷ start (codes "li") ∷ start (codes "ruby") ∷ start (codes "data") ∷ start (codes "rt") ∷ end (codes "ruby") ∷ start (codes "table") ∷ start (codes "data") ∷ Text (codes "x") ∷ [])
     ∷ []
 
 names_1_answers : List Tree
 names_1_answers =
-    (Element (Characters (Element (Element Nothing (codes "b") [] Nothing) (codes "blockquote") [] (Characters (Element Nothing (codes "b") [] (Characters Nothing (codes "1"))) (codes "2"))) (codes "3")) (codes "li") [] (Element Nothing (codes "blockquote") [] (Element Nothing (codes "li") [] (Element Nothing (codes "ruby") [] (Element Nothing (codes "blockquote") [] (Element Nothing (codes "rt") [] (Element (Element Nothing (codes "blockquote") [] (Characters Nothing (codes "x"))) (codes "table") [] Nothing)))))))
-    ∷ (Element (Element (Characters (Element (Characters (Element Nothing (codes "b") [] (Characters (Element Nothing (codes "br") [] Nothing) (codes "1"))) (codes "2")) (codes "br") [] Nothing) (codes "3")) (codes "li") [] (Element Nothing (codes "br") [] Nothing)) (codes "li") [] (Element (Characters (Element (Element Nothing (codes "ruby") [] (Element (Element Nothing (codes "br") [] Nothing) (codes "rt") [] Nothing)) (codes "br") [] Nothing) (codes "x")) (codes "table") [] Nothing))
-    ∷ (Element (Characters (Element (Element Nothing (codes "b") [] Nothing) (codes "button") [] (Characters (Element Nothing (codes "b") [] (Characters Nothing (codes "1"))) (codes "2"))) (codes "3")) (codes "li") [] (Element (Element Nothing (codes "button") [] (Element Nothing (codes "li") [] (Element Nothing (codes "ruby") [] Nothing))) (codes "button") [] (Element Nothing (codes "rt") [] (Element (Element Nothing (codes "button") [] (Characters Nothing (codes "x"))) (codes "table") [] Nothing))))
-    ∷ (Element (Element (Characters (Element Nothing (codes "b") [] (Characters Nothing (codes "1"))) (codes "23")) (codes "li") [] Nothing) (codes "li") [] (Element (Element Nothing (codes "ruby") [] (Element Nothing (codes "rt") [] Nothing)) (codes "table") [] (Element Nothing (codes "caption") [] (Characters Nothing (codes "x")))))
-    ∷ (Element (Characters (Element (Element Nothing (codes "b") [] Nothing) (codes "center") [] (Characters (Element Nothing (codes "b") [] (Characters Nothing (codes "1"))) (codes "2"))) (codes "3")) (codes "li") [] (Element Nothing (codes "center") [] (Element Nothing (codes "li") [] (Element Nothing (codes "ruby") [] (Element Nothing (codes "center") [] (Element Nothing (codes "rt") [] (Element (Element Nothing (codes "center") [] (Characters Nothing (codes "x"))) (codes "table") [] Nothing)))))))
-    ∷ (Element (Element (Characters (Element Nothing (codes "b") [] (Element Nothing (codes "cite") [] (Characters Nothing (codes "1")))) (codes "23")) (codes "li") [] (Element Nothing (codes "cite") [] Nothing)) (codes "li") [] (Element (Element (Element Nothing (codes "ruby") [] (Element Nothing (codes "cite") [] (Element Nothing (codes "rt") [] Nothing))) (codes "cite") [] (Characters Nothing (codes "x"))) (codes "table") [] Nothing))
-    ∷ (Element (Element (Characters (Element (Element Nothing (codes "b") [] (Element Nothing (codes "code") [] (Characters Nothing (codes "1")))) (codes "code") [] (Characters Nothing (codes "2"))) (codes "3")) (codes "li") [] (Element Nothing (codes "code") [] Nothing)) (codes "li") [] (Element Nothing (codes "code") [] (Element (Element (Element Nothing (codes "ruby") [] (Element Nothing (codes "code") [] (Element Nothing (codes "rt") [] Nothing))) (codes "code") [] (Element Nothing (codes "code") [] (Characters Nothing (codes "x")))) (codes "table") [] Nothing)))
-    ∷ (Element (Element (Characters (Element Nothing (codes "b") [] (Characters Nothing (codes "1"))) (codes "23")) (codes "li") [] Nothing) (codes "li") [] (Element (Characters (Element Nothing (codes "ruby") [] (Element Nothing (codes "rt") [] Nothing)) (codes "x")) (codes "table") [] (Element Nothing (codes "colgroup") [] (Element Nothing (codes "col") [] Nothing))))
-    ∷ (Element (Element (Characters (Element Nothing (codes "b") [] (Characters Nothing (codes "1"))) (codes "23")) (codes "li") [] Nothing) (codes "li") [] (Element (Characters (Element Nothing (codes "ruby") [] (Element Nothing (codes "rt") [] Nothing)) (codes "x")) (codes "table") [] (Element Nothing (codes "colgroup") [] Nothing)))
-    ∷ (Element (Element (Characters (Element Nothing (codes "b") [] (Element Nothing (codes "data") [] (Characters Nothing (codes "1")))) (codes "23")) (codes "li") [] (Element Nothing (codes "data") [] Nothing)) (codes "li") [] (Element (Element (Element Nothing (codes "ruby") [] (Element Nothing (codes "data") [] (Element Nothing (codes "rt") [] Nothing))) (codes "data") [] (Characters Nothing (codes "x"))) (codes "table") [] Nothing))
+    (Element (Element Nothing (codes "p") [] Nothing) (codes "blockquote") [] (Element (Characters (Element (Element (Element (Characters Nothing (codes "0")) (codes "p") [] Nothing) (codes "b") [] Nothing) (codes "blockquote") [] (Characters (Element Nothing (codes "b") [] (Characters Nothing (codes "1"))) (codes "2"))) (codes "3")) (codes "li") [] (Element Nothing (codes "blockquote") [] (Element Nothing (codes "li") [] (Element Nothing (codes "ruby") [] (Element Nothing (codes "blockquote") [] (Element Nothing (codes "rt") [] (Element (Element Nothing (codes "blockquote") [] (Characters Nothing (codes "x"))) (codes "table") [] Nothing))))))))
+    ∷ (Element (Element (Characters (Element (Characters (Element (Element Nothing (codes "p") [] (Characters (Element Nothing (codes "br") [] Nothing) (codes "0"))) (codes "b") [] (Characters (Element Nothing (codes "br") [] Nothing) (codes "1"))) (codes "2")) (codes "br") [] Nothing) (codes "3")) (codes "li") [] (Element Nothing (codes "br") [] Nothing)) (codes "li") [] (Element (Characters (Element (Element Nothing (codes "ruby") [] (Element (Element Nothing (codes "br") [] Nothing) (codes "rt") [] Nothing)) (codes "br") [] Nothing) (codes "x")) (codes "table") [] Nothing))
+    ∷ (Element (Element Nothing (codes "p") [] (Characters (Element (Element (Element Nothing (codes "button") [] (Element (Element (Characters Nothing (codes "0")) (codes "p") [] Nothing) (codes "b") [] Nothing)) (codes "b") [] Nothing) (codes "button") [] (Characters (Element Nothing (codes "b") [] (Characters Nothing (codes "1"))) (codes "2"))) (codes "3"))) (codes "li") [] (Element (Element Nothing (codes "button") [] (Element Nothing (codes "li") [] (Element Nothing (codes "ruby") [] Nothing))) (codes "button") [] (Element Nothing (codes "rt") [] (Element (Element Nothing (codes "button") [] (Characters Nothing (codes "x"))) (codes "table") [] Nothing))))
+    ∷ (Element (Element (Characters (Element (Element Nothing (codes "p") [] (Characters Nothing (codes "0"))) (codes "b") [] (Characters Nothing (codes "1"))) (codes "23")) (codes "li") [] Nothing) (codes "li") [] (Element (Element Nothing (codes "ruby") [] (Element Nothing (codes "rt") [] Nothing)) (codes "table") [] (Element Nothing (codes "caption") [] (Characters Nothing (codes "x")))))
+    ∷ (Element (Element Nothing (codes "p") [] Nothing) (codes "center") [] (Element (Characters (Element (Element (Element (Characters Nothing (codes "0")) (codes "p") [] Nothing) (codes "b") [] Nothing) (codes "center") [] (Characters (Element Nothing (codes "b") [] (Characters Nothing (codes "1"))) (codes "2"))) (codes "3")) (codes "li") [] (Element Nothing (codes "center") [] (Element Nothing (codes "li") [] (Element Nothing (codes "ruby") [] (Element Nothing (codes "center") [] (Element Nothing (codes "rt") [] (Element (Element Nothing (codes "center") [] (Characters Nothing (codes "x"))) (codes "table") [] Nothing))))))))
+    ∷ (Element (Element (Characters (Element (Element Nothing (codes "p") [] (Element Nothing (codes "cite") [] (Characters Nothing (codes "0")))) (codes "b") [] (Element Nothing (codes "cite") [] (Characters Nothing (codes "1")))) (codes "23")) (codes "li") [] (Element Nothing (codes "cite") [] Nothing)) (codes "li") [] (Element (Element (Element Nothing (codes "ruby") [] (Element Nothing (codes "cite") [] (Element Nothing (codes "rt") [] Nothing))) (codes "cite") [] (Characters Nothing (codes "x"))) (codes "table") [] Nothing))
+    ∷ (Element (Element Nothing (codes "p") [] (Element Nothing (codes "code") [] (Characters Nothing (codes "0")))) (codes "code") [] (Element (Element (Characters (Element (Element Nothing (codes "b") [] (Element Nothing (codes "code") [] (Characters Nothing (codes "1")))) (codes "code") [] (Characters Nothing (codes "2"))) (codes "3")) (codes "li") [] (Element Nothing (codes "code") [] Nothing)) (codes "li") [] (Element Nothing (codes "code") [] (Element (Element (Element Nothing (codes "ruby") [] (Element Nothing (codes "code") [] (Element Nothing (codes "rt") [] Nothing))) (codes "code") [] (Element Nothing (codes "code") [] (Characters Nothing (codes "x")))) (codes "table") [] Nothing))))
+    ∷ (Element (Element (Characters (Element (Element Nothing (codes "p") [] (Characters Nothing (codes "0"))) (codes "b") [] (Characters Nothing (codes "1"))) (codes "23")) (codes "li") [] Nothing) (codes "li") [] (Element (Characters (Element Nothing (codes "ruby") [] (Element Nothing (codes "rt") [] Nothing)) (codes "x")) (codes "table") [] (Element Nothing (codes "colgroup") [] (Element Nothing (codes "col") [] Nothing))))
+    ∷ (Element (Element (Characters (Element (Element Nothing (codes "p") [] (Characters Nothing (codes "0"))) (codes "b") [] (Characters Nothing (codes "1"))) (codes "23")) (codes "li") [] Nothing) (codes "li") [] (Element (Characters (Element Nothing (codes "ruby") [] (Element Nothing (codes "rt") [] Nothing)) (codes "x")) (codes "table") [] (Element Nothing (codes "colgroup") [] Nothing)))
+    ∷ (Element (Element (Characters (Element (Element Nothing (codes "p") [] (Element Nothing (codes "data") [] (Characters Nothing (codes "0")))) (codes "b") [] (Element Nothing (codes "data") [] (Characters Nothing (codes "1")))) (codes "23")) (codes "li") [] (Element Nothing (codes "data") [] Nothing)) (codes "li") [] (Element (Element (Element Nothing (codes "ruby") [] (Element Nothing (codes "data") [] (Element Nothing (codes "rt") [] Nothing))) (codes "data") [] (Characters Nothing (codes "x"))) (codes "table") [] Nothing))
     ∷ []
 
 names_1 : map tree_of names_1_items ≡ names_1_answers
@@ -591,30 +631,30 @@ names_1 = refl
 
 names_2_items : List (List Item)
 names_2_items =
-    (start (codes "b") ∷ start (codes "dd") ∷ Text (codes "1") ∷ end (codes "b") ∷ Text (codes "2") ∷ end (codes "dd") ∷ Text (codes "3") ∷ start (codes "li") ∷ start (codes "dd") ∷ start (codes "li") ∷ start (codes "ruby") ∷ start (codes "dd") ∷ start (codes "rt") ∷ end (codes "ruby") ∷ start (codes "table") ∷ start (codes "dd") ∷ Text (codes "x") ∷ [])
-    ∷ (start (codes "b") ∷ start (codes "del") ∷ Text (codes "1") ∷ end (codes "b") ∷ Text (codes "2") ∷ end (codes "del") ∷ Text (codes "3") ∷ start (codes "li") ∷ start (codes "del") ∷ start (codes "li") ∷ start (codes "ruby") ∷ start (codes "del") ∷ start (codes "rt") ∷ end (codes "ruby") ∷ start (codes "table") ∷ start (codes "del") ∷ Text (codes "x") ∷ [])
-    ∷ (start (codes "b") ∷ start (codes "details") ∷ Text (codes "1") ∷ end (codes "b") ∷ Text (codes "2") ∷ end (codes "details") ∷ Text (codes "3") ∷ start (codes "li") ∷ start (codes "details") ∷ start (codes "li") ∷ start (codes "ruby") ∷ start (codes "details") ∷ start (codes "rt") ∷ end (codes "ruby") ∷ start (codes "table") ∷ start (codes "details") ∷ Text (codes "x") ∷ [])
-    ∷ (start (codes "b") ∷ start (codes "dfn") ∷ Text (codes "1") ∷ end (codes "b") ∷ Text (codes "2") ∷ end (codes "dfn") ∷ Text (codes "3") ∷ start (codes "li") ∷ start (codes "dfn") ∷ start (codes "li") ∷ start (codes "ruby") ∷ start (codes "dfn") ∷ start (codes "rt") ∷ end (codes "ruby") ∷ start (codes "table") ∷ start (codes "dfn") ∷ Text (codes "x") ∷ [])
-    ∷ (start (codes "b") ∷ start (codes "dialog") ∷ Text (codes "1") ∷ end (codes "b") ∷ Text (codes "2") ∷ end (codes "dialog") ∷ Text (codes "3") ∷ start (codes "li") ∷ start (codes "dialog") ∷ start (codes "li") ∷ start (codes "ruby") ∷ start (codes "dialog") ∷ start (codes "rt") ∷ end (codes "ruby") ∷ start (codes "table") ∷ start (codes "dialog") ∷ Text (codes "x") ∷ [])
-    ∷ (start (codes "b") ∷ start (codes "dir") ∷ Text (codes "1") ∷ end (codes "b") ∷ Text (codes "2") ∷ end (codes "dir") ∷ Text (codes "3") ∷ start (codes "li") ∷ start (codes "dir") ∷ start (codes "li") ∷ start (codes "ruby") ∷ start (codes "dir") ∷ start (codes "rt") ∷ end (codes "ruby") ∷ start (codes "table") ∷ start (codes "dir") ∷ Text (codes "x") ∷ [])
-    ∷ (start (codes "b") ∷ start (codes "div") ∷ Text (codes "1") ∷ end (codes "b") ∷ Text (codes "2") ∷ end (codes "div") ∷ Text (codes "3") ∷ start (codes "li") ∷ start (codes "div") ∷ start (codes "li") ∷ start (codes "ruby") ∷ start (codes "div") ∷ start (codes "rt") ∷ end (codes "ruby") ∷ start (codes "table") ∷ start (codes "div") ∷ Text (codes "x") ∷ [])
-    ∷ (start (codes "b") ∷ start (codes "dl") ∷ Text (codes "1") ∷ end (codes "b") ∷ Text (codes "2") ∷ end (codes "dl") ∷ Text (codes "3") ∷ start (codes "li") ∷ start (codes "dl") ∷ start (codes "li") ∷ start (codes "ruby") ∷ start (codes "dl") ∷ start (codes "rt") ∷ end (codes "ruby") ∷ start (codes "table") ∷ start (codes "dl") ∷ Text (codes "x") ∷ [])
-    ∷ (start (codes "b") ∷ start (codes "dt") ∷ Text (codes "1") ∷ end (codes "b") ∷ Text (codes "2") ∷ end (codes "dt") ∷ Text (codes "3") ∷ start (codes "li") ∷ start (codes "dt") ∷ start (codes "li") ∷ start (codes "ruby") ∷ start (codes "dt") ∷ start (codes "rt") ∷ end (codes "ruby") ∷ start (codes "table") ∷ start (codes "dt") ∷ Text (codes "x") ∷ [])
-    ∷ (start (codes "b") ∷ start (codes "em") ∷ Text (codes "1") ∷ end (codes "b") ∷ Text (codes "2") ∷ end (codes "em") ∷ Text (codes "3") ∷ start (codes "li") ∷ start (codes "em") ∷ start (codes "li") ∷ start (codes "ruby") ∷ start (codes "em") ∷ start (codes "rt") ∷ end (codes "ruby") ∷ start (codes "table") ∷ start (codes "em") ∷ Text (codes "x") ∷ [])
+    (start (codes "p") ∷ start (codes "dd") ∷ Text (codes "0") ∷ end (codes "p") ∷ start (codes "b") ∷ start (codes "dd") ∷ Text (codes "1") ∷ end (codes "b") ∷ Text (codes "2") ∷ end (codes "dd") ∷ Text (codes "3") ∷ start (codes "li") ∷ start (codes "dd") ∷ start (codes "li") ∷ start (codes "ruby") ∷ start (codes "dd") ∷ start (codes "rt") ∷ end (codes "ruby") ∷ start (codes "table") ∷ start (codes "dd") ∷ Text (codes "x") ∷ [])
+    ∷ (start (codes "p") ∷ start (codes "del") ∷ Text (codes "0") ∷ end (codes "p") ∷ start (codes "b") ∷ start (codes "del") ∷ Text (codes "1") ∷ end (codes "b") ∷ Text (codes "2") ∷ end (codes "del") ∷ Text (codes "3") ∷ start (codes "li") ∷ start (codes "del") ∷ start (codes "li") ∷ start (codes "ruby") ∷ start (codes "del") ∷ start (codes "rt") ∷ end (codes "ruby") ∷ start (codes "table") ∷ start (codes "del") ∷ Text (codes "x") ∷ [])
+    ∷ (start (codes "p") ∷ start (codes "details") ∷ Text (codes "0") ∷ end (codes "p") ∷ start (codes "b") ∷ start (codes "details") ∷ Text (codes "1") ∷ end (codes "b") ∷ Text (codes "2") ∷ end (codes "details") ∷ Text (codes "3") ∷ start (codes "li") ∷ start (codes "details") ∷ start (codes "li") ∷ start (codes "ruby") ∷ start (codes "details") ∷ start (codes "rt") ∷ end (codes "ruby") ∷ start (codes "table") ∷ start (codes "details") ∷ Text (codes "x") ∷ [])
+    ∷ (start (codes "p") ∷ start (codes "dfn") ∷ Text (codes "0") ∷ end (codes "p") ∷ start (codes "b") ∷ start (codes "dfn") ∷ Text (codes "1") ∷ end (codes "b") ∷ Text (codes "2") ∷ end (codes "dfn") ∷ Text (codes "3") ∷ start (codes "li") ∷ start (codes "dfn") ∷ start (codes "li") ∷ start (codes "ruby") ∷ start (codes "dfn") ∷ start (codes "rt") ∷ end (codes "ruby") ∷ start (codes "table") ∷ start (codes "dfn") ∷ Text (codes "x") ∷ [])
+    ∷ (start (codes "p") ∷ start (codes "dialog") ∷ Text (codes "0") ∷ end (codes "p") ∷ start (codes "b") ∷ start (codes "dialog") ∷ Text (codes "1") ∷ end (codes "b") ∷ Text (codes "2") ∷ end (codes "dialog") ∷ Text (codes "3") ∷ start (codes "li") ∷ start (codes "dialog") ∷ start (codes "li") ∷ start (codes "ruby") ∷ start (codes "dialog") ∷ start (codes "rt") ∷ end (codes "ruby") ∷ start (codes "table") ∷ start (codes "dialog") ∷ Text (codes "x") ∷ [])
+    ∷ (start (codes "p") ∷ start (codes "dir") ∷ Text (codes "0") ∷ end (codes "p") ∷ start (codes "b") ∷ start (codes "dir") ∷ Text (codes "1") ∷ end (codes "b") ∷ Text (codes "2") ∷ end (codes "dir") ∷ Text (codes "3") ∷ start (codes "li") ∷ start (codes "dir") ∷ start (codes "li") ∷ start (codes "ruby") ∷ start (codes "dir") ∷ start (codes "rt") ∷ end (codes "ruby") ∷ start (codes "table") ∷ start (codes "dir") ∷ Text (codes "x") ∷ [])
+    ∷ (start (codes "p") ∷ start (codes "div") ∷ Text (codes "0") ∷ end (codes "p") ∷ start (codes "b") ∷ start (codes "div") ∷ Text (codes "1") ∷ end (codes "b") ∷ Text (codes "2") ∷ end (codes "div") ∷ Text (codes "3") ∷ start (codes "li") ∷ start (codes "div") ∷ start (codes "li") ∷ start (codes "ruby") ∷ start (codes "div") ∷ start (codes "rt") ∷ end (codes "ruby") ∷ start (codes "table") ∷ start (codes "div") ∷ Text (codes "x") ∷ [])
+    ∷ (start (codes "p") ∷ start (codes "dl") ∷ Text (codes "0") ∷ end (codes "p") ∷ start (codes "b") ∷ start (codes "dl") ∷ Text (codes "1") ∷ end (codes "b") ∷ Text (codes "2") ∷ end (codes "dl") ∷ Text (codes "3") ∷ start (codes "li") ∷ start (codes "dl") ∷ start (codes "li") ∷ start (codes "ruby") ∷ start (codes "dl") ∷ start (codes "rt") ∷ end (codes "ruby") ∷ start (codes "table") ∷ start (codes "dl") ∷ Text (codes "x") ∷ [])
+    ∷ (start (codes "p") ∷ start (codes "dt") ∷ Text (codes "0") ∷ end (codes "p") ∷ start (codes "b") ∷ start (codes "dt") ∷ Text (codes "1") ∷ end (codes "b") ∷ Text (codes "2") ∷ end (codes "dt") ∷ Text (codes "3") ∷ start (codes "li") ∷ start (codes "dt") ∷ start (codes "li") ∷ start (codes "ruby") ∷ start (codes "dt") ∷ start (codes "rt") ∷ end (codes "ruby") ∷ start (codes "table") ∷ start (codes "dt") ∷ Text (codes "x") ∷ [])
+    ∷ (start (codes "p") ∷ start (codes "em") ∷ Text (codes "0") ∷ end (codes "p") ∷ start (codes "b") ∷ start (codes "em") ∷ Text (codes "1") ∷ end (codes "b") ∷ Text (codes "2") ∷ end (codes "em") ∷ Text (codes "3") ∷ start (codes "li") ∷ start (codes "em") ∷ start (codes "li") ∷ start (codes "ruby") ∷ start (codes "em") ∷ start (codes "rt") ∷ end (codes "ruby") ∷ start (codes "table") ∷ start (codes "em") ∷ Text (codes "x") ∷ [])
     ∷ []
 
 names_2_answers : List Tree
 names_2_answers =
-    (Element (Characters (Element (Element Nothing (codes "b") [] Nothing) (codes "dd") [] (Characters (Element Nothing (codes "b") [] (Characters Nothing (codes "1"))) (codes "2"))) (codes "3")) (codes "li") [] (Element Nothing (codes "dd") [] (Element Nothing (codes "li") [] (Element (Element (Element Nothing (codes "ruby") [] (Element (Element Nothing (codes "dd") [] Nothing) (codes "rt") [] Nothing)) (codes "dd") [] (Characters Nothing (codes "x"))) (codes "table") [] Nothing))))
-    ∷ (Element (Element (Characters (Element Nothing (codes "b") [] (Element Nothing (codes "del") [] (Characters Nothing (codes "1")))) (codes "23")) (codes "li") [] (Element Nothing (codes "del") [] Nothing)) (codes "li") [] (Element (Element (Element Nothing (codes "ruby") [] (Element Nothing (codes "del") [] (Element Nothing (codes "rt") [] Nothing))) (codes "del") [] (Characters Nothing (codes "x"))) (codes "table") [] Nothing))
-    ∷ (Element (Characters (Element (Element Nothing (codes "b") [] Nothing) (codes "details") [] (Characters (Element Nothing (codes "b") [] (Characters Nothing (codes "1"))) (codes "2"))) (codes "3")) (codes "li") [] (Element Nothing (codes "details") [] (Element Nothing (codes "li") [] (Element Nothing (codes "ruby") [] (Element Nothing (codes "details") [] (Element Nothing (codes "rt") [] (Element (Element Nothing (codes "details") [] (Characters Nothing (codes "x"))) (codes "table") [] Nothing)))))))
-    ∷ (Element (Element (Characters (Element Nothing (codes "b") [] (Element Nothing (codes "dfn") [] (Characters Nothing (codes "1")))) (codes "23")) (codes "li") [] (Element Nothing (codes "dfn") [] Nothing)) (codes "li") [] (Element (Element (Element Nothing (codes "ruby") [] (Element Nothing (codes "dfn") [] (Element Nothing (codes "rt") [] Nothing))) (codes "dfn") [] (Characters Nothing (codes "x"))) (codes "table") [] Nothing))
-    ∷ (Element (Element (Characters (Element Nothing (codes "b") [] (Element Nothing (codes "dialog") [] (Characters Nothing (codes "1")))) (codes "23")) (codes "li") [] (Element Nothing (codes "dialog") [] Nothing)) (codes "li") [] (Element (Element (Element Nothing (codes "ruby") [] (Element Nothing (codes "dialog") [] (Element Nothing (codes "rt") [] Nothing))) (codes "dialog") [] (Characters Nothing (codes "x"))) (codes "table") [] Nothing))
-    ∷ (Element (Characters (Element (Element Nothing (codes "b") [] Nothing) (codes "dir") [] (Characters (Element Nothing (codes "b") [] (Characters Nothing (codes "1"))) (codes "2"))) (codes "3")) (codes "li") [] (Element Nothing (codes "dir") [] (Element Nothing (codes "li") [] (Element Nothing (codes "ruby") [] (Element Nothing (codes "dir") [] (Element Nothing (codes "rt") [] (Element (Element Nothing (codes "dir") [] (Characters Nothing (codes "x"))) (codes "table") [] Nothing)))))))
-    ∷ (Element (Element (Characters (Element (Element Nothing (codes "b") [] Nothing) (codes "div") [] (Characters (Element Nothing (codes "b") [] (Characters Nothing (codes "1"))) (codes "2"))) (codes "3")) (codes "li") [] (Element Nothing (codes "div") [] Nothing)) (codes "li") [] (Element Nothing (codes "ruby") [] (Element Nothing (codes "div") [] (Element Nothing (codes "rt") [] (Element (Element Nothing (codes "div") [] (Characters Nothing (codes "x"))) (codes "table") [] Nothing)))))
-    ∷ (Element (Characters (Element (Element Nothing (codes "b") [] Nothing) (codes "dl") [] (Characters (Element Nothing (codes "b") [] (Characters Nothing (codes "1"))) (codes "2"))) (codes "3")) (codes "li") [] (Element Nothing (codes "dl") [] (Element Nothing (codes "li") [] (Element Nothing (codes "ruby") [] (Element Nothing (codes "dl") [] (Element Nothing (codes "rt") [] (Element (Element Nothing (codes "dl") [] (Characters Nothing (codes "x"))) (codes "table") [] Nothing)))))))
-    ∷ (Element (Characters (Element (Element Nothing (codes "b") [] Nothing) (codes "dt") [] (Characters (Element Nothing (codes "b") [] (Characters Nothing (codes "1"))) (codes "2"))) (codes "3")) (codes "li") [] (Element Nothing (codes "dt") [] (Element Nothing (codes "li") [] (Element (Element (Element Nothing (codes "ruby") [] (Element (Element Nothing (codes "dt") [] Nothing) (codes "rt") [] Nothing)) (codes "dt") [] (Characters Nothing (codes "x"))) (codes "table") [] Nothing))))
-    ∷ (Element (Element (Characters (Element (Element Nothing (codes "b") [] (Element Nothing (codes "em") [] (Characters Nothing (codes "1")))) (codes "em") [] (Characters Nothing (codes "2"))) (codes "3")) (codes "li") [] (Element Nothing (codes "em") [] Nothing)) (codes "li") [] (Element Nothing (codes "em") [] (Element (Element (Element Nothing (codes "ruby") [] (Element Nothing (codes "em") [] (Element Nothing (codes "rt") [] Nothing))) (codes "em") [] (Element Nothing (codes "em") [] (Characters Nothing (codes "x")))) (codes "table") [] Nothing)))
+    (Element (Characters (Element (Element (Element Nothing (codes "p") [] Nothing) (codes "dd") [] (Element (Element (Characters Nothing (codes "0")) (codes "p") [] Nothing) (codes "b") [] Nothing)) (codes "dd") [] (Characters (Element Nothing (codes "b") [] (Characters Nothing (codes "1"))) (codes "2"))) (codes "3")) (codes "li") [] (Element Nothing (codes "dd") [] (Element Nothing (codes "li") [] (Element (Element (Element Nothing (codes "ruby") [] (Element (Element Nothing (codes "dd") [] Nothing) (codes "rt") [] Nothing)) (codes "dd") [] (Characters Nothing (codes "x"))) (codes "table") [] Nothing))))
+    ∷ (Element (Element (Characters (Element (Element Nothing (codes "p") [] (Element Nothing (codes "del") [] (Characters Nothing (codes "0")))) (codes "b") [] (Element Nothing (codes "del") [] (Characters Nothing (codes "1")))) (codes "23")) (codes "li") [] (Element Nothing (codes "del") [] Nothing)) (codes "li") [] (Element (Element (Element Nothing (codes "ruby") [] (Element Nothing (codes "del") [] (Element Nothing (codes "rt") [] Nothing))) (codes "del") [] (Characters Nothing (codes "x"))) (codes "table") [] Nothing))
+    ∷ (Element (Element Nothing (codes "p") [] Nothing) (codes "details") [] (Element (Characters (Element (Element (Element (Characters Nothing (codes "0")) (codes "p") [] Nothing) (codes "b") [] Nothing) (codes "details") [] (Characters (Element Nothing (codes "b") [] (Characters Nothing (codes "1"))) (codes "2"))) (codes "3")) (codes "li") [] (Element Nothing (codes "details") [] (Element Nothing (codes "li") [] (Element Nothing (codes "ruby") [] (Element Nothing (codes "details") [] (Element Nothing (codes "rt") [] (Element (Element Nothing (codes "details") [] (Characters Nothing (codes "x"))) (codes "table") [] Nothing))))))))
+    ∷ (Element (Element (Characters (Element (Element Nothing (codes "p") [] (Element Nothing (codes "dfn") [] (Characters Nothing (codes "0")))) (codes "b") [] (Element Nothing (codes "dfn") [] (Characters Nothing (codes "1")))) (codes "23")) (codes "li") [] (Element Nothing (codes "dfn") [] Nothing)) (codes "li") [] (Element (Element (Element Nothing (codes "ruby") [] (Element Nothing (codes "dfn") [] (Element Nothing (codes "rt") [] Nothing))) (codes "dfn") [] (Characters Nothing (codes "x"))) (codes "table") [] Nothing))
+    ∷ (Element (Element (Characters (Element (Element Nothing (codes "p") [] Nothing) (codes "dialog") [] (Characters (Element (Element (Characters Nothing (codes "0")) (codes "p") [] Nothing) (codes "b") [] (Element Nothing (codes "dialog") [] (Characters Nothing (codes "1")))) (codes "2"))) (codes "3")) (codes "li") [] (Element Nothing (codes "dialog") [] Nothing)) (codes "li") [] (Element (Element (Element Nothing (codes "ruby") [] (Element Nothing (codes "dialog") [] (Element Nothing (codes "rt") [] Nothing))) (codes "dialog") [] (Characters Nothing (codes "x"))) (codes "table") [] Nothing))
+    ∷ (Element (Element Nothing (codes "p") [] Nothing) (codes "dir") [] (Element (Characters (Element (Element (Element (Characters Nothing (codes "0")) (codes "p") [] Nothing) (codes "b") [] Nothing) (codes "dir") [] (Characters (Element Nothing (codes "b") [] (Characters Nothing (codes "1"))) (codes "2"))) (codes "3")) (codes "li") [] (Element Nothing (codes "dir") [] (Element Nothing (codes "li") [] (Element Nothing (codes "ruby") [] (Element Nothing (codes "dir") [] (Element Nothing (codes "rt") [] (Element (Element Nothing (codes "dir") [] (Characters Nothing (codes "x"))) (codes "table") [] Nothing))))))))
+    ∷ (Element (Element Nothing (codes "p") [] Nothing) (codes "div") [] (Element (Element (Characters (Element (Element (Element (Characters Nothing (codes "0")) (codes "p") [] Nothing) (codes "b") [] Nothing) (codes "div") [] (Characters (Element Nothing (codes "b") [] (Characters Nothing (codes "1"))) (codes "2"))) (codes "3")) (codes "li") [] (Element Nothing (codes "div") [] Nothing)) (codes "li") [] (Element Nothing (codes "ruby") [] (Element Nothing (codes "div") [] (Element Nothing (codes "rt") [] (Element (Element Nothing (codes "div") [] (Characters Nothing (codes "x"))) (codes "table") [] Nothing))))))
+    ∷ (Element (Element Nothing (codes "p") [] Nothing) (codes "dl") [] (Element (Characters (Element (Element (Element (Characters Nothing (codes "0")) (codes "p") [] Nothing) (codes "b") [] Nothing) (codes "dl") [] (Characters (Element Nothing (codes "b") [] (Characters Nothing (codes "1"))) (codes "2"))) (codes "3")) (codes "li") [] (Element Nothing (codes "dl") [] (Element Nothing (codes "li") [] (Element Nothing (codes "ruby") [] (Element Nothing (codes "dl") [] (Element Nothing (codes "rt") [] (Element (Element Nothing (codes "dl") [] (Characters Nothing (codes "x"))) (codes "table") [] Nothing))))))))
+    ∷ (Element (Characters (Element (Element (Element Nothing (codes "p") [] Nothing) (codes "dt") [] (Element (Element (Characters Nothing (codes "0")) (codes "p") [] Nothing) (codes "b") [] Nothing)) (codes "dt") [] (Characters (Element Nothing (codes "b") [] (Characters Nothing (codes "1"))) (codes "2"))) (codes "3")) (codes "li") [] (Element Nothing (codes "dt") [] (Element Nothing (codes "li") [] (Element (Element (Element Nothing (codes "ruby") [] (Element (Element Nothing (codes "dt") [] Nothing) (codes "rt") [] Nothing)) (codes "dt") [] (Characters Nothing (codes "x"))) (codes "table") [] Nothing))))
+    ∷ (Element (Element Nothing (codes "p") [] (Element Nothing (codes "em") [] (Characters Nothing (codes "0")))) (codes "em") [] (Element (Element (Characters (Element (Element Nothing (codes "b") [] (Element Nothing (codes "em") [] (Characters Nothing (codes "1")))) (codes "em") [] (Characters Nothing (codes "2"))) (codes "3")) (codes "li") [] (Element Nothing (codes "em") [] Nothing)) (codes "li") [] (Element Nothing (codes "em") [] (Element (Element (Element Nothing (codes "ruby") [] (Element Nothing (codes "em") [] (Element Nothing (codes "rt") [] Nothing))) (codes "em") [] (Element Nothing (codes "em") [] (Characters Nothing (codes "x")))) (codes "table") [] Nothing))))
     ∷ []
 
 names_2 : map tree_of names_2_items ≡ names_2_answers
@@ -623,30 +663,30 @@ names_2 = refl
 
 names_3_items : List (List Item)
 names_3_items =
-    (start (codes "b") ∷ start (codes "embed") ∷ Text (codes "1") ∷ end (codes "b") ∷ Text (codes "2") ∷ end (codes "embed") ∷ Text (codes "3") ∷ start (codes "li") ∷ start (codes "embed") ∷ start (codes "li") ∷ start (codes "ruby") ∷ start (codes "embed") ∷ start (codes "rt") ∷ end (codes "ruby") ∷ start (codes "table") ∷ start (codes "embed") ∷ Text (codes "x") ∷ [])
-    ∷ (start (codes "b") ∷ start (codes "fieldset") ∷ Text (codes "1") ∷ end (codes "b") ∷ Text (codes "2") ∷ end (codes "fieldset") ∷ Text (codes "3") ∷ start (codes "li") ∷ start (codes "fieldset") ∷ start (codes "li") ∷ start (codes "ruby") ∷ start (codes "fieldset") ∷ start (codes "rt") ∷ end (codes "ruby") ∷ start (codes "table") ∷ start (codes "fieldset") ∷ Text (codes "x") ∷ [])
-    ∷ (start (codes "b") ∷ start (codes "figcaption") ∷ Text (codes "1") ∷ end (codes "b") ∷ Text (codes "2") ∷ end (codes "figcaption") ∷ Text (codes "3") ∷ start (codes "li") ∷ start (codes "figcaption") ∷ start (codes "li") ∷ start (codes "ruby") ∷ start (codes "figcaption") ∷ start (codes "rt") ∷ end (codes "ruby") ∷ start (codes "table") ∷ start (codes "figcaption") ∷ Text (codes "x") ∷ [])
-    ∷ (start (codes "b") ∷ start (codes "figure") ∷ Text (codes "1") ∷ end (codes "b") ∷ Text (codes "2") ∷ end (codes "figure") ∷ Text (codes "3") ∷ start (codes "li") ∷ start (codes "figure") ∷ start (codes "li") ∷ start (codes "ruby") ∷ start (codes "figure") ∷ start (codes "rt") ∷ end (codes "ruby") ∷ start (codes "table") ∷ start (codes "figure") ∷ Text (codes "x") ∷ [])
-    ∷ (start (codes "b") ∷ start (codes "font") ∷ Text (codes "1") ∷ end (codes "b") ∷ Text (codes "2") ∷ end (codes "font") ∷ Text (codes "3") ∷ start (codes "li") ∷ start (codes "font") ∷ start (codes "li") ∷ start (codes "ruby") ∷ start (codes "font") ∷ start (codes "rt") ∷ end (codes "ruby") ∷ start (codes "table") ∷ start (codes "font") ∷ Text (codes "x") ∷ [])
-    ∷ (start (codes "b") ∷ start (codes "footer") ∷ Text (codes "1") ∷ end (codes "b") ∷ Text (codes "2") ∷ end (codes "footer") ∷ Text (codes "3") ∷ start (codes "li") ∷ start (codes "footer") ∷ start (codes "li") ∷ start (codes "ruby") ∷ start (codes "footer") ∷ start (codes "rt") ∷ end (codes "ruby") ∷ start (codes "table") ∷ start (codes "footer") ∷ Text (codes "x") ∷ [])
-    ∷ (start (codes "b") ∷ start (codes "form") ∷ Text (codes "1") ∷ end (codes "b") ∷ Text (codes "2") ∷ end (codes "form") ∷ Text (codes "3") ∷ start (codes "li") ∷ start (codes "form") ∷ start (codes "li") ∷ start (codes "ruby") ∷ start (codes "form") ∷ start (codes "rt") ∷ end (codes "ruby") ∷ start (codes "table") ∷ start (codes "form") ∷ Text (codes "x") ∷ [])
-    ∷ (start (codes "b") ∷ start (codes "h1") ∷ Text (codes "1") ∷ end (codes "b") ∷ Text (codes "2") ∷ end (codes "h1") ∷ Text (codes "3") ∷ start (codes "li") ∷ start (codes "h1") ∷ start (codes "li") ∷ start (codes "ruby") ∷ start (codes "h1") ∷ start (codes "rt") ∷ end (codes "ruby") ∷ start (codes "table") ∷ start (codes "h1") ∷ Text (codes "x") ∷ [])
-    ∷ (start (codes "b") ∷ start (codes "h2") ∷ Text (codes "1") ∷ end (codes "b") ∷ Text (codes "2") ∷ end (codes "h2") ∷ Text (codes "3") ∷ start (codes "li") ∷ start (codes "h2") ∷ start (codes "li") ∷ start (codes "ruby") ∷ start (codes "h2") ∷ start (codes "rt") ∷ end (codes "ruby") ∷ start (codes "table") ∷ start (codes "h2") ∷ Text (codes "x") ∷ [])
-    ∷ (start (codes "b") ∷ start (codes "h3") ∷ Text (codes "1") ∷ end (codes "b") ∷ Text (codes "2") ∷ end (codes "h3") ∷ Text (codes "3") ∷ start (codes "li") ∷ start (codes "h3") ∷ start (codes "li") ∷ start (codes "ruby") ∷ start (codes "h3") ∷ start (codes "rt") ∷ end (codes "ruby") ∷ start (codes "table") ∷ start (codes "h3") ∷ Text (codes "x") ∷ [])
+    (start (codes "p") ∷ start (codes "embed") ∷ Text (codes "0") ∷ end (codes "p") ∷ start (codes "b") ∷ start (codes "embed") ∷ Text (codes "1") ∷ end (codes "b") ∷ Text (codes "2") ∷ end (codes "embed") ∷ Text (codes "3") ∷ start (codes "li") ∷ start (codes "embed") ∷ start (codes "li") ∷ start (codes "ruby") ∷ start (codes "embed") ∷ start (codes "rt") ∷ end (codes "ruby") ∷ start (codes "table") ∷ start (codes "embed") ∷ Text (codes "x") ∷ [])
+    ∷ (start (codes "p") ∷ start (codes "fieldset") ∷ Text (codes "0") ∷ end (codes "p") ∷ start (codes "b") ∷ start (codes "fieldset") ∷ Text (codes "1") ∷ end (codes "b") ∷ Text (codes "2") ∷ end (codes "fieldset") ∷ Text (codes "3") ∷ start (codes "li") ∷ start (codes "fieldset") ∷ start (codes "li") ∷ start (codes "ruby") ∷ start (codes "fieldset") ∷ start (codes "rt") ∷ end (codes "ruby") ∷ start (codes "table") ∷ start (codes "fieldset") ∷ Text (codes "x") ∷ [])
+    ∷ (start (codes "p") ∷ start (codes "figcaption") ∷ Text (codes "0") ∷ end (codes "p") ∷ start (codes "b") ∷ start (codes "figcaption") ∷ Text (codes "1") ∷ end (codes "b") ∷ Text (codes "2") ∷ end (codes "figcaption") ∷ Text (codes "3") ∷ start (codes "li") ∷ start (codes "figcaption") ∷ start (codes "li") ∷ start (codes "ruby") ∷ start (codes "figcaption") ∷ start (codes "rt") ∷ end (codes "ruby") ∷ start (codes "table") ∷ start (codes "figcaption") ∷ Text (codes "x") ∷ [])
+    ∷ (start (codes "p") ∷ start (codes "figure") ∷ Text (codes "0") ∷ end (codes "p") ∷ start (codes "b") ∷ start (codes "figure") ∷ Text (codes "1") ∷ end (codes "b") ∷ Text (codes "2") ∷ end (codes "figure") ∷ Text (codes "3") ∷ start (codes "li") ∷ start (codes "figure") ∷ start (codes "li") ∷ start (codes "ruby") ∷ start (codes "figure") ∷ start (codes "rt") ∷ end (codes "ruby") ∷ start (codes "table") ∷ start (codes "figure") ∷ Text (codes "x") ∷ [])
+    ∷ (start (codes "p") ∷ start (codes "font") ∷ Text (codes "0") ∷ end (codes "p") ∷ start (codes "b") ∷ start (codes "font") ∷ Text (codes "1") ∷ end (codes "b") ∷ Text (codes "2") ∷ end (codes "font") ∷ Text (codes "3") ∷ start (codes "li") ∷ start (codes "font") ∷ start (codes "li") ∷ start (codes "ruby") ∷ start (codes "font") ∷ start (codes "rt") ∷ end (codes "ruby") ∷ start (codes "table") ∷ start (codes "font") ∷ Text (codes "x") ∷ [])
+    ∷ (start (codes "p") ∷ start (codes "footer") ∷ Text (codes "0") ∷ end (codes "p") ∷ start (codes "b") ∷ start (codes "footer") ∷ Text (codes "1") ∷ end (codes "b") ∷ Text (codes "2") ∷ end (codes "footer") ∷ Text (codes "3") ∷ start (codes "li") ∷ start (codes "footer") ∷ start (codes "li") ∷ start (codes "ruby") ∷ start (codes "footer") ∷ start (codes "rt") ∷ end (codes "ruby") ∷ start (codes "table") ∷ start (codes "footer") ∷ Text (codes "x") ∷ [])
+    ∷ (start (codes "p") ∷ start (codes "form") ∷ Text (codes "0") ∷ end (codes "p") ∷ start (codes "b") ∷ start (codes "form") ∷ Text (codes "1") ∷ end (codes "b") ∷ Text (codes "2") ∷ end (codes "form") ∷ Text (codes "3") ∷ start (codes "li") ∷ start (codes "form") ∷ start (codes "li") ∷ start (codes "ruby") ∷ start (codes "form") ∷ start (codes "rt") ∷ end (codes "ruby") ∷ start (codes "table") ∷ start (codes "form") ∷ Text (codes "x") ∷ [])
+    ∷ (start (codes "p") ∷ start (codes "h1") ∷ Text (codes "0") ∷ end (codes "p") ∷ start (codes "b") ∷ start (codes "h1") ∷ Text (codes "1") ∷ end (codes "b") ∷ Text (codes "2") ∷ end (codes "h1") ∷ Text (codes "3") ∷ start (codes "li") ∷ start (codes "h1") ∷ start (codes "li") ∷ start (codes "ruby") ∷ start (codes "h1") ∷ start (codes "rt") ∷ end (codes "ruby") ∷ start (codes "table") ∷ start (codes "h1") ∷ Text (codes "x") ∷ [])
+    ∷ (start (codes "p") ∷ start (codes "h2") ∷ Text (codes "0") ∷ end (codes "p") ∷ start (codes "b") ∷ start (codes "h2") ∷ Text (codes "1") ∷ end (codes "b") ∷ Text (codes "2") ∷ end (codes "h2") ∷ Text (codes "3") ∷ start (codes "li") ∷ start (codes "h2") ∷ start (codes "li") ∷ start (codes "ruby") ∷ start (codes "h2") ∷ start (codes "rt") ∷ end (codes "ruby") ∷ start (codes "table") ∷ start (codes "h2") ∷ Text (codes "x") ∷ [])
+    ∷ (start (codes "p") ∷ start (codes "h3") ∷ Text (codes "0") ∷ end (codes "p") ∷ start (codes "b") ∷ start (codes "h3") ∷ Text (codes "1") ∷ end (codes "b") ∷ Text (codes "2") ∷ end (codes "h3") ∷ Text (codes "3") ∷ start (codes "li") ∷ start (codes "h3") ∷ start (codes "li") ∷ start (codes "ruby") ∷ start (codes "h3") ∷ start (codes "rt") ∷ end (codes "ruby") ∷ start (codes "table") ∷ start (codes "h3") ∷ Text (codes "x") ∷ [])
     ∷ []
 
 names_3_answers : List Tree
 names_3_answers =
-    (Element (Element (Characters (Element Nothing (codes "b") [] (Characters (Element Nothing (codes "embed") [] Nothing) (codes "1"))) (codes "23")) (codes "li") [] (Element Nothing (codes "embed") [] Nothing)) (codes "li") [] (Element (Characters (Element (Element Nothing (codes "ruby") [] (Element (Element Nothing (codes "embed") [] Nothing) (codes "rt") [] Nothing)) (codes "embed") [] Nothing) (codes "x")) (codes "table") [] Nothing))
-    ∷ (Element (Characters (Element (Element Nothing (codes "b") [] Nothing) (codes "fieldset") [] (Characters (Element Nothing (codes "b") [] (Characters Nothing (codes "1"))) (codes "2"))) (codes "3")) (codes "li") [] (Element Nothing (codes "fieldset") [] (Element Nothing (codes "li") [] (Element Nothing (codes "ruby") [] (Element Nothing (codes "fieldset") [] (Element Nothing (codes "rt") [] (Element (Element Nothing (codes "fieldset") [] (Characters Nothing (codes "x"))) (codes "table") [] Nothing)))))))
-    ∷ (Element (Characters (Element (Element Nothing (codes "b") [] Nothing) (codes "figcaption") [] (Characters (Element Nothing (codes "b") [] (Characters Nothing (codes "1"))) (codes "2"))) (codes "3")) (codes "li") [] (Element Nothing (codes "figcaption") [] (Element Nothing (codes "li") [] (Element Nothing (codes "ruby") [] (Element Nothing (codes "figcaption") [] (Element Nothing (codes "rt") [] (Element (Element Nothing (codes "figcaption") [] (Characters Nothing (codes "x"))) (codes "table") [] Nothing)))))))
-    ∷ (Element (Characters (Element (Element Nothing (codes "b") [] Nothing) (codes "figure") [] (Characters (Element Nothing (codes "b") [] (Characters Nothing (codes "1"))) (codes "2"))) (codes "3")) (codes "li") [] (Element Nothing (codes "figure") [] (Element Nothing (codes "li") [] (Element Nothing (codes "ruby") [] (Element Nothing (codes "figure") [] (Element Nothing (codes "rt") [] (Element (Element Nothing (codes "figure") [] (Characters Nothing (codes "x"))) (codes "table") [] Nothing)))))))
-    ∷ (Element (Element (Characters (Element (Element Nothing (codes "b") [] (Element Nothing (codes "font") [] (Characters Nothing (codes "1")))) (codes "font") [] (Characters Nothing (codes "2"))) (codes "3")) (codes "li") [] (Element Nothing (codes "font") [] Nothing)) (codes "li") [] (Element Nothing (codes "font") [] (Element (Element (Element Nothing (codes "ruby") [] (Element Nothing (codes "font") [] (Element Nothing (codes "rt") [] Nothing))) (codes "font") [] (Element Nothing (codes "font") [] (Characters Nothing (codes "x")))) (codes "table") [] Nothing)))
-    ∷ (Element (Characters (Element (Element Nothing (codes "b") [] Nothing) (codes "footer") [] (Characters (Element Nothing (codes "b") [] (Characters Nothing (codes "1"))) (codes "2"))) (codes "3")) (codes "li") [] (Element Nothing (codes "footer") [] (Element Nothing (codes "li") [] (Element Nothing (codes "ruby") [] (Element Nothing (codes "footer") [] (Element Nothing (codes "rt") [] (Element (Element Nothing (codes "footer") [] (Characters Nothing (codes "x"))) (codes "table") [] Nothing)))))))
-    ∷ (Element (Characters (Element (Element Nothing (codes "b") [] Nothing) (codes "form") [] (Characters (Element Nothing (codes "b") [] (Characters Nothing (codes "1"))) (codes "2"))) (codes "3")) (codes "li") [] (Element Nothing (codes "form") [] (Element Nothing (codes "li") [] (Element (Characters (Element Nothing (codes "ruby") [] (Element Nothing (codes "rt") [] Nothing)) (codes "x")) (codes "table") [] Nothing))))
-    ∷ (Element (Characters (Element (Element Nothing (codes "b") [] Nothing) (codes "h1") [] (Characters (Element Nothing (codes "b") [] (Characters Nothing (codes "1"))) (codes "2"))) (codes "3")) (codes "li") [] (Element Nothing (codes "h1") [] (Element Nothing (codes "li") [] (Element Nothing (codes "ruby") [] (Element Nothing (codes "h1") [] (Element Nothing (codes "rt") [] (Element (Element Nothing (codes "h1") [] (Characters Nothing (codes "x"))) (codes "table") [] Nothing)))))))
-    ∷ (Element (Characters (Element (Element Nothing (codes "b") [] Nothing) (codes "h2") [] (Characters (Element Nothing (codes "b") [] (Characters Nothing (codes "1"))) (codes "2"))) (codes "3")) (codes "li") [] (Element Nothing (codes "h2") [] (Element Nothing (codes "li") [] (Element Nothing (codes "ruby") [] (Element Nothing (codes "h2") [] (Element Nothing (codes "rt") [] (Element (Element Nothing (codes "h2") [] (Characters Nothing (codes "x"))) (codes "table") [] Nothing)))))))
-    ∷ (Element (Characters (Element (Element Nothing (codes "b") [] Nothing) (codes "h3") [] (Characters (Element Nothing (codes "b") [] (Characters Nothing (codes "1"))) (codes "2"))) (codes "3")) (codes "li") [] (Element Nothing (codes "h3") [] (Element Nothing (codes "li") [] (Element Nothing (codes "ruby") [] (Element Nothing (codes "h3") [] (Element Nothing (codes "rt") [] (Element (Element Nothing (codes "h3") [] (Characters Nothing (codes "x"))) (codes "table") [] Nothing)))))))
+    (Element (Element (Characters (Element (Element Nothing (codes "p") [] (Characters (Element Nothing (codes "embed") [] Nothing) (codes "0"))) (codes "b") [] (Characters (Element Nothing (codes "embed") [] Nothing) (codes "1"))) (codes "23")) (codes "li") [] (Element Nothing (codes "embed") [] Nothing)) (codes "li") [] (Element (Characters (Element (Element Nothing (codes "ruby") [] (Element (Element Nothing (codes "embed") [] Nothing) (codes "rt") [] Nothing)) (codes "embed") [] Nothing) (codes "x")) (codes "table") [] Nothing))
+    ∷ (Element (Element Nothing (codes "p") [] Nothing) (codes "fieldset") [] (Element (Characters (Element (Element (Element (Characters Nothing (codes "0")) (codes "p") [] Nothing) (codes "b") [] Nothing) (codes "fieldset") [] (Characters (Element Nothing (codes "b") [] (Characters Nothing (codes "1"))) (codes "2"))) (codes "3")) (codes "li") [] (Element Nothing (codes "fieldset") [] (Element Nothing (codes "li") [] (Element Nothing (codes "ruby") [] (Element Nothing (codes "fieldset") [] (Element Nothing (codes "rt") [] (Element (Element Nothing (codes "fieldset") [] (Characters Nothing (codes "x"))) (codes "table") [] Nothing))))))))
+    ∷ (Element (Element Nothing (codes "p") [] Nothing) (codes "figcaption") [] (Element (Characters (Element (Element (Element (Characters Nothing (codes "0")) (codes "p") [] Nothing) (codes "b") [] Nothing) (codes "figcaption") [] (Characters (Element Nothing (codes "b") [] (Characters Nothing (codes "1"))) (codes "2"))) (codes "3")) (codes "li") [] (Element Nothing (codes "figcaption") [] (Element Nothing (codes "li") [] (Element Nothing (codes "ruby") [] (Element Nothing (codes "figcaption") [] (Element Nothing (codes "rt") [] (Element (Element Nothing (codes "figcaption") [] (Characters Nothing (codes "x"))) (codes "table") [] Nothing))))))))
+    ∷ (Element (Element Nothing (codes "p") [] Nothing) (codes "figure") [] (Element (Characters (Element (Element (Element (Characters Nothing (codes "0")) (codes "p") [] Nothing) (codes "b") [] Nothing) (codes "figure") [] (Characters (Element Nothing (codes "b") [] (Characters Nothing (codes "1"))) (codes "2"))) (codes "3")) (codes "li") [] (Element Nothing (codes "figure") [] (Element Nothing (codes "li") [] (Element Nothing (codes "ruby") [] (Element Nothing (codes "figure") [] (Element Nothing (codes "rt") [] (Element (Element Nothing (codes "figure") [] (Characters Nothing (codes "x"))) (codes "table") [] Nothing))))))))
+    ∷ (Element (Element Nothing (codes "p") [] (Element Nothing (codes "font") [] (Characters Nothing (codes "0")))) (codes "font") [] (Element (Element (Characters (Element (Element Nothing (codes "b") [] (Element Nothing (codes "font") [] (Characters Nothing (codes "1")))) (codes "font") [] (Characters Nothing (codes "2"))) (codes "3")) (codes "li") [] (Element Nothing (codes "font") [] Nothing)) (codes "li") [] (Element Nothing (codes "font") [] (Element (Element (Element Nothing (codes "ruby") [] (Element Nothing (codes "font") [] (Element Nothing (codes "rt") [] Nothing))) (codes "font") [] (Element Nothing (codes "font") [] (Characters Nothing (codes "x")))) (codes "table") [] Nothing))))
+    ∷ (Element (Element Nothing (codes "p") [] Nothing) (codes "footer") [] (Element (Characters (Element (Element (Element (Characters Nothing (codes "0")) (codes "p") [] Nothing) (codes "b") [] Nothing) (codes "footer") [] (Characters (Element Nothing (codes "b") [] (Characters Nothing (codes "1"))) (codes "2"))) (codes "3")) (codes "li") [] (Element Nothing (codes "footer") [] (Element Nothing (codes "li") [] (Element Nothing (codes "ruby") [] (Element Nothing (codes "footer") [] (Element Nothing (codes "rt") [] (Element (Element Nothing (codes "footer") [] (Characters Nothing (codes "x"))) (codes "table") [] Nothing))))))))
+    ∷ (Element (Characters (Element (Element Nothing (codes "p") [] Nothing) (codes "form") [] (Characters (Element (Element (Characters Nothing (codes "0")) (codes "p") [] Nothing) (codes "b") [] (Characters Nothing (codes "1"))) (codes "2"))) (codes "3")) (codes "li") [] (Element Nothing (codes "form") [] (Element Nothing (codes "li") [] (Element (Characters (Element Nothing (codes "ruby") [] (Element Nothing (codes "rt") [] Nothing)) (codes "x")) (codes "table") [] Nothing))))
+    ∷ (Element (Element Nothing (codes "p") [] Nothing) (codes "h1") [] (Element (Characters (Element (Element (Element (Characters Nothing (codes "0")) (codes "p") [] Nothing) (codes "b") [] Nothing) (codes "h1") [] (Characters (Element Nothing (codes "b") [] (Characters Nothing (codes "1"))) (codes "2"))) (codes "3")) (codes "li") [] (Element Nothing (codes "h1") [] (Element Nothing (codes "li") [] (Element Nothing (codes "ruby") [] (Element Nothing (codes "h1") [] (Element Nothing (codes "rt") [] (Element (Element Nothing (codes "h1") [] (Characters Nothing (codes "x"))) (codes "table") [] Nothing))))))))
+    ∷ (Element (Element Nothing (codes "p") [] Nothing) (codes "h2") [] (Element (Characters (Element (Element (Element (Characters Nothing (codes "0")) (codes "p") [] Nothing) (codes "b") [] Nothing) (codes "h2") [] (Characters (Element Nothing (codes "b") [] (Characters Nothing (codes "1"))) (codes "2"))) (codes "3")) (codes "li") [] (Element Nothing (codes "h2") [] (Element Nothing (codes "li") [] (Element Nothing (codes "ruby") [] (Element Nothing (codes "h2") [] (Element Nothing (codes "rt") [] (Element (Element Nothing (codes "h2") [] (Characters Nothing (codes "x"))) (codes "table") [] Nothing))))))))
+    ∷ (Element (Element Nothing (codes "p") [] Nothing) (codes "h3") [] (Element (Characters (Element (Element (Element (Characters Nothing (codes "0")) (codes "p") [] Nothing) (codes "b") [] Nothing) (codes "h3") [] (Characters (Element Nothing (codes "b") [] (Characters Nothing (codes "1"))) (codes "2"))) (codes "3")) (codes "li") [] (Element Nothing (codes "h3") [] (Element Nothing (codes "li") [] (Element Nothing (codes "ruby") [] (Element Nothing (codes "h3") [] (Element Nothing (codes "rt") [] (Element (Element Nothing (codes "h3") [] (Characters Nothing (codes "x"))) (codes "table") [] Nothing))))))))
     ∷ []
 
 names_3 : map tree_of names_3_items ≡ names_3_answers
@@ -655,30 +695,30 @@ names_3 = refl
 
 names_4_items : List (List Item)
 names_4_items =
-    (start (codes "b") ∷ start (codes "h4") ∷ Text (codes "1") ∷ end (codes "b") ∷ Text (codes "2") ∷ end (codes "h4") ∷ Text (codes "3") ∷ start (codes "li") ∷ start (codes "h4") ∷ start (codes "li") ∷ start (codes "ruby") ∷ start (codes "h4") ∷ start (codes "rt") ∷ end (codes "ruby") ∷ start (codes "table") ∷ start (codes "h4") ∷ Text (codes "x") ∷ [])
-    ∷ (start (codes "b") ∷ start (codes "h5") ∷ Text (codes "1") ∷ end (codes "b") ∷ Text (codes "2") ∷ end (codes "h5") ∷ Text (codes "3") ∷ start (codes "li") ∷ start (codes "h5") ∷ start (codes "li") ∷ start (codes "ruby") ∷ start (codes "h5") ∷ start (codes "rt") ∷ end (codes "ruby") ∷ start (codes "table") ∷ start (codes "h5") ∷ Text (codes "x") ∷ [])
-    ∷ (start (codes "b") ∷ start (codes "h6") ∷ Text (codes "1") ∷ end (codes "b") ∷ Text (codes "2") ∷ end (codes "h6") ∷ Text (codes "3") ∷ start (codes "li") ∷ start (codes "h6") ∷ start (codes "li") ∷ start (codes "ruby") ∷ start (codes "h6") ∷ start (codes "rt") ∷ end (codes "ruby") ∷ start (codes "table") ∷ start (codes "h6") ∷ Text (codes "x") ∷ [])
-    ∷ (start (codes "b") ∷ start (codes "header") ∷ Text (codes "1") ∷ end (codes "b") ∷ Text (codes "2") ∷ end (codes "header") ∷ Text (codes "3") ∷ start (codes "li") ∷ start (codes "header") ∷ start (codes "li") ∷ start (codes "ruby") ∷ start (codes "header") ∷ start (codes "rt") ∷ end (codes "ruby") ∷ start (codes "table") ∷ start (codes "header") ∷ Text (codes "x") ∷ [])
-    ∷ (start (codes "b") ∷ start (codes "hgroup") ∷ Text (codes "1") ∷ end (codes "b") ∷ Text (codes "2") ∷ end (codes "hgroup") ∷ Text (codes "3") ∷ start (codes "li") ∷ start (codes "hgroup") ∷ start (codes "li") ∷ start (codes "ruby") ∷ start (codes "hgroup") ∷ start (codes "rt") ∷ end (codes "ruby") ∷ start (codes "table") ∷ start (codes "hgroup") ∷ Text (codes "x") ∷ [])
-    ∷ (start (codes "b") ∷ start (codes "hr") ∷ Text (codes "1") ∷ end (codes "b") ∷ Text (codes "2") ∷ end (codes "hr") ∷ Text (codes "3") ∷ start (codes "li") ∷ start (codes "hr") ∷ start (codes "li") ∷ start (codes "ruby") ∷ start (codes "hr") ∷ start (codes "rt") ∷ end (codes "ruby") ∷ start (codes "table") ∷ start (codes "hr") ∷ Text (codes "x") ∷ [])
-    ∷ (start (codes "b") ∷ start (codes "i") ∷ Text (codes "1") ∷ end (codes "b") ∷ Text (codes "2") ∷ end (codes "i") ∷ Text (codes "3") ∷ start (codes "li") ∷ start (codes "i") ∷ start (codes "li") ∷ start (codes "ruby") ∷ start (codes "i") ∷ start (codes "rt") ∷ end (codes "ruby") ∷ start (codes "table") ∷ start (codes "i") ∷ Text (codes "x") ∷ [])
-    ∷ (start (codes "b") ∷ start (codes "img") ∷ Text (codes "1") ∷ end (codes "b") ∷ Text (codes "2") ∷ end (codes "img") ∷ Text (codes "3") ∷ start (codes "li") ∷ start (codes "img") ∷ start (codes "li") ∷ start (codes "ruby") ∷ start (codes "img") ∷ start (codes "rt") ∷ end (codes "ruby") ∷ start (codes "table") ∷ start (codes "img") ∷ Text (codes "x") ∷ [])
-    ∷ (start (codes "b") ∷ start (codes "input") ∷ Text (codes "1") ∷ end (codes "b") ∷ Text (codes "2") ∷ end (codes "input") ∷ Text (codes "3") ∷ start (codes "li") ∷ start (codes "input") ∷ start (codes "li") ∷ start (codes "ruby") ∷ start (codes "input") ∷ start (codes "rt") ∷ end (codes "ruby") ∷ start (codes "table") ∷ start (codes "input") ∷ Text (codes "x") ∷ [])
-    ∷ (start (codes "b") ∷ start (codes "ins") ∷ Text (codes "1") ∷ end (codes "b") ∷ Text (codes "2") ∷ end (codes "ins") ∷ Text (codes "3") ∷ start (codes "li") ∷ start (codes "ins") ∷ start (codes "li") ∷ start (codes "ruby") ∷ start (codes "ins") ∷ start (codes "rt") ∷ end (codes "ruby") ∷ start (codes "table") ∷ start (codes "ins") ∷ Text (codes "x") ∷ [])
+    (start (codes "p") ∷ start (codes "h4") ∷ Text (codes "0") ∷ end (codes "p") ∷ start (codes "b") ∷ start (codes "h4") ∷ Text (codes "1") ∷ end (codes "b") ∷ Text (codes "2") ∷ end (codes "h4") ∷ Text (codes "3") ∷ start (codes "li") ∷ start (codes "h4") ∷ start (codes "li") ∷ start (codes "ruby") ∷ start (codes "h4") ∷ start (codes "rt") ∷ end (codes "ruby") ∷ start (codes "table") ∷ start (codes "h4") ∷ Text (codes "x") ∷ [])
+    ∷ (start (codes "p") ∷ start (codes "h5") ∷ Text (codes "0") ∷ end (codes "p") ∷ start (codes "b") ∷ start (codes "h5") ∷ Text (codes "1") ∷ end (codes "b") ∷ Text (codes "2") ∷ end (codes "h5") ∷ Text (codes "3") ∷ start (codes "li") ∷ start (codes "h5") ∷ start (codes "li") ∷ start (codes "ruby") ∷ start (codes "h5") ∷ start (codes "rt") ∷ end (codes "ruby") ∷ start (codes "table") ∷ start (codes "h5") ∷ Text (codes "x") ∷ [])
+    ∷ (start (codes "p") ∷ start (codes "h6") ∷ Text (codes "0") ∷ end (codes "p") ∷ start (codes "b") ∷ start (codes "h6") ∷ Text (codes "1") ∷ end (codes "b") ∷ Text (codes "2") ∷ end (codes "h6") ∷ Text (codes "3") ∷ start (codes "li") ∷ start (codes "h6") ∷ start (codes "li") ∷ start (codes "ruby") ∷ start (codes "h6") ∷ start (codes "rt") ∷ end (codes "ruby") ∷ start (codes "table") ∷ start (codes "h6") ∷ Text (codes "x") ∷ [])
+    ∷ (start (codes "p") ∷ start (codes "header") ∷ Text (codes "0") ∷ end (codes "p") ∷ start (codes "b") ∷ start (codes "header") ∷ Text (codes "1") ∷ end (codes "b") ∷ Text (codes "2") ∷ end (codes "header") ∷ Text (codes "3") ∷ start (codes "li") ∷ start (codes "header") ∷ start (codes "li") ∷ start (codes "ruby") ∷ start (codes "header") ∷ start (codes "rt") ∷ end (codes "ruby") ∷ start (codes "table") ∷ start (codes "header") ∷ Text (codes "x") ∷ [])
+    ∷ (start (codes "p") ∷ start (codes "hgroup") ∷ Text (codes "0") ∷ end (codes "p") ∷ start (codes "b") ∷ start (codes "hgroup") ∷ Text (codes "1") ∷ end (codes "b") ∷ Text (codes "2") ∷ end (codes "hgroup") ∷ Text (codes "3") ∷ start (codes "li") ∷ start (codes "hgroup") ∷ start (codes "li") ∷ start (codes "ruby") ∷ start (codes "hgroup") ∷ start (codes "rt") ∷ end (codes "ruby") ∷ start (codes "table") ∷ start (codes "hgroup") ∷ Text (codes "x") ∷ [])
+    ∷ (start (codes "p") ∷ start (codes "hr") ∷ Text (codes "0") ∷ end (codes "p") ∷ start (codes "b") ∷ start (codes "hr") ∷ Text (codes "1") ∷ end (codes "b") ∷ Text (codes "2") ∷ end (codes "hr") ∷ Text (codes "3") ∷ start (codes "li") ∷ start (codes "hr") ∷ start (codes "li") ∷ start (codes "ruby") ∷ start (codes "hr") ∷ start (codes "rt") ∷ end (codes "ruby") ∷ start (codes "table") ∷ start (codes "hr") ∷ Text (codes "x") ∷ [])
+    ∷ (start (codes "p") ∷ start (codes "i") ∷ Text (codes "0") ∷ end (codes "p") ∷ start (codes "b") ∷ start (codes "i") ∷ Text (codes "1") ∷ end (codes "b") ∷ Text (codes "2") ∷ end (codes "i") ∷ Text (codes "3") ∷ start (codes "li") ∷ start (codes "i") ∷ start (codes "li") ∷ start (codes "ruby") ∷ start (codes "i") ∷ start (codes "rt") ∷ end (codes "ruby") ∷ start (codes "table") ∷ start (codes "i") ∷ Text (codes "x") ∷ [])
+    ∷ (start (codes "p") ∷ start (codes "img") ∷ Text (codes "0") ∷ end (codes "p") ∷ start (codes "b") ∷ start (codes "img") ∷ Text (codes "1") ∷ end (codes "b") ∷ Text (codes "2") ∷ end (codes "img") ∷ Text (codes "3") ∷ start (codes "li") ∷ start (codes "img") ∷ start (codes "li") ∷ start (codes "ruby") ∷ start (codes "img") ∷ start (codes "rt") ∷ end (codes "ruby") ∷ start (codes "table") ∷ start (codes "img") ∷ Text (codes "x") ∷ [])
+    ∷ (start (codes "p") ∷ start (codes "input") ∷ Text (codes "0") ∷ end (codes "p") ∷ start (codes "b") ∷ start (codes "input") ∷ Text (codes "1") ∷ end (codes "b") ∷ Text (codes "2") ∷ end (codes "input") ∷ Text (codes "3") ∷ start (codes "li") ∷ start (codes "input") ∷ start (codes "li") ∷ start (codes "ruby") ∷ start (codes "input") ∷ start (codes "rt") ∷ end (codes "ruby") ∷ start (codes "table") ∷ start (codes "input") ∷ Text (codes "x") ∷ [])
+    ∷ (start (codes "p") ∷ start (codes "ins") ∷ Text (codes "0") ∷ end (codes "p") ∷ start (codes "b") ∷ start (codes "ins") ∷ Text (codes "1") ∷ end (codes "b") ∷ Text (codes "2") ∷ end (codes "ins") ∷ Text (codes "3") ∷ start (codes "li") ∷ start (codes "ins") ∷ start (codes "li") ∷ start (codes "ruby") ∷ start (codes "ins") ∷ start (codes "rt") ∷ end (codes "ruby") ∷ start (codes "table") ∷ start (codes "ins") ∷ Text (codes "x") ∷ [])
     ∷ []
 
 names_4_answers : List Tree
 names_4_answers =
-    (Element (Characters (Element (Element Nothing (codes "b") [] Nothing) (codes "h4") [] (Characters (Element Nothing (codes "b") [] (Characters Nothing (codes "1"))) (codes "2"))) (codes "3")) (codes "li") [] (Element Nothing (codes "h4") [] (Element Nothing (codes "li") [] (Element Nothing (codes "ruby") [] (Element Nothing (codes "h4") [] (Element Nothing (codes "rt") [] (Element (Element Nothing (codes "h4") [] (Characters Nothing (codes "x"))) (codes "table") [] Nothing)))))))
-    ∷ (Element (Characters (Element (Element Nothing (codes "b") [] Nothing) (codes "h5") [] (Characters (Element Nothing (codes "b") [] (Characters Nothing (codes "1"))) (codes "2"))) (codes "3")) (codes "li") [] (Element Nothing (codes "h5") [] (Element Nothing (codes "li") [] (Element Nothing (codes "ruby") [] (Element Nothing (codes "h5") [] (Element Nothing (codes "rt") [] (Element (Element Nothing (codes "h5") [] (Characters Nothing (codes "x"))) (codes "table") [] Nothing)))))))
-    ∷ (Element (Characters (Element (Element Nothing (codes "b") [] Nothing) (codes "h6") [] (Characters (Element Nothing (codes "b") [] (Characters Nothing (codes "1"))) (codes "2"))) (codes "3")) (codes "li") [] (Element Nothing (codes "h6") [] (Element Nothing (codes "li") [] (Element Nothing (codes "ruby") [] (Element Nothing (codes "h6") [] (Element Nothing (codes "rt") [] (Element (Element Nothing (codes "h6") [] (Characters Nothing (codes "x"))) (codes "table") [] Nothing)))))))
-    ∷ (Element (Characters (Element (Element Nothing (codes "b") [] Nothing) (codes "header") [] (Characters (Element Nothing (codes "b") [] (Characters Nothing (codes "1"))) (codes "2"))) (codes "3")) (codes "li") [] (Element Nothing (codes "header") [] (Element Nothing (codes "li") [] (Element Nothing (codes "ruby") [] (Element Nothing (codes "header") [] (Element Nothing (codes "rt") [] (Element (Element Nothing (codes "header") [] (Characters Nothing (codes "x"))) (codes "table") [] Nothing)))))))
-    ∷ (Element (Characters (Element (Element Nothing (codes "b") [] Nothing) (codes "hgroup") [] (Characters (Element Nothing (codes "b") [] (Characters Nothing (codes "1"))) (codes "2"))) (codes "3")) (codes "li") [] (Element Nothing (codes "hgroup") [] (Element Nothing (codes "li") [] (Element Nothing (codes "ruby") [] (Element Nothing (codes "hgroup") [] (Element Nothing (codes "rt") [] (Element (Element Nothing (codes "hgroup") [] (Characters Nothing (codes "x"))) (codes "table") [] Nothing)))))))
-    ∷ (Element (Element (Characters (Element Nothing (codes "b") [] (Characters (Element Nothing (codes "hr") [] Nothing) (codes "1"))) (codes "23")) (codes "li") [] (Element Nothing (codes "hr") [] Nothing)) (codes "li") [] (Element (Characters (Element (Element Nothing (codes "ruby") [] (Element (Element Nothing (codes "hr") [] Nothing) (codes "rt") [] Nothing)) (codes "hr") [] Nothing) (codes "x")) (codes "table") [] Nothing))
-    ∷ (Element (Element (Characters (Element (Element Nothing (codes "b") [] (Element Nothing (codes "i") [] (Characters Nothing (codes "1")))) (codes "i") [] (Characters Nothing (codes "2"))) (codes "3")) (codes "li") [] (Element Nothing (codes "i") [] Nothing)) (codes "li") [] (Element Nothing (codes "i") [] (Element (Element (Element Nothing (codes "ruby") [] (Element Nothing (codes "i") [] (Element Nothing (codes "rt") [] Nothing))) (codes "i") [] (Element Nothing (codes "i") [] (Characters Nothing (codes "x")))) (codes "table") [] Nothing)))
-    ∷ (Element (Element (Characters (Element Nothing (codes "b") [] (Characters (Element Nothing (codes "img") [] Nothing) (codes "1"))) (codes "23")) (codes "li") [] (Element Nothing (codes "img") [] Nothing)) (codes "li") [] (Element (Characters (Element (Element Nothing (codes "ruby") [] (Element (Element Nothing (codes "img") [] Nothing) (codes "rt") [] Nothing)) (codes "img") [] Nothing) (codes "x")) (codes "table") [] Nothing))
-    ∷ (Element (Element (Characters (Element Nothing (codes "b") [] (Characters (Element Nothing (codes "input") [] Nothing) (codes "1"))) (codes "23")) (codes "li") [] (Element Nothing (codes "input") [] Nothing)) (codes "li") [] (Element (Characters (Element (Element Nothing (codes "ruby") [] (Element (Element Nothing (codes "input") [] Nothing) (codes "rt") [] Nothing)) (codes "input") [] Nothing) (codes "x")) (codes "table") [] Nothing))
-    ∷ (Element (Element (Characters (Element Nothing (codes "b") [] (Element Nothing (codes "ins") [] (Characters Nothing (codes "1")))) (codes "23")) (codes "li") [] (Element Nothing (codes "ins") [] Nothing)) (codes "li") [] (Element (Element (Element Nothing (codes "ruby") [] (Element Nothing (codes "ins") [] (Element Nothing (codes "rt") [] Nothing))) (codes "ins") [] (Characters Nothing (codes "x"))) (codes "table") [] Nothing))
+    (Element (Element Nothing (codes "p") [] Nothing) (codes "h4") [] (Element (Characters (Element (Element (Element (Characters Nothing (codes "0")) (codes "p") [] Nothing) (codes "b") [] Nothing) (codes "h4") [] (Characters (Element Nothing (codes "b") [] (Characters Nothing (codes "1"))) (codes "2"))) (codes "3")) (codes "li") [] (Element Nothing (codes "h4") [] (Element Nothing (codes "li") [] (Element Nothing (codes "ruby") [] (Element Nothing (codes "h4") [] (Element Nothing (codes "rt") [] (Element (Element Nothing (codes "h4") [] (Characters Nothing (codes "x"))) (codes "table") [] Nothing))))))))
+    ∷ (Element (Element Nothing (codes "p") [] Nothing) (codes "h5") [] (Element (Characters (Element (Element (Element (Characters Nothing (codes "0")) (codes "p") [] Nothing) (codes "b") [] Nothing) (codes "h5") [] (Characters (Element Nothing (codes "b") [] (Characters Nothing (codes "1"))) (codes "2"))) (codes "3")) (codes "li") [] (Element Nothing (codes "h5") [] (Element Nothing (codes "li") [] (Element Nothing (codes "ruby") [] (Element Nothing (codes "h5") [] (Element Nothing (codes "rt") [] (Element (Element Nothing (codes "h5") [] (Characters Nothing (codes "x"))) (codes "table") [] Nothing))))))))
+    ∷ (Element (Element Nothing (codes "p") [] Nothing) (codes "h6") [] (Element (Characters (Element (Element (Element (Characters Nothing (codes "0")) (codes "p") [] Nothing) (codes "b") [] Nothing) (codes "h6") [] (Characters (Element Nothing (codes "b") [] (Characters Nothing (codes "1"))) (codes "2"))) (codes "3")) (codes "li") [] (Element Nothing (codes "h6") [] (Element Nothing (codes "li") [] (Element Nothing (codes "ruby") [] (Element Nothing (codes "h6") [] (Element Nothing (codes "rt") [] (Element (Element Nothing (codes "h6") [] (Characters Nothing (codes "x"))) (codes "table") [] Nothing))))))))
+    ∷ (Element (Element Nothing (codes "p") [] Nothing) (codes "header") [] (Element (Characters (Element (Element (Element (Characters Nothing (codes "0")) (codes "p") [] Nothing) (codes "b") [] Nothing) (codes "header") [] (Characters (Element Nothing (codes "b") [] (Characters Nothing (codes "1"))) (codes "2"))) (codes "3")) (codes "li") [] (Element Nothing (codes "header") [] (Element Nothing (codes "li") [] (Element Nothing (codes "ruby") [] (Element Nothing (codes "header") [] (Element Nothing (codes "rt") [] (Element (Element Nothing (codes "header") [] (Characters Nothing (codes "x"))) (codes "table") [] Nothing))))))))
+    ∷ (Element (Element Nothing (codes "p") [] Nothing) (codes "hgroup") [] (Element (Characters (Element (Element (Element (Characters Nothing (codes "0")) (codes "p") [] Nothing) (codes "b") [] Nothing) (codes "hgroup") [] (Characters (Element Nothing (codes "b") [] (Characters Nothing (codes "1"))) (codes "2"))) (codes "3")) (codes "li") [] (Element Nothing (codes "hgroup") [] (Element Nothing (codes "li") [] (Element Nothing (codes "ruby") [] (Element Nothing (codes "hgroup") [] (Element Nothing (codes "rt") [] (Element (Element Nothing (codes "hgroup") [] (Characters Nothing (codes "x"))) (codes "table") [] Nothing))))))))
+    ∷ (Element (Element (Characters (Element (Element (Characters (Element (Element Nothing (codes "p") [] Nothing) (codes "hr") [] Nothing) (codes "0")) (codes "p") [] Nothing) (codes "b") [] (Characters (Element Nothing (codes "hr") [] Nothing) (codes "1"))) (codes "23")) (codes "li") [] (Element Nothing (codes "hr") [] Nothing)) (codes "li") [] (Element (Characters (Element (Element Nothing (codes "ruby") [] (Element (Element Nothing (codes "hr") [] Nothing) (codes "rt") [] Nothing)) (codes "hr") [] Nothing) (codes "x")) (codes "table") [] Nothing))
+    ∷ (Element (Element Nothing (codes "p") [] (Element Nothing (codes "i") [] (Characters Nothing (codes "0")))) (codes "i") [] (Element (Element (Characters (Element (Element Nothing (codes "b") [] (Element Nothing (codes "i") [] (Characters Nothing (codes "1")))) (codes "i") [] (Characters Nothing (codes "2"))) (codes "3")) (codes "li") [] (Element Nothing (codes "i") [] Nothing)) (codes "li") [] (Element Nothing (codes "i") [] (Element (Element (Element Nothing (codes "ruby") [] (Element Nothing (codes "i") [] (Element Nothing (codes "rt") [] Nothing))) (codes "i") [] (Element Nothing (codes "i") [] (Characters Nothing (codes "x")))) (codes "table") [] Nothing))))
+    ∷ (Element (Element (Characters (Element (Element Nothing (codes "p") [] (Characters (Element Nothing (codes "img") [] Nothing) (codes "0"))) (codes "b") [] (Characters (Element Nothing (codes "img") [] Nothing) (codes "1"))) (codes "23")) (codes "li") [] (Element Nothing (codes "img") [] Nothing)) (codes "li") [] (Element (Characters (Element (Element Nothing (codes "ruby") [] (Element (Element Nothing (codes "img") [] Nothing) (codes "rt") [] Nothing)) (codes "img") [] Nothing) (codes "x")) (codes "table") [] Nothing))
+    ∷ (Element (Element (Characters (Element (Element Nothing (codes "p") [] (Characters (Element Nothing (codes "input") [] Nothing) (codes "0"))) (codes "b") [] (Characters (Element Nothing (codes "input") [] Nothing) (codes "1"))) (codes "23")) (codes "li") [] (Element Nothing (codes "input") [] Nothing)) (codes "li") [] (Element (Characters (Element (Element Nothing (codes "ruby") [] (Element (Element Nothing (codes "input") [] Nothing) (codes "rt") [] Nothing)) (codes "input") [] Nothing) (codes "x")) (codes "table") [] Nothing))
+    ∷ (Element (Element (Characters (Element (Element Nothing (codes "p") [] (Element Nothing (codes "ins") [] (Characters Nothing (codes "0")))) (codes "b") [] (Element Nothing (codes "ins") [] (Characters Nothing (codes "1")))) (codes "23")) (codes "li") [] (Element Nothing (codes "ins") [] Nothing)) (codes "li") [] (Element (Element (Element Nothing (codes "ruby") [] (Element Nothing (codes "ins") [] (Element Nothing (codes "rt") [] Nothing))) (codes "ins") [] (Characters Nothing (codes "x"))) (codes "table") [] Nothing))
     ∷ []
 
 names_4 : map tree_of names_4_items ≡ names_4_answers
@@ -687,30 +727,30 @@ names_4 = refl
 
 names_5_items : List (List Item)
 names_5_items =
-    (start (codes "b") ∷ start (codes "kbd") ∷ Text (codes "1") ∷ end (codes "b") ∷ Text (codes "2") ∷ end (codes "kbd") ∷ Text (codes "3") ∷ start (codes "li") ∷ start (codes "kbd") ∷ start (codes "li") ∷ start (codes "ruby") ∷ start (codes "kbd") ∷ start (codes "rt") ∷ end (codes "ruby") ∷ start (codes "table") ∷ start (codes "kbd") ∷ Text (codes "x") ∷ [])
-    ∷ (start (codes "b") ∷ start (codes "label") ∷ Text (codes "1") ∷ end (codes "b") ∷ Text (codes "2") ∷ end (codes "label") ∷ Text (codes "3") ∷ start (codes "li") ∷ start (codes "label") ∷ start (codes "li") ∷ start (codes "ruby") ∷ start (codes "label") ∷ start (codes "rt") ∷ end (codes "ruby") ∷ start (codes "table") ∷ start (codes "label") ∷ Text (codes "x") ∷ [])
-    ∷ (start (codes "b") ∷ start (codes "li") ∷ Text (codes "1") ∷ end (codes "b") ∷ Text (codes "2") ∷ end (codes "li") ∷ Text (codes "3") ∷ start (codes "li") ∷ start (codes "li") ∷ start (codes "li") ∷ start (codes "ruby") ∷ start (codes "li") ∷ start (codes "rt") ∷ end (codes "ruby") ∷ start (codes "table") ∷ start (codes "li") ∷ Text (codes "x") ∷ [])
-    ∷ (start (codes "b") ∷ start (codes "listing") ∷ Text (codes "1") ∷ end (codes "b") ∷ Text (codes "2") ∷ end (codes "listing") ∷ Text (codes "3") ∷ start (codes "li") ∷ start (codes "listing") ∷ start (codes "li") ∷ start (codes "ruby") ∷ start (codes "listing") ∷ start (codes "rt") ∷ end (codes "ruby") ∷ start (codes "table") ∷ start (codes "listing") ∷ Text (codes "x") ∷ [])
-    ∷ (start (codes "b") ∷ start (codes "main") ∷ Text (codes "1") ∷ end (codes "b") ∷ Text (codes "2") ∷ end (codes "main") ∷ Text (codes "3") ∷ start (codes "li") ∷ start (codes "main") ∷ start (codes "li") ∷ start (codes "ruby") ∷ start (codes "main") ∷ start (codes "rt") ∷ end (codes "ruby") ∷ start (codes "table") ∷ start (codes "main") ∷ Text (codes "x") ∷ [])
-    ∷ (start (codes "b") ∷ start (codes "map") ∷ Text (codes "1") ∷ end (codes "b") ∷ Text (codes "2") ∷ end (codes "map") ∷ Text (codes "3") ∷ start (codes "li") ∷ start (codes "map") ∷ start (codes "li") ∷ start (codes "ruby") ∷ start (codes "map") ∷ start (codes "rt") ∷ end (codes "ruby") ∷ start (codes "table") ∷ start (codes "map") ∷ Text (codes "x") ∷ [])
-    ∷ (start (codes "b") ∷ start (codes "mark") ∷ Text (codes "1") ∷ end (codes "b") ∷ Text (codes "2") ∷ end (codes "mark") ∷ Text (codes "3") ∷ start (codes "li") ∷ start (codes "mark") ∷ start (codes "li") ∷ start (codes "ruby") ∷ start (codes "mark") ∷ start (codes "rt") ∷ end (codes "ruby") ∷ start (codes "table") ∷ start (codes "mark") ∷ Text (codes "x") ∷ [])
-    ∷ (start (codes "b") ∷ start (codes "menu") ∷ Text (codes "1") ∷ end (codes "b") ∷ Text (codes "2") ∷ end (codes "menu") ∷ Text (codes "3") ∷ start (codes "li") ∷ start (codes "menu") ∷ start (codes "li") ∷ start (codes "ruby") ∷ start (codes "menu") ∷ start (codes "rt") ∷ end (codes "ruby") ∷ start (codes "table") ∷ start (codes "menu") ∷ Text (codes "x") ∷ [])
-    ∷ (start (codes "b") ∷ start (codes "nav") ∷ Text (codes "1") ∷ end (codes "b") ∷ Text (codes "2") ∷ end (codes "nav") ∷ Text (codes "3") ∷ start (codes "li") ∷ start (codes "nav") ∷ start (codes "li") ∷ start (codes "ruby") ∷ start (codes "nav") ∷ start (codes "rt") ∷ end (codes "ruby") ∷ start (codes "table") ∷ start (codes "nav") ∷ Text (codes "x") ∷ [])
-    ∷ (start (codes "b") ∷ start (codes "nobr") ∷ Text (codes "1") ∷ end (codes "b") ∷ Text (codes "2") ∷ end (codes "nobr") ∷ Text (codes "3") ∷ start (codes "li") ∷ start (codes "nobr") ∷ start (codes "li") ∷ start (codes "ruby") ∷ start (codes "nobr") ∷ start (codes "rt") ∷ end (codes "ruby") ∷ start (codes "table") ∷ start (codes "nobr") ∷ Text (codes "x") ∷ [])
+    (start (codes "p") ∷ start (codes "kbd") ∷ Text (codes "0") ∷ end (codes "p") ∷ start (codes "b") ∷ start (codes "kbd") ∷ Text (codes "1") ∷ end (codes "b") ∷ Text (codes "2") ∷ end (codes "kbd") ∷ Text (codes "3") ∷ start (codes "li") ∷ start (codes "kbd") ∷ start (codes "li") ∷ start (codes "ruby") ∷ start (codes "kbd") ∷ start (codes "rt") ∷ end (codes "ruby") ∷ start (codes "table") ∷ start (codes "kbd") ∷ Text (codes "x") ∷ [])
+    ∷ (start (codes "p") ∷ start (codes "label") ∷ Text (codes "0") ∷ end (codes "p") ∷ start (codes "b") ∷ start (codes "label") ∷ Text (codes "1") ∷ end (codes "b") ∷ Text (codes "2") ∷ end (codes "label") ∷ Text (codes "3") ∷ start (codes "li") ∷ start (codes "label") ∷ start (codes "li") ∷ start (codes "ruby") ∷ start (codes "label") ∷ start (codes "rt") ∷ end (codes "ruby") ∷ start (codes "table") ∷ start (codes "label") ∷ Text (codes "x") ∷ [])
+    ∷ (start (codes "p") ∷ start (codes "li") ∷ Text (codes "0") ∷ end (codes "p") ∷ start (codes "b") ∷ start (codes "li") ∷ Text (codes "1") ∷ end (codes "b") ∷ Text (codes "2") ∷ end (codes "li") ∷ Text (codes "3") ∷ start (codes "li") ∷ start (codes "li") ∷ start (codes "li") ∷ start (codes "ruby") ∷ start (codes "li") ∷ start (codes "rt") ∷ end (codes "ruby") ∷ start (codes "table") ∷ start (codes "li") ∷ Text (codes "x") ∷ [])
+    ∷ (start (codes "p") ∷ start (codes "listing") ∷ Text (codes "0") ∷ end (codes "p") ∷ start (codes "b") ∷ start (codes "listing") ∷ Text (codes "1") ∷ end (codes "b") ∷ Text (codes "2") ∷ end (codes "listing") ∷ Text (codes "3") ∷ start (codes "li") ∷ start (codes "listing") ∷ start (codes "li") ∷ start (codes "ruby") ∷ start (codes "listing") ∷ start (codes "rt") ∷ end (codes "ruby") ∷ start (codes "table") ∷ start (codes "listing") ∷ Text (codes "x") ∷ [])
+    ∷ (start (codes "p") ∷ start (codes "main") ∷ Text (codes "0") ∷ end (codes "p") ∷ start (codes "b") ∷ start (codes "main") ∷ Text (codes "1") ∷ end (codes "b") ∷ Text (codes "2") ∷ end (codes "main") ∷ Text (codes "3") ∷ start (codes "li") ∷ start (codes "main") ∷ start (codes "li") ∷ start (codes "ruby") ∷ start (codes "main") ∷ start (codes "rt") ∷ end (codes "ruby") ∷ start (codes "table") ∷ start (codes "main") ∷ Text (codes "x") ∷ [])
+    ∷ (start (codes "p") ∷ start (codes "map") ∷ Text (codes "0") ∷ end (codes "p") ∷ start (codes "b") ∷ start (codes "map") ∷ Text (codes "1") ∷ end (codes "b") ∷ Text (codes "2") ∷ end (codes "map") ∷ Text (codes "3") ∷ start (codes "li") ∷ start (codes "map") ∷ start (codes "li") ∷ start (codes "ruby") ∷ start (codes "map") ∷ start (codes "rt") ∷ end (codes "ruby") ∷ start (codes "table") ∷ start (codes "map") ∷ Text (codes "x") ∷ [])
+    ∷ (start (codes "p") ∷ start (codes "mark") ∷ Text (codes "0") ∷ end (codes "p") ∷ start (codes "b") ∷ start (codes "mark") ∷ Text (codes "1") ∷ end (codes "b") ∷ Text (codes "2") ∷ end (codes "mark") ∷ Text (codes "3") ∷ start (codes "li") ∷ start (codes "mark") ∷ start (codes "li") ∷ start (codes "ruby") ∷ start (codes "mark") ∷ start (codes "rt") ∷ end (codes "ruby") ∷ start (codes "table") ∷ start (codes "mark") ∷ Text (codes "x") ∷ [])
+    ∷ (start (codes "p") ∷ start (codes "menu") ∷ Text (codes "0") ∷ end (codes "p") ∷ start (codes "b") ∷ start (codes "menu") ∷ Text (codes "1") ∷ end (codes "b") ∷ Text (codes "2") ∷ end (codes "menu") ∷ Text (codes "3") ∷ start (codes "li") ∷ start (codes "menu") ∷ start (codes "li") ∷ start (codes "ruby") ∷ start (codes "menu") ∷ start (codes "rt") ∷ end (codes "ruby") ∷ start (codes "table") ∷ start (codes "menu") ∷ Text (codes "x") ∷ [])
+    ∷ (start (codes "p") ∷ start (codes "nav") ∷ Text (codes "0") ∷ end (codes "p") ∷ start (codes "b") ∷ start (codes "nav") ∷ Text (codes "1") ∷ end (codes "b") ∷ Text (codes "2") ∷ end (codes "nav") ∷ Text (codes "3") ∷ start (codes "li") ∷ start (codes "nav") ∷ start (codes "li") ∷ start (codes "ruby") ∷ start (codes "nav") ∷ start (codes "rt") ∷ end (codes "ruby") ∷ start (codes "table") ∷ start (codes "nav") ∷ Text (codes "x") ∷ [])
+    ∷ (start (codes "p") ∷ start (codes "nobr") ∷ Text (codes "0") ∷ end (codes "p") ∷ start (codes "b") ∷ start (codes "nobr") ∷ Text (codes "1") ∷ end (codes "b") ∷ Text (codes "2") ∷ end (codes "nobr") ∷ Text (codes "3") ∷ start (codes "li") ∷ start (codes "nobr") ∷ start (codes "li") ∷ start (codes "ruby") ∷ start (codes "nobr") ∷ start (codes "rt") ∷ end (codes "ruby") ∷ start (codes "table") ∷ start (codes "nobr") ∷ Text (codes "x") ∷ [])
     ∷ []
 
 names_5_answers : List Tree
 names_5_answers =
-    (Element (Element (Characters (Element Nothing (codes "b") [] (Element Nothing (codes "kbd") [] (Characters Nothing (codes "1")))) (codes "23")) (codes "li") [] (Element Nothing (codes "kbd") [] Nothing)) (codes "li") [] (Element (Element (Element Nothing (codes "ruby") [] (Element Nothing (codes "kbd") [] (Element Nothing (codes "rt") [] Nothing))) (codes "kbd") [] (Characters Nothing (codes "x"))) (codes "table") [] Nothing))
-    ∷ (Element (Element (Characters (Element Nothing (codes "b") [] (Element Nothing (codes "label") [] (Characters Nothing (codes "1")))) (codes "23")) (codes "li") [] (Element Nothing (codes "label") [] Nothing)) (codes "li") [] (Element (Element (Element Nothing (codes "ruby") [] (Element Nothing (codes "label") [] (Element Nothing (codes "rt") [] Nothing))) (codes "label") [] (Characters Nothing (codes "x"))) (codes "table") [] Nothing))
-    ∷ (Element (Element (Element (Element (Characters (Element (Element Nothing (codes "b") [] Nothing) (codes "li") [] (Characters (Element Nothing (codes "b") [] (Characters Nothing (codes "1"))) (codes "2"))) (codes "3")) (codes "li") [] Nothing) (codes "li") [] Nothing) (codes "li") [] (Element Nothing (codes "ruby") [] Nothing)) (codes "li") [] (Element Nothing (codes "rt") [] (Element (Element Nothing (codes "li") [] (Characters Nothing (codes "x"))) (codes "table") [] Nothing)))
-    ∷ (Element (Characters (Element (Element Nothing (codes "b") [] Nothing) (codes "listing") [] (Characters (Element Nothing (codes "b") [] (Characters Nothing (codes "1"))) (codes "2"))) (codes "3")) (codes "li") [] (Element Nothing (codes "listing") [] (Element Nothing (codes "li") [] (Element Nothing (codes "ruby") [] (Element Nothing (codes "listing") [] (Element Nothing (codes "rt") [] (Element (Element Nothing (codes "listing") [] (Characters Nothing (codes "x"))) (codes "table") [] Nothing)))))))
-    ∷ (Element (Characters (Element (Element Nothing (codes "b") [] Nothing) (codes "main") [] (Characters (Element Nothing (codes "b") [] (Characters Nothing (codes "1"))) (codes "2"))) (codes "3")) (codes "li") [] (Element Nothing (codes "main") [] (Element Nothing (codes "li") [] (Element Nothing (codes "ruby") [] (Element Nothing (codes "main") [] (Element Nothing (codes "rt") [] (Element (Element Nothing (codes "main") [] (Characters Nothing (codes "x"))) (codes "table") [] Nothing)))))))
-    ∷ (Element (Element (Characters (Element Nothing (codes "b") [] (Element Nothing (codes "map") [] (Characters Nothing (codes "1")))) (codes "23")) (codes "li") [] (Element Nothing (codes "map") [] Nothing)) (codes "li") [] (Element (Element (Element Nothing (codes "ruby") [] (Element Nothing (codes "map") [] (Element Nothing (codes "rt") [] Nothing))) (codes "map") [] (Characters Nothing (codes "x"))) (codes "table") [] Nothing))
-    ∷ (Element (Element (Characters (Element Nothing (codes "b") [] (Element Nothing (codes "mark") [] (Characters Nothing (codes "1")))) (codes "23")) (codes "li") [] (Element Nothing (codes "mark") [] Nothing)) (codes "li") [] (Element (Element (Element Nothing (codes "ruby") [] (Element Nothing (codes "mark") [] (Element Nothing (codes "rt") [] Nothing))) (codes "mark") [] (Characters Nothing (codes "x"))) (codes "table") [] Nothing))
-    ∷ (Element (Characters (Element (Element Nothing (codes "b") [] Nothing) (codes "menu") [] (Characters (Element Nothing (codes "b") [] (Characters Nothing (codes "1"))) (codes "2"))) (codes "3")) (codes "li") [] (Element Nothing (codes "menu") [] (Element Nothing (codes "li") [] (Element Nothing (codes "ruby") [] (Element Nothing (codes "menu") [] (Element Nothing (codes "rt") [] (Element (Element Nothing (codes "menu") [] (Characters Nothing (codes "x"))) (codes "table") [] Nothing)))))))
-    ∷ (Element (Characters (Element (Element Nothing (codes "b") [] Nothing) (codes "nav") [] (Characters (Element Nothing (codes "b") [] (Characters Nothing (codes "1"))) (codes "2"))) (codes "3")) (codes "li") [] (Element Nothing (codes "nav") [] (Element Nothing (codes "li") [] (Element Nothing (codes "ruby") [] (Element Nothing (codes "nav") [] (Element Nothing (codes "rt") [] (Element (Element Nothing (codes "nav") [] (Characters Nothing (codes "x"))) (codes "table") [] Nothing)))))))
-    ∷ (Element (Element (Characters (Element (Element Nothing (codes "b") [] (Element Nothing (codes "nobr") [] (Characters Nothing (codes "1")))) (codes "nobr") [] (Characters Nothing (codes "2"))) (codes "3")) (codes "li") [] (Element Nothing (codes "nobr") [] Nothing)) (codes "li") [] (Element (Element Nothing (codes "nobr") [] (Element Nothing (codes "ruby") [] Nothing)) (codes "nobr") [] (Element Nothing (codes "rt") [] (Element (Element Nothing (codes "nobr") [] (Characters Nothing (codes "x"))) (codes "table") [] Nothing))))
+    (Element (Element (Characters (Element (Element Nothing (codes "p") [] (Element Nothing (codes "kbd") [] (Characters Nothing (codes "0")))) (codes "b") [] (Element Nothing (codes "kbd") [] (Characters Nothing (codes "1")))) (codes "23")) (codes "li") [] (Element Nothing (codes "kbd") [] Nothing)) (codes "li") [] (Element (Element (Element Nothing (codes "ruby") [] (Element Nothing (codes "kbd") [] (Element Nothing (codes "rt") [] Nothing))) (codes "kbd") [] (Characters Nothing (codes "x"))) (codes "table") [] Nothing))
+    ∷ (Element (Element (Characters (Element (Element Nothing (codes "p") [] (Element Nothing (codes "label") [] (Characters Nothing (codes "0")))) (codes "b") [] (Element Nothing (codes "label") [] (Characters Nothing (codes "1")))) (codes "23")) (codes "li") [] (Element Nothing (codes "label") [] Nothing)) (codes "li") [] (Element (Element (Element Nothing (codes "ruby") [] (Element Nothing (codes "label") [] (Element Nothing (codes "rt") [] Nothing))) (codes "label") [] (Characters Nothing (codes "x"))) (codes "table") [] Nothing))
+    ∷ (Element (Element (Element (Element (Characters (Element (Element (Element Nothing (codes "p") [] Nothing) (codes "li") [] (Element (Element (Characters Nothing (codes "0")) (codes "p") [] Nothing) (codes "b") [] Nothing)) (codes "li") [] (Characters (Element Nothing (codes "b") [] (Characters Nothing (codes "1"))) (codes "2"))) (codes "3")) (codes "li") [] Nothing) (codes "li") [] Nothing) (codes "li") [] (Element Nothing (codes "ruby") [] Nothing)) (codes "li") [] (Element Nothing (codes "rt") [] (Element (Element Nothing (codes "li") [] (Characters Nothing (codes "x"))) (codes "table") [] Nothing)))
+    ∷ (Element (Element Nothing (codes "p") [] Nothing) (codes "listing") [] (Element (Characters (Element (Element (Element (Characters Nothing (codes "0")) (codes "p") [] Nothing) (codes "b") [] Nothing) (codes "listing") [] (Characters (Element Nothing (codes "b") [] (Characters Nothing (codes "1"))) (codes "2"))) (codes "3")) (codes "li") [] (Element Nothing (codes "listing") [] (Element Nothing (codes "li") [] (Element Nothing (codes "ruby") [] (Element Nothing (codes "listing") [] (Element Nothing (codes "rt") [] (Element (Element Nothing (codes "listing") [] (Characters Nothing (codes "x"))) (codes "table") [] Nothing))))))))
+    ∷ (Element (Element Nothing (codes "p") [] Nothing) (codes "main") [] (Element (Characters (Element (Element (Element (Characters Nothing (codes "0")) (codes "p") [] Nothing) (codes "b") [] Nothing) (codes "main") [] (Characters (Element Nothing (codes "b") [] (Characters Nothing (codes "1"))) (codes "2"))) (codes "3")) (codes "li") [] (Element Nothing (codes "main") [] (Element Nothing (codes "li") [] (Element Nothing (codes "ruby") [] (Element Nothing (codes "main") [] (Element Nothing (codes "rt") [] (Element (Element Nothing (codes "main") [] (Characters Nothing (codes "x"))) (codes "table") [] Nothing))))))))
+    ∷ (Element (Element (Characters (Element (Element Nothing (codes "p") [] (Element Nothing (codes "map") [] (Characters Nothing (codes "0")))) (codes "b") [] (Element Nothing (codes "map") [] (Characters Nothing (codes "1")))) (codes "23")) (codes "li") [] (Element Nothing (codes "map") [] Nothing)) (codes "li") [] (Element (Element (Element Nothing (codes "ruby") [] (Element Nothing (codes "map") [] (Element Nothing (codes "rt") [] Nothing))) (codes "map") [] (Characters Nothing (codes "x"))) (codes "table") [] Nothing))
+    ∷ (Element (Element (Characters (Element (Element Nothing (codes "p") [] (Element Nothing (codes "mark") [] (Characters Nothing (codes "0")))) (codes "b") [] (Element Nothing (codes "mark") [] (Characters Nothing (codes "1")))) (codes "23")) (codes "li") [] (Element Nothing (codes "mark") [] Nothing)) (codes "li") [] (Element (Element (Element Nothing (codes "ruby") [] (Element Nothing (codes "mark") [] (Element Nothing (codes "rt") [] Nothing))) (codes "mark") [] (Characters Nothing (codes "x"))) (codes "table") [] Nothing))
+    ∷ (Element (Element Nothing (codes "p") [] Nothing) (codes "menu") [] (Element (Characters (Element (Element (Element (Characters Nothing (codes "0")) (codes "p") [] Nothing) (codes "b") [] Nothing) (codes "menu") [] (Characters (Element Nothing (codes "b") [] (Characters Nothing (codes "1"))) (codes "2"))) (codes "3")) (codes "li") [] (Element Nothing (codes "menu") [] (Element Nothing (codes "li") [] (Element Nothing (codes "ruby") [] (Element Nothing (codes "menu") [] (Element Nothing (codes "rt") [] (Element (Element Nothing (codes "menu") [] (Characters Nothing (codes "x"))) (codes "table") [] Nothing))))))))
+    ∷ (Element (Element Nothing (codes "p") [] Nothing) (codes "nav") [] (Element (Characters (Element (Element (Element (Characters Nothing (codes "0")) (codes "p") [] Nothing) (codes "b") [] Nothing) (codes "nav") [] (Characters (Element Nothing (codes "b") [] (Characters Nothing (codes "1"))) (codes "2"))) (codes "3")) (codes "li") [] (Element Nothing (codes "nav") [] (Element Nothing (codes "li") [] (Element Nothing (codes "ruby") [] (Element Nothing (codes "nav") [] (Element Nothing (codes "rt") [] (Element (Element Nothing (codes "nav") [] (Characters Nothing (codes "x"))) (codes "table") [] Nothing))))))))
+    ∷ (Element (Element (Characters (Element (Element (Element (Element Nothing (codes "p") [] (Element Nothing (codes "nobr") [] (Characters Nothing (codes "0")))) (codes "nobr") [] (Element Nothing (codes "b") [] Nothing)) (codes "b") [] (Element Nothing (codes "nobr") [] (Characters Nothing (codes "1")))) (codes "nobr") [] (Characters Nothing (codes "2"))) (codes "3")) (codes "li") [] (Element Nothing (codes "nobr") [] Nothing)) (codes "li") [] (Element (Element Nothing (codes "nobr") [] (Element Nothing (codes "ruby") [] Nothing)) (codes "nobr") [] (Element Nothing (codes "rt") [] (Element (Element Nothing (codes "nobr") [] (Characters Nothing (codes "x"))) (codes "table") [] Nothing))))
     ∷ []
 
 names_5 : map tree_of names_5_items ≡ names_5_answers
@@ -719,30 +759,30 @@ names_5 = refl
 
 names_6_items : List (List Item)
 names_6_items =
-    (start (codes "b") ∷ start (codes "ol") ∷ Text (codes "1") ∷ end (codes "b") ∷ Text (codes "2") ∷ end (codes "ol") ∷ Text (codes "3") ∷ start (codes "li") ∷ start (codes "ol") ∷ start (codes "li") ∷ start (codes "ruby") ∷ start (codes "ol") ∷ start (codes "rt") ∷ end (codes "ruby") ∷ start (codes "table") ∷ start (codes "ol") ∷ Text (codes "x") ∷ [])
-    ∷ (start (codes "b") ∷ start (codes "p") ∷ Text (codes "1") ∷ end (codes "b") ∷ Text (codes "2") ∷ end (codes "p") ∷ Text (codes "3") ∷ start (codes "li") ∷ start (codes "p") ∷ start (codes "li") ∷ start (codes "ruby") ∷ start (codes "p") ∷ start (codes "rt") ∷ end (codes "ruby") ∷ start (codes "table") ∷ start (codes "p") ∷ Text (codes "x") ∷ [])
-    ∷ (start (codes "b") ∷ start (codes "picture") ∷ Text (codes "1") ∷ end (codes "b") ∷ Text (codes "2") ∷ end (codes "picture") ∷ Text (codes "3") ∷ start (codes "li") ∷ start (codes "picture") ∷ start (codes "li") ∷ start (codes "ruby") ∷ start (codes "picture") ∷ start (codes "rt") ∷ end (codes "ruby") ∷ start (codes "table") ∷ start (codes "picture") ∷ Text (codes "x") ∷ [])
-    ∷ (start (codes "b") ∷ start (codes "pre") ∷ Text (codes "1") ∷ end (codes "b") ∷ Text (codes "2") ∷ end (codes "pre") ∷ Text (codes "3") ∷ start (codes "li") ∷ start (codes "pre") ∷ start (codes "li") ∷ start (codes "ruby") ∷ start (codes "pre") ∷ start (codes "rt") ∷ end (codes "ruby") ∷ start (codes "table") ∷ start (codes "pre") ∷ Text (codes "x") ∷ [])
-    ∷ (start (codes "b") ∷ start (codes "q") ∷ Text (codes "1") ∷ end (codes "b") ∷ Text (codes "2") ∷ end (codes "q") ∷ Text (codes "3") ∷ start (codes "li") ∷ start (codes "q") ∷ start (codes "li") ∷ start (codes "ruby") ∷ start (codes "q") ∷ start (codes "rt") ∷ end (codes "ruby") ∷ start (codes "table") ∷ start (codes "q") ∷ Text (codes "x") ∷ [])
-    ∷ (start (codes "b") ∷ start (codes "rb") ∷ Text (codes "1") ∷ end (codes "b") ∷ Text (codes "2") ∷ end (codes "rb") ∷ Text (codes "3") ∷ start (codes "li") ∷ start (codes "rb") ∷ start (codes "li") ∷ start (codes "ruby") ∷ start (codes "rb") ∷ start (codes "rt") ∷ end (codes "ruby") ∷ start (codes "table") ∷ start (codes "rb") ∷ Text (codes "x") ∷ [])
-    ∷ (start (codes "b") ∷ start (codes "rp") ∷ Text (codes "1") ∷ end (codes "b") ∷ Text (codes "2") ∷ end (codes "rp") ∷ Text (codes "3") ∷ start (codes "li") ∷ start (codes "rp") ∷ start (codes "li") ∷ start (codes "ruby") ∷ start (codes "rp") ∷ start (codes "rt") ∷ end (codes "ruby") ∷ start (codes "table") ∷ start (codes "rp") ∷ Text (codes "x") ∷ [])
-    ∷ (start (codes "b") ∷ start (codes "rt") ∷ Text (codes "1") ∷ end (codes "b") ∷ Text (codes "2") ∷ end (codes "rt") ∷ Text (codes "3") ∷ start (codes "li") ∷ start (codes "rt") ∷ start (codes "li") ∷ start (codes "ruby") ∷ start (codes "rt") ∷ start (codes "rt") ∷ end (codes "ruby") ∷ start (codes "table") ∷ start (codes "rt") ∷ Text (codes "x") ∷ [])
-    ∷ (start (codes "b") ∷ start (codes "rtc") ∷ Text (codes "1") ∷ end (codes "b") ∷ Text (codes "2") ∷ end (codes "rtc") ∷ Text (codes "3") ∷ start (codes "li") ∷ start (codes "rtc") ∷ start (codes "li") ∷ start (codes "ruby") ∷ start (codes "rtc") ∷ start (codes "rt") ∷ end (codes "ruby") ∷ start (codes "table") ∷ start (codes "rtc") ∷ Text (codes "x") ∷ [])
-    ∷ (start (codes "b") ∷ start (codes "ruby") ∷ Text (codes "1") ∷ end (codes "b") ∷ Text (codes "2") ∷ end (codes "ruby") ∷ Text (codes "3") ∷ start (codes "li") ∷ start (codes "ruby") ∷ start (codes "li") ∷ start (codes "ruby") ∷ start (codes "ruby") ∷ start (codes "rt") ∷ end (codes "ruby") ∷ start (codes "table") ∷ start (codes "ruby") ∷ Text (codes "x") ∷ [])
+    (start (codes "p") ∷ start (codes "ol") ∷ Text (codes "0") ∷ end (codes "p") ∷ start (codes "b") ∷ start (codes "ol") ∷ Text (codes "1") ∷ end (codes "b") ∷ Text (codes "2") ∷ end (codes "ol") ∷ Text (codes "3") ∷ start (codes "li") ∷ start (codes "ol") ∷ start (codes "li") ∷ start (codes "ruby") ∷ start (codes "ol") ∷ start (codes "rt") ∷ end (codes "ruby") ∷ start (codes "table") ∷ start (codes "ol") ∷ Text (codes "x") ∷ [])
+    ∷ (start (codes "p") ∷ start (codes "p") ∷ Text (codes "0") ∷ end (codes "p") ∷ start (codes "b") ∷ start (codes "p") ∷ Text (codes "1") ∷ end (codes "b") ∷ Text (codes "2") ∷ end (codes "p") ∷ Text (codes "3") ∷ start (codes "li") ∷ start (codes "p") ∷ start (codes "li") ∷ start (codes "ruby") ∷ start (codes "p") ∷ start (codes "rt") ∷ end (codes "ruby") ∷ start (codes "table") ∷ start (codes "p") ∷ Text (codes "x") ∷ [])
+    ∷ (start (codes "p") ∷ start (codes "picture") ∷ Text (codes "0") ∷ end (codes "p") ∷ start (codes "b") ∷ start (codes "picture") ∷ Text (codes "1") ∷ end (codes "b") ∷ Text (codes "2") ∷ end (codes "picture") ∷ Text (codes "3") ∷ start (codes "li") ∷ start (codes "picture") ∷ start (codes "li") ∷ start (codes "ruby") ∷ start (codes "picture") ∷ start (codes "rt") ∷ end (codes "ruby") ∷ start (codes "table") ∷ start (codes "picture") ∷ Text (codes "x") ∷ [])
+    ∷ (start (codes "p") ∷ start (codes "pre") ∷ Text (codes "0") ∷ end (codes "p") ∷ start (codes "b") ∷ start (codes "pre") ∷ Text (codes "1") ∷ end (codes "b") ∷ Text (codes "2") ∷ end (codes "pre") ∷ Text (codes "3") ∷ start (codes "li") ∷ start (codes "pre") ∷ start (codes "li") ∷ start (codes "ruby") ∷ start (codes "pre") ∷ start (codes "rt") ∷ end (codes "ruby") ∷ start (codes "table") ∷ start (codes "pre") ∷ Text (codes "x") ∷ [])
+    ∷ (start (codes "p") ∷ start (codes "q") ∷ Text (codes "0") ∷ end (codes "p") ∷ start (codes "b") ∷ start (codes "q") ∷ Text (codes "1") ∷ end (codes "b") ∷ Text (codes "2") ∷ end (codes "q") ∷ Text (codes "3") ∷ start (codes "li") ∷ start (codes "q") ∷ start (codes "li") ∷ start (codes "ruby") ∷ start (codes "q") ∷ start (codes "rt") ∷ end (codes "ruby") ∷ start (codes "table") ∷ start (codes "q") ∷ Text (codes "x") ∷ [])
+    ∷ (start (codes "p") ∷ start (codes "rb") ∷ Text (codes "0") ∷ end (codes "p") ∷ start (codes "b") ∷ start (codes "rb") ∷ Text (codes "1") ∷ end (codes "b") ∷ Text (codes "2") ∷ end (codes "rb") ∷ Text (codes "3") ∷ start (codes "li") ∷ start (codes "rb") ∷ start (codes "li") ∷ start (codes "ruby") ∷ start (codes "rb") ∷ start (codes "rt") ∷ end (codes "ruby") ∷ start (codes "table") ∷ start (codes "rb") ∷ Text (codes "x") ∷ [])
+    ∷ (start (codes "p") ∷ start (codes "rp") ∷ Text (codes "0") ∷ end (codes "p") ∷ start (codes "b") ∷ start (codes "rp") ∷ Text (codes "1") ∷ end (codes "b") ∷ Text (codes "2") ∷ end (codes "rp") ∷ Text (codes "3") ∷ start (codes "li") ∷ start (codes "rp") ∷ start (codes "li") ∷ start (codes "ruby") ∷ start (codes "rp") ∷ start (codes "rt") ∷ end (codes "ruby") ∷ start (codes "table") ∷ start (codes "rp") ∷ Text (codes "x") ∷ [])
+    ∷ (start (codes "p") ∷ start (codes "rt") ∷ Text (codes "0") ∷ end (codes "p") ∷ start (codes "b") ∷ start (codes "rt") ∷ Text (codes "1") ∷ end (codes "b") ∷ Text (codes "2") ∷ end (codes "rt") ∷ Text (codes "3") ∷ start (codes "li") ∷ start (codes "rt") ∷ start (codes "li") ∷ start (codes "ruby") ∷ start (codes "rt") ∷ start (codes "rt") ∷ end (codes "ruby") ∷ start (codes "table") ∷ start (codes "rt") ∷ Text (codes "x") ∷ [])
+    ∷ (start (codes "p") ∷ start (codes "rtc") ∷ Text (codes "0") ∷ end (codes "p") ∷ start (codes "b") ∷ start (codes "rtc") ∷ Text (codes "1") ∷ end (codes "b") ∷ Text (codes "2") ∷ end (codes "rtc") ∷ Text (codes "3") ∷ start (codes "li") ∷ start (codes "rtc") ∷ start (codes "li") ∷ start (codes "ruby") ∷ start (codes "rtc") ∷ start (codes "rt") ∷ end (codes "ruby") ∷ start (codes "table") ∷ start (codes "rtc") ∷ Text (codes "x") ∷ [])
+    ∷ (start (codes "p") ∷ start (codes "ruby") ∷ Text (codes "0") ∷ end (codes "p") ∷ start (codes "b") ∷ start (codes "ruby") ∷ Text (codes "1") ∷ end (codes "b") ∷ Text (codes "2") ∷ end (codes "ruby") ∷ Text (codes "3") ∷ start (codes "li") ∷ start (codes "ruby") ∷ start (codes "li") ∷ start (codes "ruby") ∷ start (codes "ruby") ∷ start (codes "rt") ∷ end (codes "ruby") ∷ start (codes "table") ∷ start (codes "ruby") ∷ Text (codes "x") ∷ [])
     ∷ []
 
 names_6_answers : List Tree
 names_6_answers =
-    (Element (Characters (Element (Element Nothing (codes "b") [] Nothing) (codes "ol") [] (Characters (Element Nothing (codes "b") [] (Characters Nothing (codes "1"))) (codes "2"))) (codes "3")) (codes "li") [] (Element Nothing (codes "ol") [] (Element Nothing (codes "li") [] (Element Nothing (codes "ruby") [] (Element Nothing (codes "ol") [] (Element Nothing (codes "rt") [] (Element (Element Nothing (codes "ol") [] (Characters Nothing (codes "x"))) (codes "table") [] Nothing)))))))
-    ∷ (Element (Element (Characters (Element (Element Nothing (codes "b") [] Nothing) (codes "p") [] (Characters (Element Nothing (codes "b") [] (Characters Nothing (codes "1"))) (codes "2"))) (codes "3")) (codes "li") [] (Element Nothing (codes "p") [] Nothing)) (codes "li") [] (Element (Element (Element Nothing (codes "ruby") [] (Element (Element Nothing (codes "p") [] Nothing) (codes "rt") [] Nothing)) (codes "p") [] (Characters Nothing (codes "x"))) (codes "table") [] Nothing))
-    ∷ (Element (Element (Characters (Element Nothing (codes "b") [] (Element Nothing (codes "picture") [] (Characters Nothing (codes "1")))) (codes "23")) (codes "li") [] (Element Nothing (codes "picture") [] Nothing)) (codes "li") [] (Element (Element (Element Nothing (codes "ruby") [] (Element Nothing (codes "picture") [] (Element Nothing (codes "rt") [] Nothing))) (codes "picture") [] (Characters Nothing (codes "x"))) (codes "table") [] Nothing))
-    ∷ (Element (Characters (Element (Element Nothing (codes "b") [] Nothing) (codes "pre") [] (Characters (Element Nothing (codes "b") [] (Characters Nothing (codes "1"))) (codes "2"))) (codes "3")) (codes "li") [] (Element Nothing (codes "pre") [] (Element Nothing (codes "li") [] (Element Nothing (codes "ruby") [] (Element Nothing (codes "pre") [] (Element Nothing (codes "rt") [] (Element (Element Nothing (codes "pre") [] (Characters Nothing (codes "x"))) (codes "table") [] Nothing)))))))
-    ∷ (Element (Element (Characters (Element Nothing (codes "b") [] (Element Nothing (codes "q") [] (Characters Nothing (codes "1")))) (codes "23")) (codes "li") [] (Element Nothing (codes "q") [] Nothing)) (codes "li") [] (Element (Element (Element Nothing (codes "ruby") [] (Element Nothing (codes "q") [] (Element Nothing (codes "rt") [] Nothing))) (codes "q") [] (Characters Nothing (codes "x"))) (codes "table") [] Nothing))
-    ∷ (Element (Element (Characters (Element Nothing (codes "b") [] (Element Nothing (codes "rb") [] (Characters Nothing (codes "1")))) (codes "23")) (codes "li") [] (Element Nothing (codes "rb") [] Nothing)) (codes "li") [] (Element (Element (Element Nothing (codes "ruby") [] (Element (Element Nothing (codes "rb") [] Nothing) (codes "rt") [] Nothing)) (codes "rb") [] (Characters Nothing (codes "x"))) (codes "table") [] Nothing))
-    ∷ (Element (Element (Characters (Element Nothing (codes "b") [] (Element Nothing (codes "rp") [] (Characters Nothing (codes "1")))) (codes "23")) (codes "li") [] (Element Nothing (codes "rp") [] Nothing)) (codes "li") [] (Element (Element (Element Nothing (codes "ruby") [] (Element (Element Nothing (codes "rp") [] Nothing) (codes "rt") [] Nothing)) (codes "rp") [] (Characters Nothing (codes "x"))) (codes "table") [] Nothing))
-    ∷ (Element (Element (Characters (Element Nothing (codes "b") [] (Element Nothing (codes "rt") [] (Characters Nothing (codes "1")))) (codes "23")) (codes "li") [] (Element Nothing (codes "rt") [] Nothing)) (codes "li") [] (Element (Element (Element Nothing (codes "ruby") [] (Element (Element Nothing (codes "rt") [] Nothing) (codes "rt") [] Nothing)) (codes "rt") [] (Characters Nothing (codes "x"))) (codes "table") [] Nothing))
-    ∷ (Element (Element (Characters (Element Nothing (codes "b") [] (Element Nothing (codes "rtc") [] (Characters Nothing (codes "1")))) (codes "23")) (codes "li") [] (Element Nothing (codes "rtc") [] Nothing)) (codes "li") [] (Element (Element (Element Nothing (codes "ruby") [] (Element Nothing (codes "rtc") [] (Element Nothing (codes "rt") [] Nothing))) (codes "rtc") [] (Characters Nothing (codes "x"))) (codes "table") [] Nothing))
-    ∷ (Element (Element (Characters (Element Nothing (codes "b") [] (Element Nothing (codes "ruby") [] (Characters Nothing (codes "1")))) (codes "23")) (codes "li") [] (Element Nothing (codes "ruby") [] Nothing)) (codes "li") [] (Element Nothing (codes "ruby") [] (Element (Element (Element Nothing (codes "ruby") [] (Element Nothing (codes "rt") [] Nothing)) (codes "ruby") [] (Characters Nothing (codes "x"))) (codes "table") [] Nothing)))
+    (Element (Element Nothing (codes "p") [] Nothing) (codes "ol") [] (Element (Characters (Element (Element (Element (Characters Nothing (codes "0")) (codes "p") [] Nothing) (codes "b") [] Nothing) (codes "ol") [] (Characters (Element Nothing (codes "b") [] (Characters Nothing (codes "1"))) (codes "2"))) (codes "3")) (codes "li") [] (Element Nothing (codes "ol") [] (Element Nothing (codes "li") [] (Element Nothing (codes "ruby") [] (Element Nothing (codes "ol") [] (Element Nothing (codes "rt") [] (Element (Element Nothing (codes "ol") [] (Characters Nothing (codes "x"))) (codes "table") [] Nothing))))))))
+    ∷ (Element (Element (Characters (Element (Element (Element (Element Nothing (codes "p") [] Nothing) (codes "p") [] (Characters Nothing (codes "0"))) (codes "b") [] Nothing) (codes "p") [] (Characters (Element Nothing (codes "b") [] (Characters Nothing (codes "1"))) (codes "2"))) (codes "3")) (codes "li") [] (Element Nothing (codes "p") [] Nothing)) (codes "li") [] (Element (Element (Element Nothing (codes "ruby") [] (Element (Element Nothing (codes "p") [] Nothing) (codes "rt") [] Nothing)) (codes "p") [] (Characters Nothing (codes "x"))) (codes "table") [] Nothing))
+    ∷ (Element (Element (Characters (Element (Element Nothing (codes "p") [] (Element Nothing (codes "picture") [] (Characters Nothing (codes "0")))) (codes "b") [] (Element Nothing (codes "picture") [] (Characters Nothing (codes "1")))) (codes "23")) (codes "li") [] (Element Nothing (codes "picture") [] Nothing)) (codes "li") [] (Element (Element (Element Nothing (codes "ruby") [] (Element Nothing (codes "picture") [] (Element Nothing (codes "rt") [] Nothing))) (codes "picture") [] (Characters Nothing (codes "x"))) (codes "table") [] Nothing))
+    ∷ (Element (Element Nothing (codes "p") [] Nothing) (codes "pre") [] (Element (Characters (Element (Element (Element (Characters Nothing (codes "0")) (codes "p") [] Nothing) (codes "b") [] Nothing) (codes "pre") [] (Characters (Element Nothing (codes "b") [] (Characters Nothing (codes "1"))) (codes "2"))) (codes "3")) (codes "li") [] (Element Nothing (codes "pre") [] (Element Nothing (codes "li") [] (Element Nothing (codes "ruby") [] (Element Nothing (codes "pre") [] (Element Nothing (codes "rt") [] (Element (Element Nothing (codes "pre") [] (Characters Nothing (codes "x"))) (codes "table") [] Nothing))))))))
+    ∷ (Element (Element (Characters (Element (Element Nothing (codes "p") [] (Element Nothing (codes "q") [] (Characters Nothing (codes "0")))) (codes "b") [] (Element Nothing (codes "q") [] (Characters Nothing (codes "1")))) (codes "23")) (codes "li") [] (Element Nothing (codes "q") [] Nothing)) (codes "li") [] (Element (Element (Element Nothing (codes "ruby") [] (Element Nothing (codes "q") [] (Element Nothing (codes "rt") [] Nothing))) (codes "q") [] (Characters Nothing (codes "x"))) (codes "table") [] Nothing))
+    ∷ (Element (Element (Characters (Element (Element Nothing (codes "p") [] (Element Nothing (codes "rb") [] (Characters Nothing (codes "0")))) (codes "b") [] (Element Nothing (codes "rb") [] (Characters Nothing (codes "1")))) (codes "23")) (codes "li") [] (Element Nothing (codes "rb") [] Nothing)) (codes "li") [] (Element (Element (Element Nothing (codes "ruby") [] (Element (Element Nothing (codes "rb") [] Nothing) (codes "rt") [] Nothing)) (codes "rb") [] (Characters Nothing (codes "x"))) (codes "table") [] Nothing))
+    ∷ (Element (Element (Characters (Element (Element Nothing (codes "p") [] (Element Nothing (codes "rp") [] (Characters Nothing (codes "0")))) (codes "b") [] (Element Nothing (codes "rp") [] (Characters Nothing (codes "1")))) (codes "23")) (codes "li") [] (Element Nothing (codes "rp") [] Nothing)) (codes "li") [] (Element (Element (Element Nothing (codes "ruby") [] (Element (Element Nothing (codes "rp") [] Nothing) (codes "rt") [] Nothing)) (codes "rp") [] (Characters Nothing (codes "x"))) (codes "table") [] Nothing))
+    ∷ (Element (Element (Characters (Element (Element Nothing (codes "p") [] (Element Nothing (codes "rt") [] (Characters Nothing (codes "0")))) (codes "b") [] (Element Nothing (codes "rt") [] (Characters Nothing (codes "1")))) (codes "23")) (codes "li") [] (Element Nothing (codes "rt") [] Nothing)) (codes "li") [] (Element (Element (Element Nothing (codes "ruby") [] (Element (Element Nothing (codes "rt") [] Nothing) (codes "rt") [] Nothing)) (codes "rt") [] (Characters Nothing (codes "x"))) (codes "table") [] Nothing))
+    ∷ (Element (Element (Characters (Element (Element Nothing (codes "p") [] (Element Nothing (codes "rtc") [] (Characters Nothing (codes "0")))) (codes "b") [] (Element Nothing (codes "rtc") [] (Characters Nothing (codes "1")))) (codes "23")) (codes "li") [] (Element Nothing (codes "rtc") [] Nothing)) (codes "li") [] (Element (Element (Element Nothing (codes "ruby") [] (Element Nothing (codes "rtc") [] (Element Nothing (codes "rt") [] Nothing))) (codes "rtc") [] (Characters Nothing (codes "x"))) (codes "table") [] Nothing))
+    ∷ (Element (Element (Characters (Element (Element Nothing (codes "p") [] (Element Nothing (codes "ruby") [] (Characters Nothing (codes "0")))) (codes "b") [] (Element Nothing (codes "ruby") [] (Characters Nothing (codes "1")))) (codes "23")) (codes "li") [] (Element Nothing (codes "ruby") [] Nothing)) (codes "li") [] (Element Nothing (codes "ruby") [] (Element (Element (Element Nothing (codes "ruby") [] (Element Nothing (codes "rt") [] Nothing)) (codes "ruby") [] (Characters Nothing (codes "x"))) (codes "table") [] Nothing)))
     ∷ []
 
 names_6 : map tree_of names_6_items ≡ names_6_answers
@@ -751,30 +791,30 @@ names_6 = refl
 
 names_7_items : List (List Item)
 names_7_items =
-    (start (codes "b") ∷ start (codes "s") ∷ Text (codes "1") ∷ end (codes "b") ∷ Text (codes "2") ∷ end (codes "s") ∷ Text (codes "3") ∷ start (codes "li") ∷ start (codes "s") ∷ start (codes "li") ∷ start (codes "ruby") ∷ start (codes "s") ∷ start (codes "rt") ∷ end (codes "ruby") ∷ start (codes "table") ∷ start (codes "s") ∷ Text (codes "x") ∷ [])
-    ∷ (start (codes "b") ∷ start (codes "samp") ∷ Text (codes "1") ∷ end (codes "b") ∷ Text (codes "2") ∷ end (codes "samp") ∷ Text (codes "3") ∷ start (codes "li") ∷ start (codes "samp") ∷ start (codes "li") ∷ start (codes "ruby") ∷ start (codes "samp") ∷ start (codes "rt") ∷ end (codes "ruby") ∷ start (codes "table") ∷ start (codes "samp") ∷ Text (codes "x") ∷ [])
-    ∷ (start (codes "b") ∷ start (codes "search") ∷ Text (codes "1") ∷ end (codes "b") ∷ Text (codes "2") ∷ end (codes "search") ∷ Text (codes "3") ∷ start (codes "li") ∷ start (codes "search") ∷ start (codes "li") ∷ start (codes "ruby") ∷ start (codes "search") ∷ start (codes "rt") ∷ end (codes "ruby") ∷ start (codes "table") ∷ start (codes "search") ∷ Text (codes "x") ∷ [])
-    ∷ (start (codes "b") ∷ start (codes "section") ∷ Text (codes "1") ∷ end (codes "b") ∷ Text (codes "2") ∷ end (codes "section") ∷ Text (codes "3") ∷ start (codes "li") ∷ start (codes "section") ∷ start (codes "li") ∷ start (codes "ruby") ∷ start (codes "section") ∷ start (codes "rt") ∷ end (codes "ruby") ∷ start (codes "table") ∷ start (codes "section") ∷ Text (codes "x") ∷ [])
-    ∷ (start (codes "b") ∷ start (codes "small") ∷ Text (codes "1") ∷ end (codes "b") ∷ Text (codes "2") ∷ end (codes "small") ∷ Text (codes "3") ∷ start (codes "li") ∷ start (codes "small") ∷ start (codes "li") ∷ start (codes "ruby") ∷ start (codes "small") ∷ start (codes "rt") ∷ end (codes "ruby") ∷ start (codes "table") ∷ start (codes "small") ∷ Text (codes "x") ∷ [])
-    ∷ (start (codes "b") ∷ start (codes "span") ∷ Text (codes "1") ∷ end (codes "b") ∷ Text (codes "2") ∷ end (codes "span") ∷ Text (codes "3") ∷ start (codes "li") ∷ start (codes "span") ∷ start (codes "li") ∷ start (codes "ruby") ∷ start (codes "span") ∷ start (codes "rt") ∷ end (codes "ruby") ∷ start (codes "table") ∷ start (codes "span") ∷ Text (codes "x") ∷ [])
-    ∷ (start (codes "b") ∷ start (codes "strike") ∷ Text (codes "1") ∷ end (codes "b") ∷ Text (codes "2") ∷ end (codes "strike") ∷ Text (codes "3") ∷ start (codes "li") ∷ start (codes "strike") ∷ start (codes "li") ∷ start (codes "ruby") ∷ start (codes "strike") ∷ start (codes "rt") ∷ end (codes "ruby") ∷ start (codes "table") ∷ start (codes "strike") ∷ Text (codes "x") ∷ [])
-    ∷ (start (codes "b") ∷ start (codes "strong") ∷ Text (codes "1") ∷ end (codes "b") ∷ Text (codes "2") ∷ end (codes "strong") ∷ Text (codes "3") ∷ start (codes "li") ∷ start (codes "strong") ∷ start (codes "li") ∷ start (codes "ruby") ∷ start (codes "strong") ∷ start (codes "rt") ∷ end (codes "ruby") ∷ start (codes "table") ∷ start (codes "strong") ∷ Text (codes "x") ∷ [])
-    ∷ (start (codes "b") ∷ start (codes "sub") ∷ Text (codes "1") ∷ end (codes "b") ∷ Text (codes "2") ∷ end (codes "sub") ∷ Text (codes "3") ∷ start (codes "li") ∷ start (codes "sub") ∷ start (codes "li") ∷ start (codes "ruby") ∷ start (codes "sub") ∷ start (codes "rt") ∷ end (codes "ruby") ∷ start (codes "table") ∷ start (codes "sub") ∷ Text (codes "x") ∷ [])
-    ∷ (start (codes "b") ∷ start (codes "summary") ∷ Text (codes "1") ∷ end (codes "b") ∷ Text (codes "2") ∷ end (codes "summary") ∷ Text (codes "3") ∷ start (codes "li") ∷ start (codes "summary") ∷ start (codes "li") ∷ start (codes "ruby") ∷ start (codes "summary") ∷ start (codes "rt") ∷ end (codes "ruby") ∷ start (codes "table") ∷ start (codes "summary") ∷ Text (codes "x") ∷ [])
+    (start (codes "p") ∷ start (codes "s") ∷ Text (codes "0") ∷ end (codes "p") ∷ start (codes "b") ∷ start (codes "s") ∷ Text (codes "1") ∷ end (codes "b") ∷ Text (codes "2") ∷ end (codes "s") ∷ Text (codes "3") ∷ start (codes "li") ∷ start (codes "s") ∷ start (codes "li") ∷ start (codes "ruby") ∷ start (codes "s") ∷ start (codes "rt") ∷ end (codes "ruby") ∷ start (codes "table") ∷ start (codes "s") ∷ Text (codes "x") ∷ [])
+    ∷ (start (codes "p") ∷ start (codes "samp") ∷ Text (codes "0") ∷ end (codes "p") ∷ start (codes "b") ∷ start (codes "samp") ∷ Text (codes "1") ∷ end (codes "b") ∷ Text (codes "2") ∷ end (codes "samp") ∷ Text (codes "3") ∷ start (codes "li") ∷ start (codes "samp") ∷ start (codes "li") ∷ start (codes "ruby") ∷ start (codes "samp") ∷ start (codes "rt") ∷ end (codes "ruby") ∷ start (codes "table") ∷ start (codes "samp") ∷ Text (codes "x") ∷ [])
+    ∷ (start (codes "p") ∷ start (codes "search") ∷ Text (codes "0") ∷ end (codes "p") ∷ start (codes "b") ∷ start (codes "search") ∷ Text (codes "1") ∷ end (codes "b") ∷ Text (codes "2") ∷ end (codes "search") ∷ Text (codes "3") ∷ start (codes "li") ∷ start (codes "search") ∷ start (codes "li") ∷ start (codes "ruby") ∷ start (codes "search") ∷ start (codes "rt") ∷ end (codes "ruby") ∷ start (codes "table") ∷ start (codes "search") ∷ Text (codes "x") ∷ [])
+    ∷ (start (codes "p") ∷ start (codes "section") ∷ Text (codes "0") ∷ end (codes "p") ∷ start (codes "b") ∷ start (codes "section") ∷ Text (codes "1") ∷ end (codes "b") ∷ Text (codes "2") ∷ end (codes "section") ∷ Text (codes "3") ∷ start (codes "li") ∷ start (codes "section") ∷ start (codes "li") ∷ start (codes "ruby") ∷ start (codes "section") ∷ start (codes "rt") ∷ end (codes "ruby") ∷ start (codes "table") ∷ start (codes "section") ∷ Text (codes "x") ∷ [])
+    ∷ (start (codes "p") ∷ start (codes "small") ∷ Text (codes "0") ∷ end (codes "p") ∷ start (codes "b") ∷ start (codes "small") ∷ Text (codes "1") ∷ end (codes "b") ∷ Text (codes "2") ∷ end (codes "small") ∷ Text (codes "3") ∷ start (codes "li") ∷ start (codes "small") ∷ start (codes "li") ∷ start (codes "ruby") ∷ start (codes "small") ∷ start (codes "rt") ∷ end (codes "ruby") ∷ start (codes "table") ∷ start (codes "small") ∷ Text (codes "x") ∷ [])
+    ∷ (start (codes "p") ∷ start (codes "span") ∷ Text (codes "0") ∷ end (codes "p") ∷ start (codes "b") ∷ start (codes "span") ∷ Text (codes "1") ∷ end (codes "b") ∷ Text (codes "2") ∷ end (codes "span") ∷ Text (codes "3") ∷ start (codes "li") ∷ start (codes "span") ∷ start (codes "li") ∷ start (codes "ruby") ∷ start (codes "span") ∷ start (codes "rt") ∷ end (codes "ruby") ∷ start (codes "table") ∷ start (codes "span") ∷ Text (codes "x") ∷ [])
+    ∷ (start (codes "p") ∷ start (codes "strike") ∷ Text (codes "0") ∷ end (codes "p") ∷ start (codes "b") ∷ start (codes "strike") ∷ Text (codes "1") ∷ end (codes "b") ∷ Text (codes "2") ∷ end (codes "strike") ∷ Text (codes "3") ∷ start (codes "li") ∷ start (codes "strike") ∷ start (codes "li") ∷ start (codes "ruby") ∷ start (codes "strike") ∷ start (codes "rt") ∷ end (codes "ruby") ∷ start (codes "table") ∷ start (codes "strike") ∷ Text (codes "x") ∷ [])
+    ∷ (start (codes "p") ∷ start (codes "strong") ∷ Text (codes "0") ∷ end (codes "p") ∷ start (codes "b") ∷ start (codes "strong") ∷ Text (codes "1") ∷ end (codes "b") ∷ Text (codes "2") ∷ end (codes "strong") ∷ Text (codes "3") ∷ start (codes "li") ∷ start (codes "strong") ∷ start (codes "li") ∷ start (codes "ruby") ∷ start (codes "strong") ∷ start (codes "rt") ∷ end (codes "ruby") ∷ start (codes "table") ∷ start (codes "strong") ∷ Text (codes "x") ∷ [])
+    ∷ (start (codes "p") ∷ start (codes "sub") ∷ Text (codes "0") ∷ end (codes "p") ∷ start (codes "b") ∷ start (codes "sub") ∷ Text (codes "1") ∷ end (codes "b") ∷ Text (codes "2") ∷ end (codes "sub") ∷ Text (codes "3") ∷ start (codes "li") ∷ start (codes "sub") ∷ start (codes "li") ∷ start (codes "ruby") ∷ start (codes "sub") ∷ start (codes "rt") ∷ end (codes "ruby") ∷ start (codes "table") ∷ start (codes "sub") ∷ Text (codes "x") ∷ [])
+    ∷ (start (codes "p") ∷ start (codes "summary") ∷ Text (codes "0") ∷ end (codes "p") ∷ start (codes "b") ∷ start (codes "summary") ∷ Text (codes "1") ∷ end (codes "b") ∷ Text (codes "2") ∷ end (codes "summary") ∷ Text (codes "3") ∷ start (codes "li") ∷ start (codes "summary") ∷ start (codes "li") ∷ start (codes "ruby") ∷ start (codes "summary") ∷ start (codes "rt") ∷ end (codes "ruby") ∷ start (codes "table") ∷ start (codes "summary") ∷ Text (codes "x") ∷ [])
     ∷ []
 
 names_7_answers : List Tree
 names_7_answers =
-    (Element (Element (Characters (Element (Element Nothing (codes "b") [] (Element Nothing (codes "s") [] (Characters Nothing (codes "1")))) (codes "s") [] (Characters Nothing (codes "2"))) (codes "3")) (codes "li") [] (Element Nothing (codes "s") [] Nothing)) (codes "li") [] (Element Nothing (codes "s") [] (Element (Element (Element Nothing (codes "ruby") [] (Element Nothing (codes "s") [] (Element Nothing (codes "rt") [] Nothing))) (codes "s") [] (Element Nothing (codes "s") [] (Characters Nothing (codes "x")))) (codes "table") [] Nothing)))
-    ∷ (Element (Element (Characters (Element Nothing (codes "b") [] (Element Nothing (codes "samp") [] (Characters Nothing (codes "1")))) (codes "23")) (codes "li") [] (Element Nothing (codes "samp") [] Nothing)) (codes "li") [] (Element (Element (Element Nothing (codes "ruby") [] (Element Nothing (codes "samp") [] (Element Nothing (codes "rt") [] Nothing))) (codes "samp") [] (Characters Nothing (codes "x"))) (codes "table") [] Nothing))
-    ∷ (Element (Characters (Element (Element Nothing (codes "b") [] Nothing) (codes "search") [] (Characters (Element Nothing (codes "b") [] (Characters Nothing (codes "1"))) (codes "2"))) (codes "3")) (codes "li") [] (Element Nothing (codes "search") [] (Element Nothing (codes "li") [] (Element Nothing (codes "ruby") [] (Element Nothing (codes "search") [] (Element Nothing (codes "rt") [] (Element (Element Nothing (codes "search") [] (Characters Nothing (codes "x"))) (codes "table") [] Nothing)))))))
-    ∷ (Element (Characters (Element (Element Nothing (codes "b") [] Nothing) (codes "section") [] (Characters (Element Nothing (codes "b") [] (Characters Nothing (codes "1"))) (codes "2"))) (codes "3")) (codes "li") [] (Element Nothing (codes "section") [] (Element Nothing (codes "li") [] (Element Nothing (codes "ruby") [] (Element Nothing (codes "section") [] (Element Nothing (codes "rt") [] (Element (Element Nothing (codes "section") [] (Characters Nothing (codes "x"))) (codes "table") [] Nothing)))))))
-    ∷ (Element (Element (Characters (Element (Element Nothing (codes "b") [] (Element Nothing (codes "small") [] (Characters Nothing (codes "1")))) (codes "small") [] (Characters Nothing (codes "2"))) (codes "3")) (codes "li") [] (Element Nothing (codes "small") [] Nothing)) (codes "li") [] (Element Nothing (codes "small") [] (Element (Element (Element Nothing (codes "ruby") [] (Element Nothing (codes "small") [] (Element Nothing (codes "rt") [] Nothing))) (codes "small") [] (Element Nothing (codes "small") [] (Characters Nothing (codes "x")))) (codes "table") [] Nothing)))
-    ∷ (Element (Element (Characters (Element Nothing (codes "b") [] (Element Nothing (codes "span") [] (Characters Nothing (codes "1")))) (codes "23")) (codes "li") [] (Element Nothing (codes "span") [] Nothing)) (codes "li") [] (Element (Element (Element Nothing (codes "ruby") [] (Element Nothing (codes "span") [] (Element Nothing (codes "rt") [] Nothing))) (codes "span") [] (Characters Nothing (codes "x"))) (codes "table") [] Nothing))
-    ∷ (Element (Element (Characters (Element (Element Nothing (codes "b") [] (Element Nothing (codes "strike") [] (Characters Nothing (codes "1")))) (codes "strike") [] (Characters Nothing (codes "2"))) (codes "3")) (codes "li") [] (Element Nothing (codes "strike") [] Nothing)) (codes "li") [] (Element Nothing (codes "strike") [] (Element (Element (Element Nothing (codes "ruby") [] (Element Nothing (codes "strike") [] (Element Nothing (codes "rt") [] Nothing))) (codes "strike") [] (Element Nothing (codes "strike") [] (Characters Nothing (codes "x")))) (codes "table") [] Nothing)))
-    ∷ (Element (Element (Characters (Element (Element Nothing (codes "b") [] (Element Nothing (codes "strong") [] (Characters Nothing (codes "1")))) (codes "strong") [] (Characters Nothing (codes "2"))) (codes "3")) (codes "li") [] (Element Nothing (codes "strong") [] Nothing)) (codes "li") [] (Element Nothing (codes "strong") [] (Element (Element (Element Nothing (codes "ruby") [] (Element Nothing (codes "strong") [] (Element Nothing (codes "rt") [] Nothing))) (codes "strong") [] (Element Nothing (codes "strong") [] (Characters Nothing (codes "x")))) (codes "table") [] Nothing)))
-    ∷ (Element (Element (Characters (Element Nothing (codes "b") [] (Element Nothing (codes "sub") [] (Characters Nothing (codes "1")))) (codes "23")) (codes "li") [] (Element Nothing (codes "sub") [] Nothing)) (codes "li") [] (Element (Element (Element Nothing (codes "ruby") [] (Element Nothing (codes "sub") [] (Element Nothing (codes "rt") [] Nothing))) (codes "sub") [] (Characters Nothing (codes "x"))) (codes "table") [] Nothing))
-    ∷ (Element (Characters (Element (Element Nothing (codes "b") [] Nothing) (codes "summary") [] (Characters (Element Nothing (codes "b") [] (Characters Nothing (codes "1"))) (codes "2"))) (codes "3")) (codes "li") [] (Element Nothing (codes "summary") [] (Element Nothing (codes "li") [] (Element Nothing (codes "ruby") [] (Element Nothing (codes "summary") [] (Element Nothing (codes "rt") [] (Element (Element Nothing (codes "summary") [] (Characters Nothing (codes "x"))) (codes "table") [] Nothing)))))))
+    (Element (Element Nothing (codes "p") [] (Element Nothing (codes "s") [] (Characters Nothing (codes "0")))) (codes "s") [] (Element (Element (Characters (Element (Element Nothing (codes "b") [] (Element Nothing (codes "s") [] (Characters Nothing (codes "1")))) (codes "s") [] (Characters Nothing (codes "2"))) (codes "3")) (codes "li") [] (Element Nothing (codes "s") [] Nothing)) (codes "li") [] (Element Nothing (codes "s") [] (Element (Element (Element Nothing (codes "ruby") [] (Element Nothing (codes "s") [] (Element Nothing (codes "rt") [] Nothing))) (codes "s") [] (Element Nothing (codes "s") [] (Characters Nothing (codes "x")))) (codes "table") [] Nothing))))
+    ∷ (Element (Element (Characters (Element (Element Nothing (codes "p") [] (Element Nothing (codes "samp") [] (Characters Nothing (codes "0")))) (codes "b") [] (Element Nothing (codes "samp") [] (Characters Nothing (codes "1")))) (codes "23")) (codes "li") [] (Element Nothing (codes "samp") [] Nothing)) (codes "li") [] (Element (Element (Element Nothing (codes "ruby") [] (Element Nothing (codes "samp") [] (Element Nothing (codes "rt") [] Nothing))) (codes "samp") [] (Characters Nothing (codes "x"))) (codes "table") [] Nothing))
+    ∷ (Element (Element Nothing (codes "p") [] Nothing) (codes "search") [] (Element (Characters (Element (Element (Element (Characters Nothing (codes "0")) (codes "p") [] Nothing) (codes "b") [] Nothing) (codes "search") [] (Characters (Element Nothing (codes "b") [] (Characters Nothing (codes "1"))) (codes "2"))) (codes "3")) (codes "li") [] (Element Nothing (codes "search") [] (Element Nothing (codes "li") [] (Element Nothing (codes "ruby") [] (Element Nothing (codes "search") [] (Element Nothing (codes "rt") [] (Element (Element Nothing (codes "search") [] (Characters Nothing (codes "x"))) (codes "table") [] Nothing))))))))
+    ∷ (Element (Element Nothing (codes "p") [] Nothing) (codes "section") [] (Element (Characters (Element (Element (Element (Characters Nothing (codes "0")) (codes "p") [] Nothing) (codes "b") [] Nothing) (codes "section") [] (Characters (Element Nothing (codes "b") [] (Characters Nothing (codes "1"))) (codes "2"))) (codes "3")) (codes "li") [] (Element Nothing (codes "section") [] (Element Nothing (codes "li") [] (Element Nothing (codes "ruby") [] (Element Nothing (codes "section") [] (Element Nothing (codes "rt") [] (Element (Element Nothing (codes "section") [] (Characters Nothing (codes "x"))) (codes "table") [] Nothing))))))))
+    ∷ (Element (Element Nothing (codes "p") [] (Element Nothing (codes "small") [] (Characters Nothing (codes "0")))) (codes "small") [] (Element (Element (Characters (Element (Element Nothing (codes "b") [] (Element Nothing (codes "small") [] (Characters Nothing (codes "1")))) (codes "small") [] (Characters Nothing (codes "2"))) (codes "3")) (codes "li") [] (Element Nothing (codes "small") [] Nothing)) (codes "li") [] (Element Nothing (codes "small") [] (Element (Element (Element Nothing (codes "ruby") [] (Element Nothing (codes "small") [] (Element Nothing (codes "rt") [] Nothing))) (codes "small") [] (Element Nothing (codes "small") [] (Characters Nothing (codes "x")))) (codes "table") [] Nothing))))
+    ∷ (Element (Element (Characters (Element (Element Nothing (codes "p") [] (Element Nothing (codes "span") [] (Characters Nothing (codes "0")))) (codes "b") [] (Element Nothing (codes "span") [] (Characters Nothing (codes "1")))) (codes "23")) (codes "li") [] (Element Nothing (codes "span") [] Nothing)) (codes "li") [] (Element (Element (Element Nothing (codes "ruby") [] (Element Nothing (codes "span") [] (Element Nothing (codes "rt") [] Nothing))) (codes "span") [] (Characters Nothing (codes "x"))) (codes "table") [] Nothing))
+    ∷ (Element (Element Nothing (codes "p") [] (Element Nothing (codes "strike") [] (Characters Nothing (codes "0")))) (codes "strike") [] (Element (Element (Characters (Element (Element Nothing (codes "b") [] (Element Nothing (codes "strike") [] (Characters Nothing (codes "1")))) (codes "strike") [] (Characters Nothing (codes "2"))) (codes "3")) (codes "li") [] (Element Nothing (codes "strike") [] Nothing)) (codes "li") [] (Element Nothing (codes "strike") [] (Element (Element (Element Nothing (codes "ruby") [] (Element Nothing (codes "strike") [] (Element Nothing (codes "rt") [] Nothing))) (codes "strike") [] (Element Nothing (codes "strike") [] (Characters Nothing (codes "x")))) (codes "table") [] Nothing))))
+    ∷ (Element (Element Nothing (codes "p") [] (Element Nothing (codes "strong") [] (Characters Nothing (codes "0")))) (codes "strong") [] (Element (Element (Characters (Element (Element Nothing (codes "b") [] (Element Nothing (codes "strong") [] (Characters Nothing (codes "1")))) (codes "strong") [] (Characters Nothing (codes "2"))) (codes "3")) (codes "li") [] (Element Nothing (codes "strong") [] Nothing)) (codes "li") [] (Element Nothing (codes "strong") [] (Element (Element (Element Nothing (codes "ruby") [] (Element Nothing (codes "strong") [] (Element Nothing (codes "rt") [] Nothing))) (codes "strong") [] (Element Nothing (codes "strong") [] (Characters Nothing (codes "x")))) (codes "table") [] Nothing))))
+    ∷ (Element (Element (Characters (Element (Element Nothing (codes "p") [] (Element Nothing (codes "sub") [] (Characters Nothing (codes "0")))) (codes "b") [] (Element Nothing (codes "sub") [] (Characters Nothing (codes "1")))) (codes "23")) (codes "li") [] (Element Nothing (codes "sub") [] Nothing)) (codes "li") [] (Element (Element (Element Nothing (codes "ruby") [] (Element Nothing (codes "sub") [] (Element Nothing (codes "rt") [] Nothing))) (codes "sub") [] (Characters Nothing (codes "x"))) (codes "table") [] Nothing))
+    ∷ (Element (Element Nothing (codes "p") [] Nothing) (codes "summary") [] (Element (Characters (Element (Element (Element (Characters Nothing (codes "0")) (codes "p") [] Nothing) (codes "b") [] Nothing) (codes "summary") [] (Characters (Element Nothing (codes "b") [] (Characters Nothing (codes "1"))) (codes "2"))) (codes "3")) (codes "li") [] (Element Nothing (codes "summary") [] (Element Nothing (codes "li") [] (Element Nothing (codes "ruby") [] (Element Nothing (codes "summary") [] (Element Nothing (codes "rt") [] (Element (Element Nothing (codes "summary") [] (Characters Nothing (codes "x"))) (codes "table") [] Nothing))))))))
     ∷ []
 
 names_7 : map tree_of names_7_items ≡ names_7_answers
@@ -783,30 +823,30 @@ names_7 = refl
 
 names_8_items : List (List Item)
 names_8_items =
-    (start (codes "b") ∷ start (codes "sup") ∷ Text (codes "1") ∷ end (codes "b") ∷ Text (codes "2") ∷ end (codes "sup") ∷ Text (codes "3") ∷ start (codes "li") ∷ start (codes "sup") ∷ start (codes "li") ∷ start (codes "ruby") ∷ start (codes "sup") ∷ start (codes "rt") ∷ end (codes "ruby") ∷ start (codes "table") ∷ start (codes "sup") ∷ Text (codes "x") ∷ [])
-    ∷ (start (codes "b") ∷ start (codes "table") ∷ Text (codes "1") ∷ end (codes "b") ∷ Text (codes "2") ∷ end (codes "table") ∷ Text (codes "3") ∷ start (codes "li") ∷ start (codes "table") ∷ start (codes "li") ∷ start (codes "ruby") ∷ start (codes "table") ∷ start (codes "rt") ∷ end (codes "ruby") ∷ start (codes "table") ∷ start (codes "table") ∷ Text (codes "x") ∷ [])
-    ∷ (start (codes "b") ∷ start (codes "tbody") ∷ Text (codes "1") ∷ end (codes "b") ∷ Text (codes "2") ∷ end (codes "tbody") ∷ Text (codes "3") ∷ start (codes "li") ∷ start (codes "tbody") ∷ start (codes "li") ∷ start (codes "ruby") ∷ start (codes "tbody") ∷ start (codes "rt") ∷ end (codes "ruby") ∷ start (codes "table") ∷ start (codes "tbody") ∷ Text (codes "x") ∷ [])
-    ∷ (start (codes "b") ∷ start (codes "td") ∷ Text (codes "1") ∷ end (codes "b") ∷ Text (codes "2") ∷ end (codes "td") ∷ Text (codes "3") ∷ start (codes "li") ∷ start (codes "td") ∷ start (codes "li") ∷ start (codes "ruby") ∷ start (codes "td") ∷ start (codes "rt") ∷ end (codes "ruby") ∷ start (codes "table") ∷ start (codes "td") ∷ Text (codes "x") ∷ [])
-    ∷ (start (codes "b") ∷ start (codes "tfoot") ∷ Text (codes "1") ∷ end (codes "b") ∷ Text (codes "2") ∷ end (codes "tfoot") ∷ Text (codes "3") ∷ start (codes "li") ∷ start (codes "tfoot") ∷ start (codes "li") ∷ start (codes "ruby") ∷ start (codes "tfoot") ∷ start (codes "rt") ∷ end (codes "ruby") ∷ start (codes "table") ∷ start (codes "tfoot") ∷ Text (codes "x") ∷ [])
-    ∷ (start (codes "b") ∷ start (codes "th") ∷ Text (codes "1") ∷ end (codes "b") ∷ Text (codes "2") ∷ end (codes "th") ∷ Text (codes "3") ∷ start (codes "li") ∷ start (codes "th") ∷ start (codes "li") ∷ start (codes "ruby") ∷ start (codes "th") ∷ start (codes "rt") ∷ end (codes "ruby") ∷ start (codes "table") ∷ start (codes "th") ∷ Text (codes "x") ∷ [])
-    ∷ (start (codes "b") ∷ start (codes "thead") ∷ Text (codes "1") ∷ end (codes "b") ∷ Text (codes "2") ∷ end (codes "thead") ∷ Text (codes "3") ∷ start (codes "li") ∷ start (codes "thead") ∷ start (codes "li") ∷ start (codes "ruby") ∷ start (codes "thead") ∷ start (codes "rt") ∷ end (codes "ruby") ∷ start (codes "table") ∷ start (codes "thead") ∷ Text (codes "x") ∷ [])
-    ∷ (start (codes "b") ∷ start (codes "time") ∷ Text (codes "1") ∷ end (codes "b") ∷ Text (codes "2") ∷ end (codes "time") ∷ Text (codes "3") ∷ start (codes "li") ∷ start (codes "time") ∷ start (codes "li") ∷ start (codes "ruby") ∷ start (codes "time") ∷ start (codes "rt") ∷ end (codes "ruby") ∷ start (codes "table") ∷ start (codes "time") ∷ Text (codes "x") ∷ [])
-    ∷ (start (codes "b") ∷ start (codes "tr") ∷ Text (codes "1") ∷ end (codes "b") ∷ Text (codes "2") ∷ end (codes "tr") ∷ Text (codes "3") ∷ start (codes "li") ∷ start (codes "tr") ∷ start (codes "li") ∷ start (codes "ruby") ∷ start (codes "tr") ∷ start (codes "rt") ∷ end (codes "ruby") ∷ start (codes "table") ∷ start (codes "tr") ∷ Text (codes "x") ∷ [])
-    ∷ (start (codes "b") ∷ start (codes "tt") ∷ Text (codes "1") ∷ end (codes "b") ∷ Text (codes "2") ∷ end (codes "tt") ∷ Text (codes "3") ∷ start (codes "li") ∷ start (codes "tt") ∷ start (codes "li") ∷ start (codes "ruby") ∷ start (codes "tt") ∷ start (codes "rt") ∷ end (codes "ruby") ∷ start (codes "table") ∷ start (codes "tt") ∷ Text (codes "x") ∷ [])
+    (start (codes "p") ∷ start (codes "sup") ∷ Text (codes "0") ∷ end (codes "p") ∷ start (codes "b") ∷ start (codes "sup") ∷ Text (codes "1") ∷ end (codes "b") ∷ Text (codes "2") ∷ end (codes "sup") ∷ Text (codes "3") ∷ start (codes "li") ∷ start (codes "sup") ∷ start (codes "li") ∷ start (codes "ruby") ∷ start (codes "sup") ∷ start (codes "rt") ∷ end (codes "ruby") ∷ start (codes "table") ∷ start (codes "sup") ∷ Text (codes "x") ∷ [])
+    ∷ (start (codes "p") ∷ start (codes "table") ∷ Text (codes "0") ∷ end (codes "p") ∷ start (codes "b") ∷ start (codes "table") ∷ Text (codes "1") ∷ end (codes "b") ∷ Text (codes "2") ∷ end (codes "table") ∷ Text (codes "3") ∷ start (codes "li") ∷ start (codes "table") ∷ start (codes "li") ∷ start (codes "ruby") ∷ start (codes "table") ∷ start (codes "rt") ∷ end (codes "ruby") ∷ start (codes "table") ∷ start (codes "table") ∷ Text (codes "x") ∷ [])
+    ∷ (start (codes "p") ∷ start (codes "tbody") ∷ Text (codes "0") ∷ end (codes "p") ∷ start (codes "b") ∷ start (codes "tbody") ∷ Text (codes "1") ∷ end (codes "b") ∷ Text (codes "2") ∷ end (codes "tbody") ∷ Text (codes "3") ∷ start (codes "li") ∷ start (codes "tbody") ∷ start (codes "li") ∷ start (codes "ruby") ∷ start (codes "tbody") ∷ start (codes "rt") ∷ end (codes "ruby") ∷ start (codes "table") ∷ start (codes "tbody") ∷ Text (codes "x") ∷ [])
+    ∷ (start (codes "p") ∷ start (codes "td") ∷ Text (codes "0") ∷ end (codes "p") ∷ start (codes "b") ∷ start (codes "td") ∷ Text (codes "1") ∷ end (codes "b") ∷ Text (codes "2") ∷ end (codes "td") ∷ Text (codes "3") ∷ start (codes "li") ∷ start (codes "td") ∷ start (codes "li") ∷ start (codes "ruby") ∷ start (codes "td") ∷ start (codes "rt") ∷ end (codes "ruby") ∷ start (codes "table") ∷ start (codes "td") ∷ Text (codes "x") ∷ [])
+    ∷ (start (codes "p") ∷ start (codes "tfoot") ∷ Text (codes "0") ∷ end (codes "p") ∷ start (codes "b") ∷ start (codes "tfoot") ∷ Text (codes "1") ∷ end (codes "b") ∷ Text (codes "2") ∷ end (codes "tfoot") ∷ Text (codes "3") ∷ start (codes "li") ∷ start (codes "tfoot") ∷ start (codes "li") ∷ start (codes "ruby") ∷ start (codes "tfoot") ∷ start (codes "rt") ∷ end (codes "ruby") ∷ start (codes "table") ∷ start (codes "tfoot") ∷ Text (codes "x") ∷ [])
+    ∷ (start (codes "p") ∷ start (codes "th") ∷ Text (codes "0") ∷ end (codes "p") ∷ start (codes "b") ∷ start (codes "th") ∷ Text (codes "1") ∷ end (codes "b") ∷ Text (codes "2") ∷ end (codes "th") ∷ Text (codes "3") ∷ start (codes "li") ∷ start (codes "th") ∷ start (codes "li") ∷ start (codes "ruby") ∷ start (codes "th") ∷ start (codes "rt") ∷ end (codes "ruby") ∷ start (codes "table") ∷ start (codes "th") ∷ Text (codes "x") ∷ [])
+    ∷ (start (codes "p") ∷ start (codes "thead") ∷ Text (codes "0") ∷ end (codes "p") ∷ start (codes "b") ∷ start (codes "thead") ∷ Text (codes "1") ∷ end (codes "b") ∷ Text (codes "2") ∷ end (codes "thead") ∷ Text (codes "3") ∷ start (codes "li") ∷ start (codes "thead") ∷ start (codes "li") ∷ start (codes "ruby") ∷ start (codes "thead") ∷ start (codes "rt") ∷ end (codes "ruby") ∷ start (codes "table") ∷ start (codes "thead") ∷ Text (codes "x") ∷ [])
+    ∷ (start (codes "p") ∷ start (codes "time") ∷ Text (codes "0") ∷ end (codes "p") ∷ start (codes "b") ∷ start (codes "time") ∷ Text (codes "1") ∷ end (codes "b") ∷ Text (codes "2") ∷ end (codes "time") ∷ Text (codes "3") ∷ start (codes "li") ∷ start (codes "time") ∷ start (codes "li") ∷ start (codes "ruby") ∷ start (codes "time") ∷ start (codes "rt") ∷ end (codes "ruby") ∷ start (codes "table") ∷ start (codes "time") ∷ Text (codes "x") ∷ [])
+    ∷ (start (codes "p") ∷ start (codes "tr") ∷ Text (codes "0") ∷ end (codes "p") ∷ start (codes "b") ∷ start (codes "tr") ∷ Text (codes "1") ∷ end (codes "b") ∷ Text (codes "2") ∷ end (codes "tr") ∷ Text (codes "3") ∷ start (codes "li") ∷ start (codes "tr") ∷ start (codes "li") ∷ start (codes "ruby") ∷ start (codes "tr") ∷ start (codes "rt") ∷ end (codes "ruby") ∷ start (codes "table") ∷ start (codes "tr") ∷ Text (codes "x") ∷ [])
+    ∷ (start (codes "p") ∷ start (codes "tt") ∷ Text (codes "0") ∷ end (codes "p") ∷ start (codes "b") ∷ start (codes "tt") ∷ Text (codes "1") ∷ end (codes "b") ∷ Text (codes "2") ∷ end (codes "tt") ∷ Text (codes "3") ∷ start (codes "li") ∷ start (codes "tt") ∷ start (codes "li") ∷ start (codes "ruby") ∷ start (codes "tt") ∷ start (codes "rt") ∷ end (codes "ruby") ∷ start (codes "table") ∷ start (codes "tt") ∷ Text (codes "x") ∷ [])
     ∷ []
 
 names_8_answers : List Tree
 names_8_answers =
-    (Element (Element (Characters (Element Nothing (codes "b") [] (Element Nothing (codes "sup") [] (Characters Nothing (codes "1")))) (codes "23")) (codes "li") [] (Element Nothing (codes "sup") [] Nothing)) (codes "li") [] (Element (Element (Element Nothing (codes "ruby") [] (Element Nothing (codes "sup") [] (Element Nothing (codes "rt") [] Nothing))) (codes "sup") [] (Characters Nothing (codes "x"))) (codes "table") [] Nothing))
-    ∷ (Element Nothing (codes "b") [] (Element (Characters (Element (Characters Nothing (codes "12")) (codes "table") [] Nothing) (codes "3")) (codes "li") [] (Element (Characters (Element (Element (Element (Element (Element Nothing (codes "li") [] (Element Nothing (codes "ruby") [] Nothing)) (codes "table") [] Nothing) (codes "rt") [] Nothing) (codes "table") [] Nothing) (codes "table") [] Nothing) (codes "x")) (codes "table") [] Nothing)))
-    ∷ (Element (Element (Characters (Element Nothing (codes "b") [] (Characters Nothing (codes "1"))) (codes "23")) (codes "li") [] Nothing) (codes "li") [] (Element (Characters (Element Nothing (codes "ruby") [] (Element Nothing (codes "rt") [] Nothing)) (codes "x")) (codes "table") [] (Element Nothing (codes "tbody") [] Nothing)))
-    ∷ (Element (Element (Characters (Element Nothing (codes "b") [] (Characters Nothing (codes "1"))) (codes "23")) (codes "li") [] Nothing) (codes "li") [] (Element (Element Nothing (codes "ruby") [] (Element Nothing (codes "rt") [] Nothing)) (codes "table") [] (Element Nothing (codes "tbody") [] (Element Nothing (codes "tr") [] (Element Nothing (codes "td") [] (Characters Nothing (codes "x")))))))
-    ∷ (Element (Element (Characters (Element Nothing (codes "b") [] (Characters Nothing (codes "1"))) (codes "23")) (codes "li") [] Nothing) (codes "li") [] (Element (Characters (Element Nothing (codes "ruby") [] (Element Nothing (codes "rt") [] Nothing)) (codes "x")) (codes "table") [] (Element Nothing (codes "tfoot") [] Nothing)))
-    ∷ (Element (Element (Characters (Element Nothing (codes "b") [] (Characters Nothing (codes "1"))) (codes "23")) (codes "li") [] Nothing) (codes "li") [] (Element (Element Nothing (codes "ruby") [] (Element Nothing (codes "rt") [] Nothing)) (codes "table") [] (Element Nothing (codes "tbody") [] (Element Nothing (codes "tr") [] (Element Nothing (codes "th") [] (Characters Nothing (codes "x")))))))
-    ∷ (Element (Element (Characters (Element Nothing (codes "b") [] (Characters Nothing (codes "1"))) (codes "23")) (codes "li") [] Nothing) (codes "li") [] (Element (Characters (Element Nothing (codes "ruby") [] (Element Nothing (codes "rt") [] Nothing)) (codes "x")) (codes "table") [] (Element Nothing (codes "thead") [] Nothing)))
-    ∷ (Element (Element (Characters (Element Nothing (codes "b") [] (Element Nothing (codes "time") [] (Characters Nothing (codes "1")))) (codes "23")) (codes "li") [] (Element Nothing (codes "time") [] Nothing)) (codes "li") [] (Element (Element (Element Nothing (codes "ruby") [] (Element Nothing (codes "time") [] (Element Nothing (codes "rt") [] Nothing))) (codes "time") [] (Characters Nothing (codes "x"))) (codes "table") [] Nothing))
-    ∷ (Element (Element (Characters (Element Nothing (codes "b") [] (Characters Nothing (codes "1"))) (codes "23")) (codes "li") [] Nothing) (codes "li") [] (Element (Characters (Element Nothing (codes "ruby") [] (Element Nothing (codes "rt") [] Nothing)) (codes "x")) (codes "table") [] (Element Nothing (codes "tbody") [] (Element Nothing (codes "tr") [] Nothing))))
-    ∷ (Element (Element (Characters (Element (Element Nothing (codes "b") [] (Element Nothing (codes "tt") [] (Characters Nothing (codes "1")))) (codes "tt") [] (Characters Nothing (codes "2"))) (codes "3")) (codes "li") [] (Element Nothing (codes "tt") [] Nothing)) (codes "li") [] (Element Nothing (codes "tt") [] (Element (Element (Element Nothing (codes "ruby") [] (Element Nothing (codes "tt") [] (Element Nothing (codes "rt") [] Nothing))) (codes "tt") [] (Element Nothing (codes "tt") [] (Characters Nothing (codes "x")))) (codes "table") [] Nothing)))
+    (Element (Element (Characters (Element (Element Nothing (codes "p") [] (Element Nothing (codes "sup") [] (Characters Nothing (codes "0")))) (codes "b") [] (Element Nothing (codes "sup") [] (Characters Nothing (codes "1")))) (codes "23")) (codes "li") [] (Element Nothing (codes "sup") [] Nothing)) (codes "li") [] (Element (Element (Element Nothing (codes "ruby") [] (Element Nothing (codes "sup") [] (Element Nothing (codes "rt") [] Nothing))) (codes "sup") [] (Characters Nothing (codes "x"))) (codes "table") [] Nothing))
+    ∷ (Element (Characters (Element (Characters (Element (Element (Element (Element (Characters (Element Nothing (codes "p") [] Nothing) (codes "0")) (codes "p") [] Nothing) (codes "b") [] Nothing) (codes "table") [] Nothing) (codes "b") [] (Characters Nothing (codes "1"))) (codes "2")) (codes "table") [] Nothing) (codes "3")) (codes "li") [] (Element (Characters (Element (Element (Element (Element (Element Nothing (codes "li") [] (Element Nothing (codes "ruby") [] Nothing)) (codes "table") [] Nothing) (codes "rt") [] Nothing) (codes "table") [] Nothing) (codes "table") [] Nothing) (codes "x")) (codes "table") [] Nothing))
+    ∷ (Element (Element (Characters (Element (Element Nothing (codes "p") [] (Characters Nothing (codes "0"))) (codes "b") [] (Characters Nothing (codes "1"))) (codes "23")) (codes "li") [] Nothing) (codes "li") [] (Element (Characters (Element Nothing (codes "ruby") [] (Element Nothing (codes "rt") [] Nothing)) (codes "x")) (codes "table") [] (Element Nothing (codes "tbody") [] Nothing)))
+    ∷ (Element (Element (Characters (Element (Element Nothing (codes "p") [] (Characters Nothing (codes "0"))) (codes "b") [] (Characters Nothing (codes "1"))) (codes "23")) (codes "li") [] Nothing) (codes "li") [] (Element (Element Nothing (codes "ruby") [] (Element Nothing (codes "rt") [] Nothing)) (codes "table") [] (Element Nothing (codes "tbody") [] (Element Nothing (codes "tr") [] (Element Nothing (codes "td") [] (Characters Nothing (codes "x")))))))
+    ∷ (Element (Element (Characters (Element (Element Nothing (codes "p") [] (Characters Nothing (codes "0"))) (codes "b") [] (Characters Nothing (codes "1"))) (codes "23")) (codes "li") [] Nothing) (codes "li") [] (Element (Characters (Element Nothing (codes "ruby") [] (Element Nothing (codes "rt") [] Nothing)) (codes "x")) (codes "table") [] (Element Nothing (codes "tfoot") [] Nothing)))
+    ∷ (Element (Element (Characters (Element (Element Nothing (codes "p") [] (Characters Nothing (codes "0"))) (codes "b") [] (Characters Nothing (codes "1"))) (codes "23")) (codes "li") [] Nothing) (codes "li") [] (Element (Element Nothing (codes "ruby") [] (Element Nothing (codes "rt") [] Nothing)) (codes "table") [] (Element Nothing (codes "tbody") [] (Element Nothing (codes "tr") [] (Element Nothing (codes "th") [] (Characters Nothing (codes "x")))))))
+    ∷ (Element (Element (Characters (Element (Element Nothing (codes "p") [] (Characters Nothing (codes "0"))) (codes "b") [] (Characters Nothing (codes "1"))) (codes "23")) (codes "li") [] Nothing) (codes "li") [] (Element (Characters (Element Nothing (codes "ruby") [] (Element Nothing (codes "rt") [] Nothing)) (codes "x")) (codes "table") [] (Element Nothing (codes "thead") [] Nothing)))
+    ∷ (Element (Element (Characters (Element (Element Nothing (codes "p") [] (Element Nothing (codes "time") [] (Characters Nothing (codes "0")))) (codes "b") [] (Element Nothing (codes "time") [] (Characters Nothing (codes "1")))) (codes "23")) (codes "li") [] (Element Nothing (codes "time") [] Nothing)) (codes "li") [] (Element (Element (Element Nothing (codes "ruby") [] (Element Nothing (codes "time") [] (Element Nothing (codes "rt") [] Nothing))) (codes "time") [] (Characters Nothing (codes "x"))) (codes "table") [] Nothing))
+    ∷ (Element (Element (Characters (Element (Element Nothing (codes "p") [] (Characters Nothing (codes "0"))) (codes "b") [] (Characters Nothing (codes "1"))) (codes "23")) (codes "li") [] Nothing) (codes "li") [] (Element (Characters (Element Nothing (codes "ruby") [] (Element Nothing (codes "rt") [] Nothing)) (codes "x")) (codes "table") [] (Element Nothing (codes "tbody") [] (Element Nothing (codes "tr") [] Nothing))))
+    ∷ (Element (Element Nothing (codes "p") [] (Element Nothing (codes "tt") [] (Characters Nothing (codes "0")))) (codes "tt") [] (Element (Element (Characters (Element (Element Nothing (codes "b") [] (Element Nothing (codes "tt") [] (Characters Nothing (codes "1")))) (codes "tt") [] (Characters Nothing (codes "2"))) (codes "3")) (codes "li") [] (Element Nothing (codes "tt") [] Nothing)) (codes "li") [] (Element Nothing (codes "tt") [] (Element (Element (Element Nothing (codes "ruby") [] (Element Nothing (codes "tt") [] (Element Nothing (codes "rt") [] Nothing))) (codes "tt") [] (Element Nothing (codes "tt") [] (Characters Nothing (codes "x")))) (codes "table") [] Nothing))))
     ∷ []
 
 names_8 : map tree_of names_8_items ≡ names_8_answers
@@ -815,18 +855,18 @@ names_8 = refl
 
 names_9_items : List (List Item)
 names_9_items =
-    (start (codes "b") ∷ start (codes "u") ∷ Text (codes "1") ∷ end (codes "b") ∷ Text (codes "2") ∷ end (codes "u") ∷ Text (codes "3") ∷ start (codes "li") ∷ start (codes "u") ∷ start (codes "li") ∷ start (codes "ruby") ∷ start (codes "u") ∷ start (codes "rt") ∷ end (codes "ruby") ∷ start (codes "table") ∷ start (codes "u") ∷ Text (codes "x") ∷ [])
-    ∷ (start (codes "b") ∷ start (codes "ul") ∷ Text (codes "1") ∷ end (codes "b") ∷ Text (codes "2") ∷ end (codes "ul") ∷ Text (codes "3") ∷ start (codes "li") ∷ start (codes "ul") ∷ start (codes "li") ∷ start (codes "ruby") ∷ start (codes "ul") ∷ start (codes "rt") ∷ end (codes "ruby") ∷ start (codes "table") ∷ start (codes "ul") ∷ Text (codes "x") ∷ [])
-    ∷ (start (codes "b") ∷ start (codes "var") ∷ Text (codes "1") ∷ end (codes "b") ∷ Text (codes "2") ∷ end (codes "var") ∷ Text (codes "3") ∷ start (codes "li") ∷ start (codes "var") ∷ start (codes "li") ∷ start (codes "ruby") ∷ start (codes "var") ∷ start (codes "rt") ∷ end (codes "ruby") ∷ start (codes "table") ∷ start (codes "var") ∷ Text (codes "x") ∷ [])
-    ∷ (start (codes "b") ∷ start (codes "wbr") ∷ Text (codes "1") ∷ end (codes "b") ∷ Text (codes "2") ∷ end (codes "wbr") ∷ Text (codes "3") ∷ start (codes "li") ∷ start (codes "wbr") ∷ start (codes "li") ∷ start (codes "ruby") ∷ start (codes "wbr") ∷ start (codes "rt") ∷ end (codes "ruby") ∷ start (codes "table") ∷ start (codes "wbr") ∷ Text (codes "x") ∷ [])
+    (start (codes "p") ∷ start (codes "u") ∷ Text (codes "0") ∷ end (codes "p") ∷ start (codes "b") ∷ start (codes "u") ∷ Text (codes "1") ∷ end (codes "b") ∷ Text (codes "2") ∷ end (codes "u") ∷ Text (codes "3") ∷ start (codes "li") ∷ start (codes "u") ∷ start (codes "li") ∷ start (codes "ruby") ∷ start (codes "u") ∷ start (codes "rt") ∷ end (codes "ruby") ∷ start (codes "table") ∷ start (codes "u") ∷ Text (codes "x") ∷ [])
+    ∷ (start (codes "p") ∷ start (codes "ul") ∷ Text (codes "0") ∷ end (codes "p") ∷ start (codes "b") ∷ start (codes "ul") ∷ Text (codes "1") ∷ end (codes "b") ∷ Text (codes "2") ∷ end (codes "ul") ∷ Text (codes "3") ∷ start (codes "li") ∷ start (codes "ul") ∷ start (codes "li") ∷ start (codes "ruby") ∷ start (codes "ul") ∷ start (codes "rt") ∷ end (codes "ruby") ∷ start (codes "table") ∷ start (codes "ul") ∷ Text (codes "x") ∷ [])
+    ∷ (start (codes "p") ∷ start (codes "var") ∷ Text (codes "0") ∷ end (codes "p") ∷ start (codes "b") ∷ start (codes "var") ∷ Text (codes "1") ∷ end (codes "b") ∷ Text (codes "2") ∷ end (codes "var") ∷ Text (codes "3") ∷ start (codes "li") ∷ start (codes "var") ∷ start (codes "li") ∷ start (codes "ruby") ∷ start (codes "var") ∷ start (codes "rt") ∷ end (codes "ruby") ∷ start (codes "table") ∷ start (codes "var") ∷ Text (codes "x") ∷ [])
+    ∷ (start (codes "p") ∷ start (codes "wbr") ∷ Text (codes "0") ∷ end (codes "p") ∷ start (codes "b") ∷ start (codes "wbr") ∷ Text (codes "1") ∷ end (codes "b") ∷ Text (codes "2") ∷ end (codes "wbr") ∷ Text (codes "3") ∷ start (codes "li") ∷ start (codes "wbr") ∷ start (codes "li") ∷ start (codes "ruby") ∷ start (codes "wbr") ∷ start (codes "rt") ∷ end (codes "ruby") ∷ start (codes "table") ∷ start (codes "wbr") ∷ Text (codes "x") ∷ [])
     ∷ []
 
 names_9_answers : List Tree
 names_9_answers =
-    (Element (Element (Characters (Element (Element Nothing (codes "b") [] (Element Nothing (codes "u") [] (Characters Nothing (codes "1")))) (codes "u") [] (Characters Nothing (codes "2"))) (codes "3")) (codes "li") [] (Element Nothing (codes "u") [] Nothing)) (codes "li") [] (Element Nothing (codes "u") [] (Element (Element (Element Nothing (codes "ruby") [] (Element Nothing (codes "u") [] (Element Nothing (codes "rt") [] Nothing))) (codes "u") [] (Element Nothing (codes "u") [] (Characters Nothing (codes "x")))) (codes "table") [] Nothing)))
-    ∷ (Element (Characters (Element (Element Nothing (codes "b") [] Nothing) (codes "ul") [] (Characters (Element Nothing (codes "b") [] (Characters Nothing (codes "1"))) (codes "2"))) (codes "3")) (codes "li") [] (Element Nothing (codes "ul") [] (Element Nothing (codes "li") [] (Element Nothing (codes "ruby") [] (Element Nothing (codes "ul") [] (Element Nothing (codes "rt") [] (Element (Element Nothing (codes "ul") [] (Characters Nothing (codes "x"))) (codes "table") [] Nothing)))))))
-    ∷ (Element (Element (Characters (Element Nothing (codes "b") [] (Element Nothing (codes "var") [] (Characters Nothing (codes "1")))) (codes "23")) (codes "li") [] (Element Nothing (codes "var") [] Nothing)) (codes "li") [] (Element (Element (Element Nothing (codes "ruby") [] (Element Nothing (codes "var") [] (Element Nothing (codes "rt") [] Nothing))) (codes "var") [] (Characters Nothing (codes "x"))) (codes "table") [] Nothing))
-    ∷ (Element (Element (Characters (Element Nothing (codes "b") [] (Characters (Element Nothing (codes "wbr") [] Nothing) (codes "1"))) (codes "23")) (codes "li") [] (Element Nothing (codes "wbr") [] Nothing)) (codes "li") [] (Element (Characters (Element (Element Nothing (codes "ruby") [] (Element (Element Nothing (codes "wbr") [] Nothing) (codes "rt") [] Nothing)) (codes "wbr") [] Nothing) (codes "x")) (codes "table") [] Nothing))
+    (Element (Element Nothing (codes "p") [] (Element Nothing (codes "u") [] (Characters Nothing (codes "0")))) (codes "u") [] (Element (Element (Characters (Element (Element Nothing (codes "b") [] (Element Nothing (codes "u") [] (Characters Nothing (codes "1")))) (codes "u") [] (Characters Nothing (codes "2"))) (codes "3")) (codes "li") [] (Element Nothing (codes "u") [] Nothing)) (codes "li") [] (Element Nothing (codes "u") [] (Element (Element (Element Nothing (codes "ruby") [] (Element Nothing (codes "u") [] (Element Nothing (codes "rt") [] Nothing))) (codes "u") [] (Element Nothing (codes "u") [] (Characters Nothing (codes "x")))) (codes "table") [] Nothing))))
+    ∷ (Element (Element Nothing (codes "p") [] Nothing) (codes "ul") [] (Element (Characters (Element (Element (Element (Characters Nothing (codes "0")) (codes "p") [] Nothing) (codes "b") [] Nothing) (codes "ul") [] (Characters (Element Nothing (codes "b") [] (Characters Nothing (codes "1"))) (codes "2"))) (codes "3")) (codes "li") [] (Element Nothing (codes "ul") [] (Element Nothing (codes "li") [] (Element Nothing (codes "ruby") [] (Element Nothing (codes "ul") [] (Element Nothing (codes "rt") [] (Element (Element Nothing (codes "ul") [] (Characters Nothing (codes "x"))) (codes "table") [] Nothing))))))))
+    ∷ (Element (Element (Characters (Element (Element Nothing (codes "p") [] (Element Nothing (codes "var") [] (Characters Nothing (codes "0")))) (codes "b") [] (Element Nothing (codes "var") [] (Characters Nothing (codes "1")))) (codes "23")) (codes "li") [] (Element Nothing (codes "var") [] Nothing)) (codes "li") [] (Element (Element (Element Nothing (codes "ruby") [] (Element Nothing (codes "var") [] (Element Nothing (codes "rt") [] Nothing))) (codes "var") [] (Characters Nothing (codes "x"))) (codes "table") [] Nothing))
+    ∷ (Element (Element (Characters (Element (Element Nothing (codes "p") [] (Characters (Element Nothing (codes "wbr") [] Nothing) (codes "0"))) (codes "b") [] (Characters (Element Nothing (codes "wbr") [] Nothing) (codes "1"))) (codes "23")) (codes "li") [] (Element Nothing (codes "wbr") [] Nothing)) (codes "li") [] (Element (Characters (Element (Element Nothing (codes "ruby") [] (Element (Element Nothing (codes "wbr") [] Nothing) (codes "rt") [] Nothing)) (codes "wbr") [] Nothing) (codes "x")) (codes "table") [] Nothing))
     ∷ []
 
 names_9 : map tree_of names_9_items ≡ names_9_answers
