@@ -91,6 +91,9 @@ CHOSEN = [
     "<table><caption><b>x</caption></table>z",
     "<b><span><b><b><b></b></b></b></b>x",
     "<a><table><tr><td><a>x</td></tr></table>y",
+    "<table><b type=hidden>x",
+    "<table><tr></tr><i><tr>",
+    "<table><p><b></p><p> ",
 ]
 # An input that tells the kind of a name, which stands for NAME.
 BY_NAME = "<p><NAME>0</p><b><NAME>1</b>2</NAME>3<li><NAME><li><ruby><NAME><rt></ruby><table><NAME>x"
