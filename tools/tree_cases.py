@@ -2,7 +2,7 @@
 
     python3 tools/tree_cases.py > crates/html5tree/proofs/RandomCases.antt
     python3 tools/tree_cases.py --check            # says whether the file is what this script makes
-    python3 tools/tree_cases.py --try 20000        # compares, in the model, trees of items that fit with their nesting
+    python3 tools/tree_cases.py --try 20000        # compares, in the model, trees of random items with their nesting
 
 A case is items, and the tree that `tools/model/tree.py` builds of them, or whether all fit from no open elements. The
 prover computes both by the crate's definitions, so it says whether they and the model agree.
@@ -91,6 +91,7 @@ CHOSEN = [
     "<table><caption><b>x</caption></table>z",
     "<b><span><b><b><b></b></b></b></b>x",
     "<a><table><tr><td><a>x</td></tr></table>y",
+    "<b><i><div><div><div><div><div><div><div><div><u></b></div>x",
     "<table><b type=hidden>x",
     "<table><tr></tr><i><tr>",
     "<table><p><b></p><p> ",
@@ -191,6 +192,17 @@ class Maker:
             items += [End(name) for name in closed]
             items.append(Text(self.choices.choice("xy")))
         return items
+
+    def balanced_items(self):
+        """Items of which each end tag closes the innermost element, and which may fit or not."""
+        items = []
+        for _ in range(self.choices.randrange(2, 12)):
+            item = self.item()
+            if isinstance(item, End):
+                item = End(self.opened[-1]) if self.opened else Text("x")
+            items.append(item)
+            self.note(item)
+        return items + [End(name) for name in reversed(self.opened)]
 
     def fitting_items(self):
         """Items of which most fit; all elements are closed at the end."""
@@ -312,16 +324,21 @@ def proofs() -> str:
     return "\n".join(parts)
 
 
+def is_built_as_nested(items) -> bool:
+    return tree.shown(tree.tree_of(items)) == tree.shown(tree.nesting(items))
+
+
 def try_cases(number: int):
-    """Items that all fit, and keep their newlines, are built as they are nested."""
-    tried = 0
-    for at in range(number):
-        items = Maker(f"try {at}").fitting_items()
-        if tree.all_fit(items) and tree.keeps_newlines(items):
-            tried += 1
-            if tree.shown(tree.tree_of(items)) != tree.shown(tree.nesting(items)):
-                sys.exit(f"built otherwise than nested: {items}")
-    print(f"{tried} of {number} cases fit: each is built as it is nested")
+    """Of items that keep their newlines: that those which fit are built as they are nested, and how many of the others are."""
+    made = [Maker(f"try {at}") for at in range(number)]
+    several = [it.fitting_items() if at % 2 == 0 else it.balanced_items() for at, it in enumerate(made)]
+    fitting = [items for items in several if tree.all_fit(items) and tree.keeps_newlines(items)]
+    for items in fitting:
+        if not is_built_as_nested(items):
+            sys.exit(f"this fits, and is built otherwise than nested: {items}")
+    others = [items for items in several[1::2] if not tree.all_fit(items) and tree.keeps_newlines(items)]
+    nested = sum(map(is_built_as_nested, others))
+    print(f"{len(fitting)} fit, and are built as they are nested; of {len(others)} that are balanced and don't fit, {nested} are")
 
 
 def main():

@@ -544,7 +544,7 @@ chosen_4_items =
     ∷ (start (codes "table") ∷ start (codes "caption") ∷ start (codes "b") ∷ Text (codes "x") ∷ end (codes "caption") ∷ end (codes "table") ∷ Text (codes "z") ∷ [])
     ∷ (start (codes "b") ∷ start (codes "span") ∷ start (codes "b") ∷ start (codes "b") ∷ start (codes "b") ∷ end (codes "b") ∷ end (codes "b") ∷ end (codes "b") ∷ end (codes "b") ∷ Text (codes "x") ∷ [])
     ∷ (start (codes "a") ∷ start (codes "table") ∷ start (codes "tr") ∷ start (codes "td") ∷ start (codes "a") ∷ Text (codes "x") ∷ end (codes "td") ∷ end (codes "tr") ∷ end (codes "table") ∷ Text (codes "y") ∷ [])
-    ∷ (start (codes "table") ∷ StartTag (codes "b") (attribute (codes "type") (codes "hidden") ∷ []) ∷ Text (codes "x") ∷ [])
+    ∷ (start (codes "b") ∷ start (codes "i") ∷ start (codes "div") ∷ start (codes "div") ∷ start (codes "div") ∷ start (codes "div") ∷ start (codes "div") ∷ start (codes "div") ∷ start (codes "div") ∷ start (codes "div") ∷ start (codes "u") ∷ end (codes "b") ∷ end (codes "div") ∷ Text (codes "x") ∷ [])
     ∷ []
 
 chosen_4_answers : List Tree
@@ -558,7 +558,7 @@ chosen_4_answers =
     ∷ (Characters (Element Nothing (codes "table") [] (Element Nothing (codes "caption") [] (Element Nothing (codes "b") [] (Characters Nothing (codes "x"))))) (codes "z"))
     ∷ (Characters (Element Nothing (codes "b") [] (Element Nothing (codes "span") [] (Element Nothing (codes "b") [] (Element Nothing (codes "b") [] (Element Nothing (codes "b") [] Nothing))))) (codes "x"))
     ∷ (Element Nothing (codes "a") [] (Characters (Element Nothing (codes "table") [] (Element Nothing (codes "tbody") [] (Element Nothing (codes "tr") [] (Element Nothing (codes "td") [] (Element Nothing (codes "a") [] (Characters Nothing (codes "x"))))))) (codes "y")))
-    ∷ (Element (Element Nothing (codes "b") (attribute (codes "type") (codes "hidden") ∷ []) (Characters Nothing (codes "x"))) (codes "table") [] Nothing)
+    ∷ (Element (Element Nothing (codes "b") [] (Element Nothing (codes "i") [] Nothing)) (codes "i") [] (Element Nothing (codes "div") [] (Element (Element Nothing (codes "b") [] Nothing) (codes "div") [] (Element (Element Nothing (codes "b") [] Nothing) (codes "div") [] (Element (Element Nothing (codes "b") [] Nothing) (codes "div") [] (Element (Element Nothing (codes "b") [] Nothing) (codes "div") [] (Element (Element Nothing (codes "b") [] Nothing) (codes "div") [] (Element (Element Nothing (codes "b") [] Nothing) (codes "div") [] (Element (Element (Element Nothing (codes "b") [] Nothing) (codes "div") [] (Element Nothing (codes "b") [] (Element Nothing (codes "u") [] Nothing))) (codes "b") [] (Element Nothing (codes "u") [] (Characters Nothing (codes "x"))))))))))))
     ∷ []
 
 chosen_4 : map tree_of chosen_4_items ≡ chosen_4_answers
@@ -567,13 +567,15 @@ chosen_4 = refl
 
 chosen_5_items : List (List Item)
 chosen_5_items =
-    (start (codes "table") ∷ start (codes "tr") ∷ end (codes "tr") ∷ start (codes "i") ∷ start (codes "tr") ∷ [])
+    (start (codes "table") ∷ StartTag (codes "b") (attribute (codes "type") (codes "hidden") ∷ []) ∷ Text (codes "x") ∷ [])
+    ∷ (start (codes "table") ∷ start (codes "tr") ∷ end (codes "tr") ∷ start (codes "i") ∷ start (codes "tr") ∷ [])
     ∷ (start (codes "table") ∷ start (codes "p") ∷ start (codes "b") ∷ end (codes "p") ∷ start (codes "p") ∷ Text (codes " ") ∷ [])
     ∷ []
 
 chosen_5_answers : List Tree
 chosen_5_answers =
-    (Element (Element Nothing (codes "i") [] Nothing) (codes "table") [] (Element Nothing (codes "tbody") [] (Element (Element Nothing (codes "tr") [] Nothing) (codes "tr") [] Nothing)))
+    (Element (Element Nothing (codes "b") (attribute (codes "type") (codes "hidden") ∷ []) (Characters Nothing (codes "x"))) (codes "table") [] Nothing)
+    ∷ (Element (Element Nothing (codes "i") [] Nothing) (codes "table") [] (Element Nothing (codes "tbody") [] (Element (Element Nothing (codes "tr") [] Nothing) (codes "tr") [] Nothing)))
     ∷ (Element (Element (Element Nothing (codes "p") [] (Element Nothing (codes "b") [] Nothing)) (codes "p") [] (Element Nothing (codes "b") [] (Characters Nothing (codes " ")))) (codes "table") [] Nothing)
     ∷ []
 
