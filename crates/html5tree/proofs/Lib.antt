@@ -1,0 +1,12 @@
+pub mod Lists
+pub mod Steps
+pub mod Documents
+pub mod Texts
+pub mod Built
+pub mod InPlace
+pub mod Hosted
+pub mod FlowHosts
+pub mod Shorthand
+pub mod Markup
+pub mod RandomCases
+pub mod Cases

@@ -1,0 +1,15 @@
+pub mod Names
+pub mod Items
+pub mod Tree
+pub mod Scopes
+pub mod Fitting
+pub mod Page
+pub mod Document
+pub mod Parser
+pub mod Adoption
+pub mod InBody
+pub mod Tables
+pub mod Construction
+pub mod Lockstep
+pub mod Shown
+pub mod Hosts

@@ -1,0 +1,76 @@
+//! What a browser builds of items that fit is the tree that their tags show.
+ghost use Rattle.std.specs.Prelude.{◌≡◌, ℕ, Bool, List, [], ◌∷◌, ◌++◌, false, true};
+ghost use Rattle.html5tree.specs.Construction.{parsed, tree_in, tree_of};
+ghost use Rattle.html5tree.specs.Fitting.{all_fit, each_fits, none_near};
+ghost use Rattle.html5tree.specs.Hosts.{IsBack, IsHost, is_flow_host, is_neutral, put_at};
+ghost use Rattle.html5tree.specs.Items.{Item, balanced, keeps_newlines, read_items};
+ghost use Rattle.html5tree.specs.Names.{has_marker, is_form, kind_of, no_kind};
+ghost use Rattle.html5tree.specs.Page.{names};
+ghost use Rattle.html5tree.specs.Parser.{Parser, start_parser};
+ghost use Rattle.html5tree.specs.Tree.{Path, empty_path, nested, nesting, whole};
+
+/// What tree construction builds of items that all fit, from no open elements to none, is their nesting.
+/// `tree_of` is that of a fragment in a `div`, in a document that is not in quirks mode: what a browser
+/// makes of `div.innerHTML`. `all_fit` (specs/Fitting) asks of each item that it fits where it stands, by the
+/// names of the elements that are open; crates/html5tree/README.md has its table.
+///
+/// Texts may be empty, and stand side by side: they are read as the whole texts that they make. A newline
+/// straight after the start tag of a `pre` or a `listing` is ignored by tree construction. `nesting` supposes
+/// that there is none (`keeps_newlines`), and `without_newlines` says what is built where there is.
+///
+/// Items speak of the 94 elements of specs/Names alone. Elements of other names never fit: foreign content,
+/// scripts, raw text, templates, frames, `select`, and the elements of a head are among them.
+pub fn tree_of_fitting()
+    ensures nesting { (items : List Item) → all_fit [] items ≡ true → keeps_newlines false items ≡ true
+        → tree_of items ≡ nesting items }
+    ensures without_newlines { (items : List Item) → all_fit [] items ≡ true
+        → tree_of items ≡ nesting (read_items false items) }
+{}
+
+/// The same in a host: open elements, of these names too, which stay open (`IsHost`). Items that fit above them,
+/// each by all names that are open, leave a parser that is a host again, whose tree is that of the items nested
+/// there (`host`). Where they close all that they open, and nothing else (`balanced`), the open elements, the
+/// insertion mode, the form element pointer and foster parenting are afterwards what they were (`back`); and the
+/// document is what it was, with the nesting of the items at the end of the innermost open element
+/// (`in_place`). Of the list of active formatting elements `host` says that no entry has to be opened again.
+///
+/// `fresh` says whether the start tag of a `pre` or a `listing` stands straight before the items. Where the
+/// innermost open element is a table, or a part of one that holds parts, no text may stand straight before
+/// or after the items: there a text is read whole.
+///
+/// The parser with which a fragment begins is a host (`first`), and so is each that follows from a host.
+pub fn tree_of_fitting_in_host()
+    ensures host { (fresh : Bool) (p : Parser) (path : Path) (items : List Item) → IsHost p path
+        → each_fits (names p.page.opened) items ≡ true
+        → IsHost (parsed fresh p items) (nested path (read_items fresh items)) }
+    ensures back { (fresh : Bool) (p : Parser) (path : Path) (items : List Item) → IsHost p path
+        → each_fits (names p.page.opened) items ≡ true → balanced 0 items ≡ true
+        → IsBack p (parsed fresh p items) }
+    ensures in_place { (fresh : Bool) (p : Parser) (path : Path) (items : List Item) → IsHost p path
+        → each_fits (names p.page.opened) items ≡ true → balanced 0 items ≡ true
+        → keeps_newlines fresh items ≡ true
+        → tree_in (parsed fresh p items) ≡ whole (put_at path (nesting items)) }
+    ensures first { IsHost start_parser empty_path }
+{}
+
+/// Which items fit in a host. A fragment that fits by itself fits in each flow host (`fragment`), and is
+/// balanced (`balanced`). What fits above some open elements fits above them in a flow host, too (`within`):
+/// so in a `p`, an `a` or a `li` of a flow host fits what fits above `p`, `a` or `li` alone.
+pub fn fits_in_flow_host()
+    ensures fragment { (stack : List (List ℕ)) (items : List Item) → is_flow_host stack ≡ true
+        → all_fit [] items ≡ true → each_fits stack items ≡ true }
+    ensures balanced { (items : List Item) → all_fit [] items ≡ true → balanced 0 items ≡ true }
+    ensures within { (inner stack : List (List ℕ)) (items : List Item) → is_flow_host stack ≡ true
+        → each_fits inner items ≡ true → each_fits (inner ++ stack) items ≡ true }
+{}
+
+/// Which hosts are flow hosts: one where nothing is open; a cell or a caption, if no form is open outside it; an
+/// element in a flow host that changes nothing, such as a `div`, a `section`, a `ul`, a `span` or a `b`
+/// (`is_neutral`).
+pub fn flow_hosts()
+    ensures nothing_open { is_flow_host [] ≡ true }
+    ensures cell { (name : List ℕ) (stack : List (List ℕ)) → has_marker (kind_of name) ≡ true
+        → none_near is_form no_kind stack ≡ true → is_flow_host (name ∷ stack) ≡ true }
+    ensures neutral { (name : List ℕ) (stack : List (List ℕ)) → is_neutral (kind_of name) ≡ true
+        → is_flow_host stack ≡ true → is_flow_host (name ∷ stack) ≡ true }
+{}

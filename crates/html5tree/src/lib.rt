@@ -1,0 +1,6 @@
+//! What a browser builds of tags and texts: tree construction of the HTML standard, and which tags are
+//! built as they are nested. No code runs here: the definitions are in specs/, and `laws` has what is
+//! proved of them.
+#![tactic(auto)]
+
+pub mod laws;
