@@ -1,8 +1,8 @@
 /*
- * The tokenizer from C (C99), and a reader of its records.
+ * The tokenizer and the cleaner from C (C99), and a reader of the tokenizer's records.
  *
  * The functions of the first part are in the archive libfirnuubal.a: they are proved, and their contracts are in
- * crates/html5c/src/lib.rt. The reader of the second part is in this header alone, and is not proved.
+ * crates/html5c/src/calls.rt and cleaner_calls.rt. The reader of the last part is in this header alone, and is not proved.
  */
 #ifndef FIRNUUBAL_H
 #define FIRNUUBAL_H
@@ -23,8 +23,8 @@ extern "C" {
 /* ---- the tokenizer */
 
 /*
- * A tokenizer. One of zeros is closed: `html5_handle h = {0};`. Never copy an open one, and call it from one thread at a
- * time.
+ * A tokenizer, or a page that is cleaned. One of zeros is closed: `html5_handle h = {0};`. Never copy an open one, and call it
+ * from one thread at a time. To the calls of the other kind an open handle is closed.
  */
 typedef struct {
     void *at;
@@ -42,7 +42,9 @@ enum html5_status {
     HTML5_WAITING = 6,    /* text waits after a pause: feed first, if only no bytes */
     HTML5_OVER = 7,       /* the end was told, or an earlier call was refused for good */
     HTML5_CLOSED = 8,     /* the handle is closed */
-    HTML5_BAD_OPTION = 9  /* an option has no such value */
+    HTML5_BAD_OPTION = 9, /* an option has no such value */
+    HTML5_BAD_POLICY = 10,     /* the text of a policy has a fault */
+    HTML5_POLICY_NOT_UTF8 = 11 /* the bytes of a policy are no UTF-8 */
 };
 
 /* The state in which the reading starts. */
@@ -106,6 +108,33 @@ bool html5_is_over(html5_handle *handle);
 
 /* Gives the memory back. The handle is closed then, and may be opened again. */
 void html5_free(html5_handle *handle);
+
+/* ---- the cleaner */
+
+/*
+ * Opens a handle at the start of a page that is cleaned: by the policy of a text or, where its length is 0, by the standard
+ * one. What the handle held before is freed. `place` is then 0, or where the policy has its fault: after HTML5_BAD_POLICY the
+ * line, counted from 1, and after HTML5_POLICY_NOT_UTF8 the byte. html5_free closes the handle.
+ */
+uint32_t html5_cleaner_new(html5_handle *handle, const uint8_t *policy, size_t len, uint64_t *place);
+
+/* Begins another page, by the same policy. What was kept and not taken is gone. */
+uint32_t html5_cleaner_restart(html5_handle *handle);
+
+/* Reads the next bytes of the page, in pieces of any size. */
+uint32_t html5_cleaner_feed(html5_handle *handle, const uint8_t *bytes, size_t len);
+
+/* Tells the end of the page. The rest of what is kept of it can then be taken. */
+uint32_t html5_cleaner_end(html5_handle *handle);
+
+/* Moves the next bytes of what was kept to `out`, as many as fit, and answers how many: 0 where none wait. */
+size_t html5_cleaner_take(html5_handle *handle, uint8_t *out, size_t len);
+
+/* After HTML5_NOT_UTF8: the place of the first byte that is no UTF-8, counted from the page's first. */
+uint64_t html5_cleaner_error_at(html5_handle *handle);
+
+/* Whether nothing more is read, as html5_is_over says it of a tokenizer. */
+bool html5_cleaner_is_over(html5_handle *handle);
 
 /* ---- a reader of records */
 

@@ -1,4 +1,4 @@
--- A session in its box, as the walks of the handle see it.
+-- A page in its box, as the walks of the handle see it.
 use mathlib.Core.List.{[]}
 use mir.Syntax.{impl, tnil, dnil}
 use denote.Signature.{Slot, plain}
@@ -6,18 +6,18 @@ use Rattle.std_alloc.proofs.BoxSteps.Form.{Bx}
 use Rattle.std_heap.specs.contracts.Global as Heap
 use Rattle.std_heap.specs.contracts.GlobalAllocator.TheImpl.{ghosts, dict}
 use Rattle.std_heap.proofs.Global.TheLaws as heap
-use Rattle.html5c.specs.contracts.slot.SessionSlot as SessionSlot
-use Rattle.html5c.proofs.slot.SessionSlot.TheLaws as slot
+use Rattle.html5c.specs.contracts.slot.PageSlot as PageSlot
+use Rattle.html5c.proofs.slot.PageSlot.TheLaws as slot
 use Rattle.html5c.specs.contracts.handle.parts.Parts as Parts
 use Rattle.html5c.specs.contracts.handle.Owned as Owned
 
 -- the box, over C's memory
 abbrev pub E : Bx
-E = record { row = SessionSlot.the_row; laws = slot.the_row_laws; al = record { row = Heap.the_row; laws = heap.the_row_laws; g = ghosts; d = dict; drops = impl [] tnil dnil } }
+E = record { row = PageSlot.the_row; laws = slot.the_row_laws; al = record { row = Heap.the_row; laws = heap.the_row_laws; g = ghosts; d = dict; drops = impl [] tnil dnil } }
 
 -- a parameter that is the parts of the box, what may own it, or its allocator
 abbrev pub Taken : Slot 0
-Taken = plain (λ _. Parts.the_row SessionSlot.the_row Heap.the_row ghosts)
+Taken = plain (λ _. Parts.the_row PageSlot.the_row Heap.the_row ghosts)
 
 abbrev pub Keeper : Slot 0
 Keeper = plain (λ _. Owned.the_row)

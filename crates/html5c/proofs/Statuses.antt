@@ -1,45 +1,21 @@
 -- What a call did, by the status that it answers.
-use Rattle.std.proofs.Common.{◌≡◌, ◌↔◌, ℕ, Bool, true, false, List, ◌++◌, Option, None, Some, Result, Ok, Err, refl, sym, ap, ◌∙◌, inl, inr, arith}
+use Rattle.std.proofs.Common.{◌≡◌, ◌↔◌, ℕ, true, false, List, ◌++◌, Option, None, Some, refl, sym, ◌∙◌, inl, inr, arith}
 use Rattle.std.proofs.lemmas.Bool.{false≢true}
 use Rattle.std.specs.Str.{IsUtf8, chars}
 use Rattle.utf8_pieces.specs.Pieces.{IsNeverUtf8}
+use Rattle.html5c.proofs.Going.{over_is, refused_going}
 use Rattle.html5c.specs.Calls.{fed_status, error_status, open_status, OpenFails, IsStart, NewSays, FeedSays, InsertSays, EndSays}
 use Rattle.html5c.specs.declared.opening.OpenError.{OpenError}
 use Rattle.html5c.specs.declared.opening.OpenError.TheVariants as opening
+use Rattle.html5c.specs.Slots.{session_of}
 use Rattle.html5c.specs.declared.options.Options.{Options}
+use Rattle.html5c.specs.declared.slot.PageSlot.{PageSlot}
+use Rattle.html5c.specs.declared.slot.PageSlot.TheVariants.{Tokenizer, Cleaner, Lent}
 use Rattle.html5session.specs.Session.{SessionOf, is_over, FeedsPiece, FeedRefused, EndsSession, EndRefused, IsNotUtf8}
 use Rattle.html5session.specs.declared.error.SessionError.{SessionError}
 use Rattle.html5session.specs.declared.error.SessionError.TheVariants.{Memory, NotUtf8, Cut, Waiting, Over}
 use Rattle.html5session.specs.declared.fed.Fed.{Fed}
 use Rattle.html5session.specs.declared.fed.Fed.TheVariants.{Done, Script, Encoding}
-
--- ---- when a session is over
-
-is_false : (b : Bool) → ¬ (b ≡ true) → b ≡ false
-is_false true is_not = absurd (is_not refl)
-is_false false is_not = refl
-
-ok_is_no_error : {A E : Type 0} (x : A) (e : E) → ◌≡◌ {A = Result A E} (Ok x) (Err e) → ⊥
-ok_is_no_error x e same = cc
-
-same_error : {A E : Type 0} (e f : E) → ◌≡◌ {A = Result A E} (Err e) (Err f) → e ≡ f
-same_error e f same = cc
-
--- a call that was answered found the session going on
-pub answered_going : {A : Type 0} (result : Result A SessionError) (x : A) (old : SessionOf) → result ≡ Ok x
-    → ((result ≡ Err Over) ↔ (is_over old ≡ true)) → is_over old ≡ false
-answered_going result x old is over = is_false (is_over old) (λ was. ok_is_no_error x Over (sym is ∙ over.1 was))
-
--- the error of a call is `Over` just where the session was over
-pub refused_over : {A : Type 0} (result : Result A SessionError) (error : SessionError) (old : SessionOf) → result ≡ Err error
-    → ((result ≡ Err Over) ↔ (is_over old ≡ true)) → (error ≡ Over) ↔ (is_over old ≡ true)
-refused_over result error old is over = (λ same. over.0 (is ∙ ap Err same), λ was. same_error error Over (sym is ∙ over.1 was))
-
-over_is : (old : SessionOf) → is_over old ≡ false → ¬ (is_over old ≡ true)
-over_is old going was = false≢true (sym going ∙ was)
-
-refused_going : (error : SessionError) (old : SessionOf) → ((error ≡ Over) ↔ (is_over old ≡ true)) → ¬ (error ≡ Over) → is_over old ≡ false
-refused_going error old over other = is_false (is_over old) (λ was. other (over.1 was))
 
 -- ---- what each status says
 
@@ -53,8 +29,8 @@ feed_says-fed old new bytes Done feeds going possible = record {
   no_memory = λ e. absurd (omega (arith, e));
   not_utf8 = (λ e. absurd (omega (arith, e)), λ is. absurd (possible is.1));
   place = λ e. absurd (omega (arith, e));
-  over = (λ e. absurd (omega (arith, e)), λ was. absurd (over_is old going was));
-  unchanged = λ was. absurd (over_is old going was);
+  over = (λ e. absurd (omega (arith, e)), λ was. absurd (over_is (is_over old) going was));
+  unchanged = λ was. absurd (over_is (is_over old) going was);
   only = (λ e. omega (arith, e), λ e. omega (arith, e), λ e. omega (arith, e), λ e. omega (arith, e));
 }
 feed_says-fed old new bytes Script feeds going possible = record {
@@ -64,8 +40,8 @@ feed_says-fed old new bytes Script feeds going possible = record {
   no_memory = λ e. absurd (omega (arith, e));
   not_utf8 = (λ e. absurd (omega (arith, e)), λ is. absurd (possible is.1));
   place = λ e. absurd (omega (arith, e));
-  over = (λ e. absurd (omega (arith, e)), λ was. absurd (over_is old going was));
-  unchanged = λ was. absurd (over_is old going was);
+  over = (λ e. absurd (omega (arith, e)), λ was. absurd (over_is (is_over old) going was));
+  unchanged = λ was. absurd (over_is (is_over old) going was);
   only = (λ e. omega (arith, e), λ e. omega (arith, e), λ e. omega (arith, e), λ e. omega (arith, e));
 }
 feed_says-fed old new bytes Encoding feeds going possible = record {
@@ -75,8 +51,8 @@ feed_says-fed old new bytes Encoding feeds going possible = record {
   no_memory = λ e. absurd (omega (arith, e));
   not_utf8 = (λ e. absurd (omega (arith, e)), λ is. absurd (possible is.1));
   place = λ e. absurd (omega (arith, e));
-  over = (λ e. absurd (omega (arith, e)), λ was. absurd (over_is old going was));
-  unchanged = λ was. absurd (over_is old going was);
+  over = (λ e. absurd (omega (arith, e)), λ was. absurd (over_is (is_over old) going was));
+  unchanged = λ was. absurd (over_is (is_over old) going was);
   only = (λ e. omega (arith, e), λ e. omega (arith, e), λ e. omega (arith, e), λ e. omega (arith, e));
 }
 
@@ -113,7 +89,7 @@ feed_says-error old new bytes (NotUtf8 place) refused over never = record {
   script = λ e. absurd (omega (arith, e));
   encoding = λ e. absurd (omega (arith, e));
   no_memory = λ e. absurd (omega (arith, e));
-  not_utf8 = (λ _. (refused_going (NotUtf8 place) old over (not_utf8_no_over place), refused.never), λ _. refl);
+  not_utf8 = (λ _. (refused_going (NotUtf8 place) Over (is_over old) over (not_utf8_no_over place), refused.never), λ _. refl);
   place = λ _. (place, refused);
   over = (λ e. absurd (omega (arith, e)), λ was. absurd (not_utf8_no_over place (over.1 was)));
   unchanged = λ was. absurd (not_utf8_no_over place (over.1 was));
@@ -139,7 +115,7 @@ pub insert_says-over : (old : SessionOf) (text : List ℕ) → is_over old ≡ t
 insert_says-over old text was = record {
   done = λ e. absurd (omega (arith, e));
   refused = λ _. refl;
-  not_utf8 = (λ e. absurd (omega (arith, e)), λ is. absurd (over_is old is.0 was));
+  not_utf8 = (λ e. absurd (omega (arith, e)), λ is. absurd (over_is (is_over old) is.0 was));
   over = (λ _. was, λ _. refl);
   only = inr (inr (inr refl));
 }
@@ -149,7 +125,7 @@ insert_says-not_utf8 old text going no_text = record {
   done = λ e. absurd (omega (arith, e));
   refused = λ _. refl;
   not_utf8 = (λ _. (going, no_text), λ _. refl);
-  over = (λ e. absurd (omega (arith, e)), λ was. absurd (over_is old going was));
+  over = (λ e. absurd (omega (arith, e)), λ was. absurd (over_is (is_over old) going was));
   only = inr (inr (inl refl));
 }
 
@@ -158,7 +134,7 @@ insert_says-memory old text going utf8 = record {
   done = λ e. absurd (omega (arith, e));
   refused = λ _. refl;
   not_utf8 = (λ e. absurd (omega (arith, e)), λ is. absurd (is.1 utf8));
-  over = (λ e. absurd (omega (arith, e)), λ was. absurd (over_is old going was));
+  over = (λ e. absurd (omega (arith, e)), λ was. absurd (over_is (is_over old) going was));
   only = inr (inl refl);
 }
 
@@ -168,7 +144,7 @@ insert_says-done old new text going utf8 is = record {
   done = λ _. (utf8, is);
   refused = λ other. absurd (other refl);
   not_utf8 = (λ e. absurd (omega (arith, e)), λ it. absurd (it.1 utf8));
-  over = (λ e. absurd (omega (arith, e)), λ was. absurd (over_is old going was));
+  over = (λ e. absurd (omega (arith, e)), λ was. absurd (over_is (is_over old) going was));
   only = inl refl;
 }
 
@@ -180,7 +156,7 @@ end_says-done old new ends going = record {
   no_memory = λ e. absurd (omega (arith, e));
   waiting = (λ e. absurd (omega (arith, e)), λ is. absurd (is.1 ends.read));
   cut = (λ e. absurd (omega (arith, e)), λ is. absurd (is.2 ends.whole));
-  over = (λ e. absurd (omega (arith, e)), λ was. absurd (over_is old going was));
+  over = (λ e. absurd (omega (arith, e)), λ was. absurd (over_is (is_over old) going was));
   unchanged = λ other _. absurd (other refl);
   only = inl refl;
 }
@@ -201,7 +177,7 @@ end_says-error old new Cut refused over = record {
   done = λ e. absurd (omega (arith, e));
   no_memory = λ e. absurd (omega (arith, e));
   waiting = (λ e. absurd (omega (arith, e)), λ is. absurd (is.1 refused.1));
-  cut = (λ _. (refused_going Cut old over cut_no_over, refused.1, refused.2), λ _. refl);
+  cut = (λ _. (refused_going Cut Over (is_over old) over cut_no_over, refused.1, refused.2), λ _. refl);
   over = (λ e. absurd (omega (arith, e)), λ was. absurd (cut_no_over (over.1 was)));
   unchanged = λ _ _. refused.0;
   only = inr (inr (inl refl));
@@ -209,7 +185,7 @@ end_says-error old new Cut refused over = record {
 end_says-error old new Waiting refused over = record {
   done = λ e. absurd (omega (arith, e));
   no_memory = λ e. absurd (omega (arith, e));
-  waiting = (λ _. (refused_going Waiting old over waiting_no_over, refused.1), λ _. refl);
+  waiting = (λ _. (refused_going Waiting Over (is_over old) over waiting_no_over, refused.1), λ _. refl);
   cut = (λ e. absurd (omega (arith, e)), λ is. absurd (refused.1 is.1));
   over = (λ e. absurd (omega (arith, e)), λ was. absurd (waiting_no_over (over.1 was)));
   unchanged = λ _ _. refused.0;
@@ -218,8 +194,8 @@ end_says-error old new Waiting refused over = record {
 end_says-error old new Over refused over = record {
   done = λ e. absurd (omega (arith, e));
   no_memory = λ e. absurd (omega (arith, e));
-  waiting = (λ e. absurd (omega (arith, e)), λ is. absurd (over_is old is.0 (over.0 refl)));
-  cut = (λ e. absurd (omega (arith, e)), λ is. absurd (over_is old is.0 (over.0 refl)));
+  waiting = (λ e. absurd (omega (arith, e)), λ is. absurd (over_is (is_over old) is.0 (over.0 refl)));
+  cut = (λ e. absurd (omega (arith, e)), λ is. absurd (over_is (is_over old) is.0 (over.0 refl)));
   over = (λ _. over.0 refl, λ _. refl);
   unchanged = λ _ _. refused.unchanged;
   only = inr (inr (inr (inr refl)));
@@ -227,9 +203,11 @@ end_says-error old new Over refused over = record {
 
 -- the status of `html5_new`
 
-pub new_says-done : (now : Option SessionOf) (name : List ℕ) (o : Options) → IsStart now name o → NewSays now name o 0
+pub new_says-done : (now : Option PageSlot) (name : List ℕ) (o : Options) → IsStart (session_of now) name o → NewSays now name o 0
 new_says-done None name o start = absurd start
-new_says-done (Some s) name o start = record {
+new_says-done (Some (Cleaner s)) name o start = absurd start
+new_says-done (Some Lent) name o start = absurd start
+new_says-done (Some (Tokenizer s)) name o start = record {
   done = λ _. start;
   refused = λ other. absurd (other refl);
   bad_option = (λ e. absurd (omega (arith, e)), λ is. absurd (false≢true (sym is ∙ start.named)));
@@ -237,7 +215,7 @@ new_says-done (Some s) name o start = record {
   only = inl refl;
 }
 
-pub new_says-error : (now : Option SessionOf) (name : List ℕ) (o : Options) (error : OpenError) → now ≡ None → OpenFails name o error
+pub new_says-error : (now : Option PageSlot) (name : List ℕ) (o : Options) (error : OpenError) → now ≡ None → OpenFails name o error
     → NewSays now name o (open_status error)
 new_says-error now name o opening.Memory closed fails = record {
   done = λ e. absurd (omega (arith, e));

@@ -1,12 +1,13 @@
--- What each call makes of the session that a handle is of. A handle is closed where there is none.
+-- What each call of the tokenizer makes of the session that a handle is of. A handle has none where it is closed, or has a cleaner.
 use Rattle.std.specs.Prelude.{◌≡◌, ◌≢◌, ◌↔◌, ◌⊎◌, ◌&&◌, ℕ, Bool, true, false, List, [], ◌++◌, length, take, drop, min, Option, None, Some, is_some}
 use Rattle.std.specs.Str.{IsUtf8, chars}
 use Rattle.utf8_pieces.specs.Pieces.{IsNeverUtf8}
 use Rattle.html5c.specs.Said.{options_said, replies_said, state_said}
+use Rattle.html5c.specs.Slots.{WhereOpen, place_in, session_of}
 use Rattle.html5c.specs.declared.opening.OpenError.{OpenError}
 use Rattle.html5c.specs.declared.opening.OpenError.TheVariants as opening
 use Rattle.html5c.specs.declared.options.Options.{Options}
-use Rattle.html5c.specs.declared.slot.SessionSlot.{SessionSlot}
+use Rattle.html5c.specs.declared.slot.PageSlot.{PageSlot}
 use Rattle.html5records.specs.Recording.{recorded_means, none_recorded, nothing_recorded, waiting}
 use Rattle.html5records.specs.declared.record_sink.Replies.{Replies}
 use Rattle.html5ever.specs.Tokenizer.{StandsAt, rules_of}
@@ -19,11 +20,6 @@ use Rattle.html5session.specs.declared.fed.Fed.{Fed}
 use Rattle.html5session.specs.declared.fed.Fed.TheVariants.{Done, Script, Encoding}
 use Rattle.html5table.specs.Listed.{entries_in}
 use Rattle.markup5ever.specs.NamedReferences.{table_of}
-
--- the session of what a handle owns
-abbrev pub session_of : Option SessionSlot → Option SessionOf
-session_of None = None
-session_of (Some slot) = slot.session
 
 -- ---- the numbers of statuses
 
@@ -83,14 +79,14 @@ open_status opening.NotUtf8 = 4
 open_status opening.BadOption = 9
 
 -- what a status of a new session says: all but DONE leave the handle closed
-pub record NewSays (now : Option SessionOf) (name : List ℕ) (o : Options) (status : ℕ) : Type 0 where
-  pub done : status ≡ 0 → IsStart now name o
+pub record NewSays (now : Option PageSlot) (name : List ℕ) (o : Options) (status : ℕ) : Type 0 where
+  pub done : status ≡ 0 → IsStart (session_of now) name o
   pub refused : status ≢ 0 → now ≡ None
   pub bad_option : (status ≡ 9) ↔ (are_named o ≡ false)
   pub not_utf8 : (status ≡ 4) ↔ ((are_named o ≡ true) × ¬ (IsUtf8 name))
   pub only : (status ≡ 0) ⊎ (status ≡ 3) ⊎ (status ≡ 4) ⊎ (status ≡ 9)
 
--- ---- what a status of each call says of an open handle
+-- ---- what a status of each call says of a handle that has a session
 
 pub record FeedSays (old new : SessionOf) (bytes : List ℕ) (status : ℕ) : Type 0 where
   pub done : status ≡ 0 → FeedsPiece old new bytes Done
@@ -129,33 +125,21 @@ pub record TakeSays (old new : SessionOf) (room out : List ℕ) (n : ℕ) : Type
   -- and it stands where it stood
   pub stands : StandsOn old new n
 
--- ---- the same, of a handle that is open or closed
+-- ---- the same, of a handle that has a session or none
 
 abbrev pub Feeds : Option SessionOf → Option SessionOf → List ℕ → ℕ → Type 0
-Feeds (Some old) (Some new) bytes status = FeedSays old new bytes status
-Feeds None None bytes status = status ≡ 8
-Feeds _ _ bytes status = ⊥
+Feeds old new bytes status = WhereOpen (λ s t. FeedSays s t bytes status) (status ≡ 8) old new
 
 abbrev pub Inserts : Option SessionOf → Option SessionOf → List ℕ → ℕ → Type 0
-Inserts (Some old) (Some new) text status = InsertSays old new text status
-Inserts None None text status = status ≡ 8
-Inserts _ _ text status = ⊥
+Inserts old new text status = WhereOpen (λ s t. InsertSays s t text status) (status ≡ 8) old new
 
 abbrev pub Ends : Option SessionOf → Option SessionOf → ℕ → Type 0
-Ends (Some old) (Some new) status = EndSays old new status
-Ends None None status = status ≡ 8
-Ends _ _ status = ⊥
+Ends old new status = WhereOpen (λ s t. EndSays s t status) (status ≡ 8) old new
 
 abbrev pub Takes : Option SessionOf → Option SessionOf → List ℕ → List ℕ → ℕ → Type 0
-Takes (Some old) (Some new) room out n = TakeSays old new room out n
-Takes None None room out n = (n ≡ 0) × (out ≡ room)
-Takes _ _ room out n = ⊥
+Takes old new room out n = WhereOpen (λ s t. TakeSays s t room out n) ((n ≡ 0) × (out ≡ room)) old new
 
 -- where the bytes of the last refused piece stop being UTF-8
-abbrev pub place_in : Option ℕ → ℕ
-place_in None = 0
-place_in (Some place) = place
-
 abbrev pub error_place : Option SessionOf → ℕ
 error_place None = 0
 error_place (Some s) = place_in s.error_at

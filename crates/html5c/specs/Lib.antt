@@ -1,3 +1,5 @@
 pub mod Held
 pub mod Said
+pub mod Slots
 pub mod Calls
+pub mod CleanerCalls

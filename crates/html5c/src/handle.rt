@@ -1,24 +1,24 @@
-//! A handle that C keeps: a boxed session as a pointer, or nothing.
+//! A handle that C keeps: a boxed slot as a pointer, or nothing.
 ghost use Rattle.std.specs.Prelude.{◌≡◌, Option, Some, None, IsSome, MatchOption};
 ghost use Rattle.std.specs.Option.{is_some};
-ghost use Rattle.html5c.specs.declared.slot.SessionSlot.{SessionSlot};
+ghost use Rattle.html5c.specs.declared.slot.PageSlot.{PageSlot};
 ghost use Rattle.html5c.specs.Held.{held};
 
 mod parts;
 
-use crate::slot::SessionSlot;
+use crate::slot::PageSlot;
 use parts::Parts;
 use std::alloc::Global;
 use std::marker::Model;
 use std::mem;
 
-/// Where the box of a session is, if there is one. C sees a pointer, and no more.
+/// Where the box of a slot is, if there is one. C sees a pointer, and no more.
 #[repr(C)]
 #[derive(Drop)]
 pub struct Owned {
     at: *mut u8,
     alloc: Global,
-    pub ghost value: { Option SessionSlot },
+    pub ghost value: { Option PageSlot },
 }
 
 impl Model for Owned {
@@ -37,7 +37,7 @@ impl Owned {
     }
 
     // Owns what the parts of a box own.
-    fn of_parts(parts: Parts<SessionSlot, Global>) -> Owned
+    fn of_parts(parts: Parts<PageSlot, Global>) -> Owned
         ensures { result.value ≡ Some parts.value }
     {
         let Parts { ptr, alloc } = parts;
@@ -48,19 +48,19 @@ impl Owned {
     }
 
     // The parts of the box that it owns.
-    fn into_parts(self) -> Parts<SessionSlot, Global>
+    fn into_parts(self) -> Parts<PageSlot, Global>
         requires { IsSome self.value }
         ensures { self.value ≡ Some result.value }
     {
         let Owned { at, alloc } = self;
         Parts {
-            ptr: at as *mut SessionSlot,
+            ptr: at as *mut PageSlot,
             alloc,
         }
     }
 }
 
-// What it owns may be used on another thread, as the session may.
+// What it owns may be used on another thread, as the slot may.
 unsafe impl Send for Owned {}
 
 /// What C keeps, and hands in at each call. A handle of zeros is closed: it holds nothing.
@@ -83,8 +83,8 @@ impl Handle {
         }
     }
 
-    /// Holds a session. One that it held before would be lost, so there is none.
-    pub fn put(&mut self, held: Box<SessionSlot, Global>)
+    /// Holds a slot. One that it held before would be lost, so there is none.
+    pub fn put(&mut self, held: Box<PageSlot, Global>)
         requires { self.old.owned.value ≡ None }
         ensures { self.new.owned.value ≡ Some held.value }
     {
@@ -93,7 +93,7 @@ impl Handle {
     }
 
     /// Gives out what it holds, and is closed.
-    pub fn take(&mut self, alloc: Global) -> Option<Box<SessionSlot, Global>>
+    pub fn take(&mut self, alloc: Global) -> Option<Box<PageSlot, Global>>
         ensures held { MatchOption result (self.old.owned.value ≡ None) (λ b. self.old.owned.value ≡ Some b.value) }
         ensures after { self.new.owned.value ≡ None }
     {

@@ -1,130 +1,24 @@
-//! The tokenizer for C: a page is fed as its bytes arrive, and the records of its tokens are taken.
+//! The tokenizer and the cleaner for C. A page is fed as its bytes arrive, and the records of its tokens are taken, or what
+//! a policy keeps of it.
 #![tactic(auto)]
 
-ghost use Rattle.std.specs.Prelude.{◌≡◌, None};
-ghost use Rattle.html5c.specs.Calls.{session_of, NewSays, Feeds, Inserts, Ends, Takes, error_place, over_in};
-
+mod calls;
+mod cleaner_calls;
+mod cleaner_opening;
+mod cleaner_slot;
 mod handle;
 mod opening;
 mod options;
 mod slot;
 pub mod status;
 
+pub use calls::{
+    html5_end, html5_error_at, html5_feed, html5_free, html5_insert, html5_is_over, html5_new,
+    html5_take,
+};
+pub use cleaner_calls::{
+    html5_cleaner_end, html5_cleaner_error_at, html5_cleaner_feed, html5_cleaner_is_over,
+    html5_cleaner_new, html5_cleaner_restart, html5_cleaner_take,
+};
 pub use handle::Handle;
-use opening::slot_of;
 pub use options::Options;
-use std::alloc::Global;
-
-/// Opens a handle at the start of a page, by these options and the standard's named references, after a
-/// start tag of a name, if it has bytes. What the handle held before is freed.
-#[unsafe(no_mangle)]
-pub extern "C" fn html5_new(
-    alloc: Global,
-    h: &mut Handle,
-    last_start_tag: &[u8],
-    options: &Options,
-) -> u32
-    ensures { NewSays (session_of h.new.owned.value) last_start_tag.now options.now result }
-{
-    html5_free(alloc, h);
-    match slot_of(alloc, last_start_tag, options) {
-        Ok(slot) => {
-            h.put(slot);
-            status::DONE
-        }
-        Err(error) => error.status(),
-    }
-}
-
-/// Takes a piece of the page, cut anywhere, and reads on, up to a pause. What is left of it is kept:
-/// the next feed goes on with it, also one of no bytes.
-#[unsafe(no_mangle)]
-pub extern "C" fn html5_feed(alloc: Global, h: &mut Handle, bytes: &[u8]) -> u32
-    ensures { Feeds (session_of h.old.owned.value) (session_of h.new.owned.value) bytes.now result }
-{
-    let Some(mut slot) = h.take(alloc) else {
-        return status::CLOSED;
-    };
-    let status = slot.feed(bytes);
-    h.put(slot);
-    status
-}
-
-/// Puts a text in front of what waits. It is read at the next feed. Where nothing more is read it answers `OVER`,
-/// whatever the bytes.
-#[unsafe(no_mangle)]
-pub extern "C" fn html5_insert(alloc: Global, h: &mut Handle, text: &[u8]) -> u32
-    ensures { Inserts (session_of h.old.owned.value) (session_of h.new.owned.value) text.now result }
-{
-    let Some(mut slot) = h.take(alloc) else {
-        return status::CLOSED;
-    };
-    let status = slot.insert(text);
-    h.put(slot);
-    status
-}
-
-/// Ends the page.
-#[unsafe(no_mangle)]
-pub extern "C" fn html5_end(alloc: Global, h: &mut Handle) -> u32
-    ensures { Ends (session_of h.old.owned.value) (session_of h.new.owned.value) result }
-{
-    let Some(mut slot) = h.take(alloc) else {
-        return status::CLOSED;
-    };
-    let status = slot.end();
-    h.put(slot);
-    status
-}
-
-/// Takes the next bytes of the records, as many as wait and as there is room for, and says how many: 0
-/// where none wait. A record may be cut in two: what is left of it comes first at the next call.
-#[unsafe(no_mangle)]
-pub extern "C" fn html5_take(alloc: Global, h: &mut Handle, out: &mut [u8]) -> usize
-    ensures { Takes (session_of h.old.owned.value) (session_of h.new.owned.value) out.old out.new result }
-{
-    let Some(mut slot) = h.take(alloc) else {
-        return 0;
-    };
-    let count = slot.take(out);
-    h.put(slot);
-    count
-}
-
-/// The place of the first byte that is no UTF-8, after a feed answered `NOT_UTF8`, counted from the
-/// first byte that was fed.
-#[unsafe(no_mangle)]
-pub extern "C" fn html5_error_at(alloc: Global, h: &mut Handle) -> u64
-    ensures place { result ≡ error_place (session_of h.old.owned.value) }
-    ensures kept { h.new.owned.value ≡ h.old.owned.value }
-{
-    let Some(slot) = h.take(alloc) else {
-        return 0;
-    };
-    let place = slot.error_at();
-    h.put(slot);
-    place
-}
-
-/// Whether nothing more is read: the page has ended, or a call failed for good. Then `html5_feed`, `html5_insert` and
-/// `html5_end` answer `OVER`. It is false where the handle is closed.
-#[unsafe(no_mangle)]
-pub extern "C" fn html5_is_over(alloc: Global, h: &mut Handle) -> bool
-    ensures over { result ≡ over_in (session_of h.old.owned.value) }
-    ensures kept { h.new.owned.value ≡ h.old.owned.value }
-{
-    let Some(slot) = h.take(alloc) else {
-        return false;
-    };
-    let is_over = slot.is_over();
-    h.put(slot);
-    is_over
-}
-
-/// Gives the handle's memory back, and closes it. It may be opened again.
-#[unsafe(no_mangle)]
-pub extern "C" fn html5_free(alloc: Global, h: &mut Handle)
-    ensures { h.new.owned.value ≡ None }
-{
-    drop(h.take(alloc));
-}

@@ -3,9 +3,10 @@ ghost use Rattle.std.specs.Prelude.{◌≡◌, option_map, string_bytes, OnOk, I
 ghost use Rattle.std.specs.Str.{IsUtf8};
 ghost use Rattle.html5c.specs.Calls.{Starts, IsStart, IsNameRefused, OpenFails, open_status};
 ghost use Rattle.html5c.specs.Said.{name_said};
+ghost use Rattle.html5c.specs.Slots.{session_in};
 
 use crate::options::Options;
-use crate::slot::SessionSlot;
+use crate::slot::PageSlot;
 use crate::status;
 use html5entities::standard_references;
 use html5session::Session;
@@ -86,16 +87,16 @@ pub fn slot_of(
     alloc: Global,
     last_start_tag: &[u8],
     options: &Options,
-) -> Result<Box<SessionSlot, Global>, OpenError>
-    ensures starts { IfOk result (λ slot. IsStart slot.value.session last_start_tag.now options.now) }
+) -> Result<Box<PageSlot, Global>, OpenError>
+    ensures starts { IfOk result (λ slot. IsStart (session_in slot.value) last_start_tag.now options.now) }
     ensures refused { IfErr result (λ error. OpenFails last_start_tag.now options.now error) }
 {
     // A match in place of `?`: split for the proof.
     let session = match session_at_start(alloc, last_start_tag, options) {
-        Ok(session) => Some(session),
+        Ok(session) => session,
         Err(error) => return Err(error),
     };
-    match Box::new(alloc, SessionSlot { session }) {
+    match Box::new(alloc, PageSlot::Tokenizer(session)) {
         Ok(slot) => Ok(slot),
         Err(_) => Err(OpenError::Memory),
     }

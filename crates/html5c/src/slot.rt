@@ -1,16 +1,23 @@
-//! What a handle is of: a session over C's memory.
-ghost use Rattle.std.specs.Prelude.{◌≡◌};
+//! What a handle is of, over C's memory, and what the tokenizer's calls make of it.
+ghost use Rattle.std.specs.Prelude.{◌≡◌, IsNone};
 ghost use Rattle.html5c.specs.Calls.{Feeds, Inserts, Ends, Takes, fed_status, error_status, error_place, over_in};
+ghost use Rattle.html5c.specs.Slots.{cleaner_in, session_in};
 
 use crate::status;
+use html5cleaning::CleaningSession;
 use html5session::{Fed, Session, SessionError};
 use std::alloc::Global;
-use std::str;
+use std::{mem, str};
 
-/// A session, but for the time of a call.
+/// What a handle is of.
 #[derive(Drop)]
-pub struct SessionSlot {
-    pub session: Option<Session<Global>>,
+pub enum PageSlot {
+    /// A page whose tokens are recorded.
+    Tokenizer(Session<Global>),
+    /// A page that is cleaned.
+    Cleaner(CleaningSession<Global>),
+    /// Nothing, for the time of a call.
+    Lent,
 }
 
 // The status of a feed that was not refused.
@@ -37,16 +44,31 @@ fn status_of_error(error: SessionError) -> u32
     }
 }
 
-impl SessionSlot {
+impl PageSlot {
+    // The session, if it has one: then it is lent out.
+    fn take_session(&mut self) -> Option<Session<Global>>
+        ensures session { result ≡ session_in self.old }
+        ensures none { IsNone result → self.new ≡ self.old }
+    {
+        match mem::replace(self, PageSlot::Lent) {
+            PageSlot::Tokenizer(session) => Some(session),
+            other => {
+                *self = other;
+                None
+            }
+        }
+    }
+
     /// Feeds a piece.
     pub fn feed(&mut self, bytes: &[u8]) -> u32
-        ensures { Feeds self.old.session self.new.session bytes.now result }
+        ensures feeds { Feeds (session_in self.old) (session_in self.new) bytes.now result }
+        ensures other { cleaner_in self.new ≡ cleaner_in self.old }
     {
-        let Some(session) = self.session.take() else {
+        let Some(session) = self.take_session() else {
             return status::CLOSED;
         };
         let (session, result) = session.feed(bytes);
-        self.session = Some(session);
+        *self = PageSlot::Tokenizer(session);
         match result {
             Ok(fed) => status_of_fed(fed),
             Err(error) => status_of_error(error),
@@ -55,9 +77,10 @@ impl SessionSlot {
 
     /// Puts a text in front of what waits.
     pub fn insert(&mut self, text: &[u8]) -> u32
-        ensures { Inserts self.old.session self.new.session text.now result }
+        ensures inserts { Inserts (session_in self.old) (session_in self.new) text.now result }
+        ensures other { cleaner_in self.new ≡ cleaner_in self.old }
     {
-        let Some(session) = &mut self.session else {
+        let PageSlot::Tokenizer(session) = self else {
             return status::CLOSED;
         };
         if session.is_over() {
@@ -74,13 +97,14 @@ impl SessionSlot {
 
     /// Ends the page.
     pub fn end(&mut self) -> u32
-        ensures { Ends self.old.session self.new.session result }
+        ensures ends { Ends (session_in self.old) (session_in self.new) result }
+        ensures other { cleaner_in self.new ≡ cleaner_in self.old }
     {
-        let Some(session) = self.session.take() else {
+        let Some(session) = self.take_session() else {
             return status::CLOSED;
         };
         let (session, result) = session.end();
-        self.session = Some(session);
+        *self = PageSlot::Tokenizer(session);
         match result {
             Ok(()) => status::DONE,
             Err(error) => status_of_error(error),
@@ -89,31 +113,32 @@ impl SessionSlot {
 
     /// Takes the next bytes of the records.
     pub fn take(&mut self, out: &mut [u8]) -> usize
-        ensures { Takes self.old.session self.new.session out.old out.new result }
+        ensures takes { Takes (session_in self.old) (session_in self.new) out.old out.new result }
+        ensures other { cleaner_in self.new ≡ cleaner_in self.old }
     {
-        match &mut self.session {
-            Some(session) => session.take(out),
-            None => 0,
+        match self {
+            PageSlot::Tokenizer(session) => session.take(out),
+            _ => 0,
         }
     }
 
     /// Where the bytes of the last refused piece stop being UTF-8.
     pub fn error_at(&self) -> u64
-        ensures { result ≡ error_place self.now.session }
+        ensures { result ≡ error_place (session_in self.now) }
     {
-        match &self.session {
-            Some(session) => session.error_at().unwrap_or(0),
-            None => 0,
+        match self {
+            PageSlot::Tokenizer(session) => session.error_at().unwrap_or(0),
+            _ => 0,
         }
     }
 
     /// Whether nothing more is read.
     pub fn is_over(&self) -> bool
-        ensures { result ≡ over_in self.now.session }
+        ensures { result ≡ over_in (session_in self.now) }
     {
-        match &self.session {
-            Some(session) => session.is_over(),
-            None => false,
+        match self {
+            PageSlot::Tokenizer(session) => session.is_over(),
+            _ => false,
         }
     }
 }

@@ -1,6 +1,6 @@
 //! What a call answers.
 
-/// What was handed in was read, all of it.
+/// It was done: of a feed, all that was handed in was read.
 pub const DONE: u32 = 0;
 
 /// The tokenizer pauses after `</script>`: what follows waits.
@@ -29,3 +29,9 @@ pub const CLOSED: u32 = 8;
 
 /// A number in the options names nothing.
 pub const BAD_OPTION: u32 = 9;
+
+/// The text of the policy has a fault.
+pub const BAD_POLICY: u32 = 10;
+
+/// The bytes of the policy are no UTF-8.
+pub const POLICY_NOT_UTF8: u32 = 11;

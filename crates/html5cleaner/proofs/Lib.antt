@@ -13,6 +13,7 @@ pub mod Schemes
 pub mod SameReadings
 pub mod Ends
 pub mod Printing
+pub mod Buffers
 pub mod WholeTexts
 pub mod Encoded
 pub mod WrittenRuns

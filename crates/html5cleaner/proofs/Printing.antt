@@ -23,7 +23,7 @@ use Rattle.html5cleaner.specs.Cleaning.{Cleaning, PageItems, Standing, cleaning_
 abbrev pub printed_after : List ℕ → Cleaned → Cleaning
 printed_after before c = record { policy = c.policy; printed = before ++ page_bytes c.pieces; hidden = c.hidden; opened = c.opened }
 
-page_bytes-append : (first second : List Piece) → page_bytes (first ++ second) ≡ page_bytes first ++ page_bytes second
+pub page_bytes-append : (first second : List Piece) → page_bytes (first ++ second) ≡ page_bytes first ++ page_bytes second
 page_bytes-append first second = ap encode_utf8_all (flat_map-append piece_text first second) ∙ encodes-append (pieces_text first) (pieces_text second)
 
 printed-step : (before : List ℕ) (c : Cleaned) (run : List ℕ) (told : Told) (line : ℕ)

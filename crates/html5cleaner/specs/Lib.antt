@@ -7,3 +7,4 @@ pub mod Kept
 pub mod Reading
 pub mod Urls
 pub mod Cleaning
+pub mod Buffering

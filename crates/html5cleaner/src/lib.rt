@@ -3,6 +3,7 @@
 
 mod attributes;
 mod balance;
+mod clean_buffer;
 mod clean_printer;
 mod cleaner;
 mod counts;
@@ -15,6 +16,7 @@ mod page;
 mod printed_page;
 mod settings;
 
+pub use crate::clean_buffer::{CleanBuffer, buffers_clean_pages};
 pub use crate::clean_printer::CleanPrinter;
 pub use crate::cleaner::Cleaner;
 pub use crate::page::{clean_page, clean_text};

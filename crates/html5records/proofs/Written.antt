@@ -1,6 +1,6 @@
 -- What is written, one thing after the other.
 use Rattle.std.proofs.Common.{◌≡◌, ℕ, ◌+◌, ◌<◌, ◌≤◌, Bool, false, List, [], ◌∷◌, ◌++◌, map, length, take, drop, get_or, Result, OnOk, refl, ap, sym, ◌∙◌}
-use Rattle.std.proofs.lemmas.List.{append-nil, append_assoc, map_more, drop-append-le, take-append-drop, length-append, length-take-le}
+use Rattle.std.proofs.lemmas.List.{append-nil, append_assoc, map_more, drop-append-le}
 use Rattle.std.proofs.lemmas.List.Concat.{flat_map-append}
 use Rattle.std.proofs.lemmas.Result.{on_ok_weaker}
 use Rattle.std.specs.List.{flat_map}
@@ -10,7 +10,6 @@ use Rattle.html5ever_interface.specs.Token.{Told, is_text}
 use Rattle.html5ever_interface.specs.Token.Told.{Text}
 use Rattle.html5records.specs.Recording.{text_closing, added_by}
 use Rattle.html5records.specs.Records.{attribute_record, heading, heading_of, code_of, record_of}
-use Rattle.markup5ever.specs.Lists.{BeginsWith}
 
 -- what is written for one thing more
 pub flat_map-push : {X : Type 0} (f : X → List ℕ) (xs : List X) (x : X) → flat_map f (xs ++ x ∷ []) ≡ flat_map f xs ++ f x
@@ -49,22 +48,10 @@ unfolding added_by
 added_by-other in_text (Text text) line other = absurd cc
 added_by-other in_text told line other = refl
 
--- bytes that were taken, and those that wait
-
+-- bytes more after those that wait
 pub bytes-more : (taken written added next : List ℕ) (skipped : ℕ) → skipped ≤ length written → next ≡ written ++ added
     → taken ++ drop skipped next ≡ (taken ++ drop skipped written) ++ added
 bytes-more taken written added next skipped within more =
     ap (λ l. taken ++ drop skipped l) more
     ∙ ap (λ l. taken ++ l) (drop-append-le skipped written added within)
     ∙ sym (append_assoc taken (drop skipped written) added)
-
-pub bytes-taken : (taken more front rest : List ℕ) (count : ℕ) → more ≡ taken ++ take count front → rest ≡ drop count front → more ++ rest ≡ taken ++ front
-bytes-taken taken more front rest count more_is rest_is =
-    ap (λ l. l ++ rest) more_is
-    ∙ append_assoc taken (take count front) rest
-    ∙ ap (λ l. taken ++ (take count front ++ l)) rest_is
-    ∙ ap (λ l. taken ++ l) (take-append-drop count front)
-
-pub count-taken : (taken more front : List ℕ) (count : ℕ) → more ≡ taken ++ take count front → count ≤ length front → length more ≡ length taken + count
-count-taken taken more front count more_is within =
-    ap length more_is ∙ length-append taken (take count front) ∙ ap (λ n. length taken + n) (length-take-le count front within)

@@ -3,7 +3,7 @@
 -- A text has no line, and no length in front. Its record begins with the first bytes of it that are sent, and goes on with
 -- each further piece. Once another token comes, it ends with a byte that no UTF-8 has. So each run of text has one record,
 -- however it was sent. None of it waits in memory for its end, and what was written is never rewritten.
-use Rattle.std.specs.Prelude.{◌≡◌, ℕ, ◌+◌, Bool, true, false, List, [], ◌∷◌, ◌++◌, length, Option, None, Some, is_some}
+use Rattle.std.specs.Prelude.{ℕ, ◌+◌, Bool, true, false, List, [], ◌∷◌, ◌++◌, length, Option, None, Some, is_some}
 use Rattle.std.specs.Int.{w64, to_le_bytes}
 use Rattle.std.specs.List.{flat_map}
 use Rattle.markup5ever.specs.Names.{AttributeOf}

@@ -1,5 +1,5 @@
 //! A sink that writes what it is sent as records of bytes.
-ghost use Rattle.std.specs.Prelude.{◌≡◌, ◌≢◌, ℕ, Err, false, List, [], ◌∷◌, ◌+◌, ◌/◌, ◌≤◌, ◌++◌, length, take, drop, min, vec_len, string_bytes, IfOk, OnOk, OnErr};
+ghost use Rattle.std.specs.Prelude.{◌≡◌, ◌≢◌, ℕ, Err, false, List, [], ◌∷◌, ◌+◌, ◌≤◌, ◌++◌, length, take, drop, min, string_bytes, IfOk, OnOk, OnErr};
 ghost use Rattle.html5records.specs.Recording.{Recorded, waiting, nothing_recorded, reply_by, added_by, added_by_text, recorded_step, WritesOn, closed_bytes, joined, after_taking};
 ghost use Rattle.html5records.specs.Records.{records_of};
 ghost use Rattle.html5ever_interface.specs.Sink.{Message, stepped};
@@ -12,6 +12,7 @@ use html5ever_interface::interface::sink::TokenSink;
 use html5ever_interface::interface::token::{SinkFault, TextFault, Token, TokenSinkResult};
 use html5sinks::pausing::pausing_reply;
 use html5sinks::replies::standard_reply;
+use outbox::front::{rest_of, skip_front};
 use std::alloc::{AllocError, Allocator, Global};
 use std::marker::Model;
 
@@ -119,38 +120,6 @@ fn push_and_reply<A: Allocator + Copy>(
     let reply = reply_to(replies, token)?;
     push_whole_token(written, in_text, token, line)?;
     Ok(reply)
-}
-
-// What is left of the bytes once so many were skipped.
-fn rest_of<A: Allocator>(written: &Vec<u8, A>, skipped: usize) -> &[u8]
-    requires { skipped ≤ vec_len written.now }
-    ensures { result.now ≡ drop skipped written.now.items }
-{
-    &written[skipped..]
-}
-
-// Lets so many bytes at the front go. What is left moves up.
-fn drop_front<A: Allocator>(written: &mut Vec<u8, A>, count: usize)
-    requires { count ≤ vec_len written.old }
-    ensures { written.new.items ≡ drop count written.old.items }
-{
-    let rest = written.len() - count;
-    written.copy_within(count.., 0);
-    written.truncate(rest);
-}
-
-// Counts so many more bytes as skipped. What is left moves up once more than half is skipped, so that each byte moves
-// at most once for each byte that is skipped.
-fn skip_front<A: Allocator>(written: &mut Vec<u8, A>, skipped: &mut usize, count: usize)
-    requires { skipped.old + count ≤ vec_len written.old }
-    ensures rest { drop skipped.new written.new.items ≡ drop (skipped.old + count) written.old.items }
-    ensures within { skipped.new ≤ vec_len written.new / 2 }
-{
-    *skipped += count;
-    if *skipped > written.len() / 2 {
-        drop_front(written, *skipped);
-        *skipped = 0;
-    }
 }
 
 /// What is written for messages is their records, one after the other. Adjacent texts are one, and an empty text has none.

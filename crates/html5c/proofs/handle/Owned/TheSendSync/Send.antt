@@ -1,4 +1,4 @@
--- What an owner owns may go to another thread: the session in its block, and the right to free it.
+-- What an owner owns may go to another thread: the page in its block, and the right to free it.
 use mir.Raw.{raw}
 use denote.Memory.{lone}
 use denote.Struct.Struct.{exits_of}
@@ -12,14 +12,14 @@ use Rattle.std_alloc.proofs.SendSync.{quiet, lies}
 use Rattle.std_heap.proofs.Global.TheSendSync as handle
 use Rattle.std_heap.specs.declared.Global.{Global}
 use Rattle.html5c.specs.Held.{held}
-use Rattle.html5c.specs.contracts.slot.SessionSlot as SessionSlot
-use Rattle.html5c.specs.declared.slot.SessionSlot.{SessionSlot as Session}
-use Rattle.html5c.proofs.slot.SessionSlot.TheSendSync.{the_send as slot}
+use Rattle.html5c.specs.contracts.slot.PageSlot as PageSlot
+use Rattle.html5c.specs.declared.slot.PageSlot.{PageSlot as Page}
+use Rattle.html5c.proofs.slot.PageSlot.TheSendSync.{the_send as slot}
 use Rattle.html5c.specs.contracts.handle.Owned.{the_row, the_type}
 
-crosses : (alloc : Global) (at : Ptr) (value : Option Session) → Keyless (held alloc at value)
+crosses : (alloc : Global) (at : Ptr) (value : Option Page) → Keyless (held alloc at value)
 crosses alloc at None = tt
-crosses alloc at (Some session) = (lies SessionSlot.the_row slot at session, heap.frees.frees alloc (raw (lone SessionSlot.the_row.mir)) at)
+crosses alloc at (Some page) = (lies PageSlot.the_row slot at page, heap.frees.frees alloc (raw (lone PageSlot.the_row.mir)) at)
 
 pub send : IsSend the_row
 send =

@@ -26,7 +26,7 @@ use Rattle.std.specs.Prelude.{◌≡◌, Option, None, Some, IsSome}
 use Rattle.std_alloc.proofs.BoxSteps.Form.{D, B, word, box_typed}
 use Rattle.std_alloc.proofs.BoxSteps.Steps.{box_out, box_in}
 use Rattle.html5c.proofs.Boxed.{E, Keeper}
-use Rattle.html5c.specs.declared.slot.SessionSlot.{SessionSlot}
+use Rattle.html5c.specs.declared.slot.PageSlot.{PageSlot}
 use Rattle.html5c.specs.contracts.handle.Owned as Owned
 use Rattle.html5c.specs.contracts.handle.Owned.into_parts as F
 use Rattle.html5c.specs.contracts.handle.Owned.into_parts.Key.{name as #self}
@@ -36,7 +36,7 @@ use Rattle.html5c.proofs.handle.Owned.into_parts.Code as code
 abbrev stayed : Stays (F.ended).signature.params (F.ended).kept
 stayed = (stay_dropped Keeper yes, tt)
 
-value_of : (held : Option SessionSlot) → IsSome held → (slot : SessionSlot) × (held ≡ Some slot)
+value_of : (held : Option PageSlot) → IsSome held → (slot : PageSlot) × (held ≡ Some slot)
 value_of None is = absurd cc
 value_of (Some slot) is = (slot, refl)
 
@@ -54,7 +54,7 @@ module _ {M : Type 1} {𝓤 : Ura M} (𝓛 : Logic 𝓤) (at_mem : Memory → SP
       let v : D E = record { ptr = d.at; alloc = d.alloc; value = slot } in
       let made : To.Denot = record { ptr = d.at; alloc = d.alloc; value = slot } in
       split ! $ drop ! $ fsplit ! $
-      rewrite ! 0 (λ (held : Option SessionSlot). ‵ ((Owned.the_row).own_val (record { at = d.at; alloc = d.alloc; value = held }) z.0.4.0)) holds refl $
+      rewrite ! 0 (λ (held : Option PageSlot). ‵ ((Owned.the_row).own_val (record { at = d.at; alloc = d.alloc; value = held }) z.0.4.0)) holds refl $
       use1 𝓛 (‵ ((B E).own_val v z.0.4.0)) (id⊢ 𝓤 _) $
       box_out E ! v z.0.4.0 (λ b o hv e ws fa. box_in E ! v b o v.value e refl $ use1 𝓛 (‵ (To.own_val made (word E hv b o ∷ []))) (id⊢ 𝓤 _) $ move ! (1 ∷ []) $ drop ! $
       let w = word E hv b o in

@@ -2,8 +2,8 @@ use Rattle.std.proofs.Common.{◌≡◌, ◌≤◌, ◌++◌, List, ℕ, length,
 use Rattle.std.proofs.lemmas.List.{drop-drop}
 use Rattle.std.proofs.Math.Seq.{drop-append_seam}
 use Rattle.html5records.specs.Recording.{Recording, waiting, after_taking}
-use Rattle.html5records.proofs.Written.{bytes-taken, count-taken}
 use Rattle.html5records.proofs.record_sink.RecordSink.skip.Goals as goal
+use Rattle.outbox.proofs.Bytes.{bytes-taken, count-taken}
 
 pub returns : goal.returns
 returns g c =

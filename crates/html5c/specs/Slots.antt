@@ -1,0 +1,35 @@
+-- What a handle is of: a session of the tokenizer, a page that is cleaned, or, where it is closed, neither.
+use Rattle.std.specs.Prelude.{ℕ, Option, None, Some}
+use Rattle.html5c.specs.declared.slot.PageSlot.{PageSlot}
+use Rattle.html5c.specs.declared.slot.PageSlot.TheVariants.{Tokenizer, Cleaner}
+use Rattle.html5cleaning.specs.Cleaning.{CleaningOf}
+use Rattle.html5session.specs.Session.{SessionOf}
+
+abbrev pub session_in : PageSlot → Option SessionOf
+session_in (Tokenizer s) = Some s
+session_in other = None
+
+abbrev pub cleaner_in : PageSlot → Option CleaningOf
+cleaner_in (Cleaner s) = Some s
+cleaner_in other = None
+
+-- the session of what a handle owns
+abbrev pub session_of : Option PageSlot → Option SessionOf
+session_of None = None
+session_of (Some slot) = session_in slot
+
+-- the page that is cleaned of what a handle owns
+abbrev pub cleaner_of : Option PageSlot → Option CleaningOf
+cleaner_of None = None
+cleaner_of (Some slot) = cleaner_in slot
+
+-- what a call says where there is one before it and after it, and what it says where there is none
+abbrev pub WhereOpen : {S : Type 0} → (S → S → Type 0) → Type 0 → Option S → Option S → Type 0
+WhereOpen says closed (Some old) (Some new) = says old new
+WhereOpen says closed None None = closed
+WhereOpen says closed _ _ = ⊥
+
+-- a place that is kept, or 0
+abbrev pub place_in : Option ℕ → ℕ
+place_in None = 0
+place_in (Some place) = place

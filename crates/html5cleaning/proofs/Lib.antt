@@ -1,0 +1,3 @@
+pub mod Waiting
+pub mod Fed
+pub mod Calls

@@ -1,0 +1,19 @@
+//! Why a call of a session was refused.
+use thiserror::Error;
+
+/// Why a call was refused.
+#[derive(Clone, Copy, Debug, PartialEq, Eq, Error)]
+pub enum CleaningError {
+    /// A growth was refused.
+    #[error("out of memory")]
+    Memory,
+    /// The bytes stop being UTF-8 at this place, counted in bytes from the first of the first piece.
+    #[error("the bytes from place {valid_up_to} on are no UTF-8")]
+    NotUtf8 { valid_up_to: u64 },
+    /// The page ends within a character: its bytes are not all there.
+    #[error("the bytes end within a character")]
+    Cut,
+    /// The page has ended, or an earlier call failed.
+    #[error("the session is over")]
+    Over,
+}
