@@ -15,15 +15,15 @@ static int failed;
         } \
     } while (0)
 
-static uint32_t feed(html5_handle *handle, const char *text) {
+static html5_status feed(html5_handle *handle, const char *text) {
     return html5_feed(handle, (const uint8_t *)text, strlen(text));
 }
 
-static uint32_t insert(html5_handle *handle, const char *text) {
+static html5_status insert(html5_handle *handle, const char *text) {
     return html5_insert(handle, (const uint8_t *)text, strlen(text));
 }
 
-static uint32_t open_after(html5_handle *handle, const char *last_start_tag, html5_options options) {
+static html5_status open_after(html5_handle *handle, const char *last_start_tag, html5_options options) {
     return html5_new(handle, (const uint8_t *)last_start_tag, strlen(last_start_tag), &options);
 }
 
@@ -45,6 +45,7 @@ static void reads_a_page_in_pieces(void) {
     CHECK(html5_end(&handle) == HTML5_CUT);
     CHECK(feed(&handle, "\xa9</p") == HTML5_DONE);
     CHECK(feed(&handle, ">") == HTML5_DONE);
+    CHECK(html5_feed(&handle, NULL, 0) == HTML5_DONE);
     CHECK(TAKES(&handle, 4, "\x03" "1 <"));
     CHECK(!html5_is_over(&handle));
     CHECK(html5_end(&handle) == HTML5_DONE);
@@ -90,6 +91,30 @@ static void says_where_bytes_are_no_text(void) {
     html5_free(&handle);
 }
 
+/* Why there is no next token: all is read, or a text is open. */
+static void says_why_there_is_no_token(void) {
+    html5_handle handle = {0};
+    html5_reader reader = {0};
+    html5_token token;
+    html5_options options = {0};
+    CHECK(open_after(&handle, "", options) == HTML5_DONE);
+    CHECK(feed(&handle, "<p>1") == HTML5_DONE);
+    CHECK(html5_fill(&reader, &handle));
+    CHECK(html5_next_token(&reader, &token) && token.kind == HTML5_START_TAG);
+    CHECK(!html5_next_token(&reader, &token) && reader.stop == HTML5_TEXT_OPEN);
+    CHECK(html5_end(&handle) == HTML5_DONE);
+    CHECK(html5_fill(&reader, &handle));
+    CHECK(html5_next_token(&reader, &token) && token.kind == HTML5_TEXT && token.text.len == 1);
+    CHECK(html5_next_token(&reader, &token) && token.kind == HTML5_END);
+    CHECK(!html5_next_token(&reader, &token) && reader.stop == HTML5_ALL_READ);
+    reader.bytes[0] = HTML5_COMMENT;
+    reader.at = 0;
+    reader.len = 5;
+    CHECK(!html5_next_token(&reader, &token) && reader.stop == HTML5_NOT_WHOLE);
+    html5_reader_free(&reader);
+    html5_free(&handle);
+}
+
 static void is_closed_until_it_is_opened(void) {
     html5_handle handle = {0};
     html5_options options = {0}, no_state = {.state = 6}, no_replies = {.replies = 3};
@@ -116,6 +141,7 @@ int main(void) {
     reads_a_page_in_pieces();
     pauses_and_lets_text_in();
     says_where_bytes_are_no_text();
+    says_why_there_is_no_token();
     is_closed_until_it_is_opened();
     return failed;
 }
