@@ -1,13 +1,13 @@
 #!/bin/bash
-# Builds the archive and the shared library. First it tries each call from C, and under valgrind that all memory comes
-# back. Then it checks the readers in C, Rust and Python: each prints a page in pieces of 1, 7 and 4,096 bytes as
-# html5tok does. What it makes stands in bindings/out. It wants the toolchain, and, for each language, gcc with valgrind,
-# cargo and python3; what isn't there is left out, and it says so, also at the end.
+# Builds the library (build.sh), and checks it and the one that is shipped in dist/: the calls from C, also under valgrind,
+# and what stands on them in C, Rust and Python. Their readers print pages in pieces of 1, 7 and 4,096 bytes as html5tok
+# does, and clean them as html5clean. The wheel is installed as a user would, and so is the library for C. What is made
+# stands in bindings/out. It wants the toolchain and, for each language, gcc with valgrind and pkg-config, cargo, and
+# python3; what isn't there is left out, and it says so, also at the end.
 set -eu
 cd "$(dirname "$0")"
 here=$PWD
 out=$here/out
-kit=$(dirname "$(rt doc)")
 failed=0
 passed=0
 left_out=""
@@ -32,84 +32,121 @@ check() {
     fi
 }
 
-# The archive: that of the crate, and the part of the C library that it calls.
-archive() {
-    (cd ../crates/html5c && rt lib) >"$out/rt.log" 2>&1 || {
-        tail -20 "$out/rt.log"
-        return 1
-    }
-    rm -rf "$out/objects" "$out/libfirnuubal.a"
-    mkdir "$out/objects"
-    (cd "$out/objects" && ar x "$here/../crates/html5c/out/libhtml5c.a" && ar x "$kit/c/liblibc_c.a" && ar rcs ../libfirnuubal.a ./*)
-    rm -r "$out/objects"
-}
-
-shared() {
-    gcc -shared -o "$out/libfirnuubal.so" -Wl,--whole-archive "$out/libfirnuubal.a" -Wl,--no-whole-archive
-}
-
 # Builds a program in C, which is a file of c/, and names it.
 built_in_c() {
-    gcc -std=c99 -Wall -Wextra -Werror -O2 "c/$1" "$out/libfirnuubal.a" -o "$out/$2"
+    gcc -std=c99 -Wall -Wextra -Werror -O2 "c/$1" "$library/libfirnuubal.a" -o "$out/$2"
 }
 
-# The examples are built in out/, so that no file of cargo's stands beside the sources.
+# The crate is built in out/, so that no file of cargo's stands beside the sources.
 rust() {
     rm -rf "$out/rust"
     cp -r rust "$out/rust"
-    (cd "$out/rust" && FIRNUUBAL_LIB=$out CARGO_TARGET_DIR=$out/target cargo "$@" --quiet --offline)
+    (cd "$out/rust" && FIRNUUBAL_LIB=$library CARGO_TARGET_DIR=$out/target cargo "$@" --quiet --offline)
 }
 
 python() {
-    FIRNUUBAL_LIB=$out PYTHONDONTWRITEBYTECODE=1 python3 "$@"
+    FIRNUUBAL_LIB=$library PYTHONDONTWRITEBYTECODE=1 PYTHONPATH=python/src python3 "$@"
 }
 
-# Whether a reader prints the pages as html5tok does.
-prints_as_html5tok() {
-    local page piece
+# Whether a program prints the pages as the lines of another say, whose name ends the names of their files.
+prints_as() {
+    local kind=$1 page piece
+    shift
     for page in "$out/page.html" "$out/odd.html"; do
         for piece in 1 7 4096; do
-            "$@" "$piece" <"$page" | cmp - "$page.lines" || return 1
+            "$@" "$piece" <"$page" | cmp - "$page.$kind" || return 1
         done
     done
 }
 
-# Whether the example and the tests in C give back all memory, and touch no other.
+# Whether the examples and the tests in C give back all memory, and touch no other.
 leaks_nothing() {
-    valgrind --quiet --leak-check=full --error-exitcode=9 "$out/tokens-c" 7 <"$out/page.html" >/dev/null &&
-        valgrind --quiet --leak-check=full --error-exitcode=9 "$out/calls-c"
+    local under="valgrind --quiet --leak-check=full --error-exitcode=9"
+    $under "$out/tokens-c" 7 <"$out/page.html" >/dev/null && $under "$out/calls-c" &&
+        $under "$out/clean-c" 7 <"$out/page.html" >/dev/null && $under "$out/cleaning-c"
 }
 
-# The pages, and the lines of html5tok.
+# The pages, what html5tok prints of each, and what html5clean does.
 pages() {
     local page
     cp page.html "$out/page.html"
     printf 'a\0b\1\177<a href="x\ny">\r\n<p\0><!--\0' >"$out/odd.html"
     for page in "$out/page.html" "$out/odd.html"; do
-        ../crates/html5tok/out/html5tok --table "$(python3 ../tools/entities.py)" <"$page" >"$page.lines"
+        ../crates/html5tok/out/html5tok --table "$(python3 ../tools/entities.py)" <"$page" >"$page.tokens"
+        ../crates/html5clean/out/html5clean <"$page" >"$page.cleaned"
     done
 }
 
-mkdir -p "$out"
-check "the archive" archive
-[ -x ../crates/html5tok/out/html5tok ] || (cd ../crates/html5tok && rt run </dev/null >/dev/null 2>"$out/rt.log")
-check "html5tok" pages
-if has gcc "C"; then
-    check "the tests in C" built_in_c tests/calls.c calls-c
+# Whether a program in C finds the library where it was installed.
+links_where_it_is_installed() {
+    local prefix=$out/prefix flags
+    rm -rf "$prefix"
+    make -s -C c install PREFIX="$prefix" LIB="$library"
+    flags=$(PKG_CONFIG_PATH=$prefix/lib/pkgconfig pkg-config --cflags --libs firnuubal)
+    sed 's|"../firnuubal.h"|<firnuubal.h>|' c/examples/clean.c >"$out/installed.c"
+    # The flags are words of their own.
+    # shellcheck disable=SC2086
+    gcc -std=c99 -O2 "$out/installed.c" -o "$out/installed" $flags
+    LD_LIBRARY_PATH=$prefix/lib prints_as cleaned "$out/installed"
+}
+
+# Whether the wheel serves where nothing else of this repository is seen.
+serves_as_a_wheel() {
+    local env=$out/venv wheels=$out/wheels
+    rm -rf "$env" "$wheels"
+    mkdir "$wheels"
+    python3 -m venv "$env"
+    FIRNUUBAL_LIB=$library "$env/bin/pip" wheel --quiet --no-index --no-deps --wheel-dir "$wheels" ./python
+    "$env/bin/pip" install --quiet --no-index "$wheels"/firnuubal-*.whl
+    (cd "$out" && "$env/bin/python" -c 'import firnuubal; assert firnuubal.clean("<p onclick=x>1") == "<p>1"')
+}
+
+in_c() {
+    check "the tests of calls in C" built_in_c tests/calls.c calls-c
     check "each call from C" "$out/calls-c"
-    check "the example in C" built_in_c examples/tokens.c tokens-c
+    check "the tests of cleaning in C" built_in_c tests/cleaning.c cleaning-c
+    check "cleaning from C" "$out/cleaning-c"
+    check "the reader in C" built_in_c examples/tokens.c tokens-c
+    check "the tokens from C" prints_as tokens "$out/tokens-c"
+    check "the cleaner in C" built_in_c examples/clean.c clean-c
+    check "cleaned pages from C" prints_as cleaned "$out/clean-c"
     has valgrind "the check for leaks" && check "leaks" leaks_nothing
-    check "the reader in C" prints_as_html5tok "$out/tokens-c"
-    check "the shared library" shared
-fi
-if has cargo "Rust"; then
-    check "the tests in Rust" rust test --tests >/dev/null
-    check "the example in Rust" rust build --release --example tokens
-    check "the reader in Rust" prints_as_html5tok "$out/target/release/examples/tokens"
-fi
-if has python3 "Python" && [ -e "$out/libfirnuubal.so" ]; then
-    check "the tests in Python" python python/test_firnuubal.py --quiet
-    check "the reader in Python" prints_as_html5tok env "FIRNUUBAL_LIB=$out" PYTHONDONTWRITEBYTECODE=1 python3 python/examples/tokens.py
+    has pkg-config "the installation for C" && check "the installation for C" links_where_it_is_installed
+}
+
+in_rust() {
+    check "the tests in Rust" rust test >/dev/null
+    check "the examples in Rust" rust build --release --examples
+    check "the tokens from Rust" prints_as tokens "$out/target/release/examples/tokens"
+    check "cleaned pages from Rust" prints_as cleaned "$out/target/release/examples/clean"
+}
+
+in_python() {
+    check "the tests in Python" python -m unittest discover --quiet -s python/tests
+    check "the tokens from Python" prints_as tokens env "FIRNUUBAL_LIB=$library" PYTHONDONTWRITEBYTECODE=1 python3 python/examples/tokens.py
+    check "cleaned pages from Python" prints_as cleaned env "FIRNUUBAL_LIB=$library" PYTHONDONTWRITEBYTECODE=1 python3 python/examples/clean.py
+    check "the wheel" serves_as_a_wheel
+}
+
+# Checks the library of a folder.
+check_library() {
+    library=$1
+    if has gcc "C"; then in_c; fi
+    if has cargo "Rust"; then in_rust; fi
+    if has python3 "Python"; then in_python; fi
+}
+
+mkdir -p "$out"
+./build.sh
+for program in html5tok html5clean; do
+    [ -x "../crates/$program/out/$program" ] || (cd "../crates/$program" && rt run </dev/null >/dev/null 2>"$out/rt.log")
+done
+check "html5tok and html5clean" pages
+check_library "$out"
+if [ -d ../dist ]; then
+    check "what is shipped" python3 ../tools/dist.py --check
+    # Where both have the same bytes, what was checked holds of both.
+    cmp -s ../dist/libfirnuubal.a "$out/libfirnuubal.a" || check_library "$(cd ../dist && pwd)"
 fi
 echo "bindings: $passed checks passed, $failed failed$left_out"
 [ "$failed" = 0 ]

@@ -15,7 +15,8 @@ PLACES = {
     "CHANGELOG.md": r"^## (\S+)",
     "crates/html5programs/src/version.rt": r'^const VERSION: &str = "(.*)";',
     "bindings/c/firnuubal.h": r'^#define FIRNUUBAL_VERSION "(.*)"',
-    "bindings/python/firnuubal.py": r'^__version__ = "(.*)"',
+    "bindings/python/src/firnuubal/__init__.py": r'^__version__ = "(.*)"',
+    "bindings/python/pyproject.toml": r'^version = "(.*)"',
     "bindings/rust/Cargo.toml": r'^version = "(.*)"',
 }
 

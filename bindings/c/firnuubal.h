@@ -1,8 +1,8 @@
 /*
  * The tokenizer and the cleaner from C (C99), and a reader of the tokenizer's records.
  *
- * The functions of the first part are in the archive libfirnuubal.a: they are proved, and their contracts are in
- * crates/html5c/src/calls.rt and cleaner_calls.rt. The reader of the last part is in this header alone, and is not proved.
+ * The functions of the first two parts are in the library: they are proved, and their contracts are in crates/html5c/src.
+ * What is `static inline` is in this header alone, and is not proved.
  */
 #ifndef FIRNUUBAL_H
 #define FIRNUUBAL_H
@@ -24,7 +24,7 @@ extern "C" {
 
 /*
  * A tokenizer, or a page that is cleaned. One of zeros is closed: `html5_handle h = {0};`. Never copy an open one, and call it
- * from one thread at a time. To the calls of the other kind an open handle is closed.
+ * from one thread at a time.
  */
 typedef struct {
     void *at;
@@ -43,9 +43,21 @@ enum html5_status {
     HTML5_OVER = 7,       /* the end was told, or an earlier call was refused for good */
     HTML5_CLOSED = 8,     /* the handle is closed */
     HTML5_BAD_OPTION = 9, /* an option has no such value */
-    HTML5_BAD_POLICY = 10,     /* the text of a policy has a fault */
-    HTML5_POLICY_NOT_UTF8 = 11 /* the bytes of a policy are no UTF-8 */
+    HTML5_BAD_POLICY = 10,     /* a line of the policy is no rule that it takes */
+    HTML5_POLICY_NOT_UTF8 = 11 /* the policy is no UTF-8 */
 };
+
+typedef enum html5_status html5_status;
+
+/* What a status says, in words. */
+static inline const char *html5_status_text(html5_status status) {
+    static const char *const texts[] = {
+        "done", "paused after a script", "paused after a meta tag that names an encoding", "out of memory",
+        "the page is no UTF-8", "the page ends within a character", "text waits after a pause",
+        "the page has ended, or an earlier call was refused for good", "the handle is closed",
+        "an option has no such value", "a line of the policy is no rule that it takes", "the policy is no UTF-8"};
+    return (size_t)status < sizeof texts / sizeof *texts ? texts[status] : "no such status";
+}
 
 /* The state in which the reading starts. */
 enum html5_state {
@@ -73,25 +85,32 @@ typedef struct {
     bool foreign;      /* all content is foreign: <![CDATA[ opens a section */
 } html5_options;
 
-/* No pointer to bytes may be null, also where the length is 0. */
+/*
+ * No pointer may be null. But where a length is 0, the bytes of a feed may be: `html5_feed(&handle, NULL, 0)` goes on after
+ * a pause.
+ */
+static inline const uint8_t *html5_bytes_or_none(const void *bytes) {
+    return bytes ? (const uint8_t *)bytes : (const uint8_t *)"";
+}
 
 /*
  * Opens a handle at the start of a page. What it held before is freed. `last_start_tag` is the name of the tag whose end
  * tag ends raw text, where the reading starts in some; its length is 0 otherwise.
  */
-uint32_t html5_new(html5_handle *handle, const uint8_t *last_start_tag, size_t len, const html5_options *options);
+html5_status html5_new(html5_handle *handle, const uint8_t *last_start_tag, size_t len, const html5_options *options);
 
 /* Reads the next bytes, in pieces of any size. After a pause it goes on, with what waits and these bytes. */
-uint32_t html5_feed(html5_handle *handle, const uint8_t *bytes, size_t len);
+html5_status html5_feed(html5_handle *handle, const uint8_t *bytes, size_t len);
+#define html5_feed(handle, bytes, len) html5_feed(handle, html5_bytes_or_none(bytes), len)
 
 /*
  * Puts a text in front of what waits, as document.write does. It is UTF-8 by itself, else nothing changes. Where nothing
  * more is read it answers HTML5_OVER, whatever the bytes.
  */
-uint32_t html5_insert(html5_handle *handle, const uint8_t *text, size_t len);
+html5_status html5_insert(html5_handle *handle, const uint8_t *text, size_t len);
 
 /* Tells the end of the page. */
-uint32_t html5_end(html5_handle *handle);
+html5_status html5_end(html5_handle *handle);
 
 /* Moves the next bytes of the records to `out`, as many as fit, and answers how many. */
 size_t html5_take(html5_handle *handle, uint8_t *out, size_t len);
@@ -112,29 +131,67 @@ void html5_free(html5_handle *handle);
 /* ---- the cleaner */
 
 /*
- * Opens a handle at the start of a page that is cleaned: by the policy of a text or, where its length is 0, by the standard
- * one. What the handle held before is freed. `place` is then 0, or where the policy has its fault: after HTML5_BAD_POLICY the
- * line, counted from 1, and after HTML5_POLICY_NOT_UTF8 the byte. html5_free closes the handle.
+ * Opens a handle at the start of a page that is cleaned. What it held before is freed. The policy is a text, a rule a line
+ * (crates/html5policy/README.md); one of no bytes is the standard policy. After HTML5_BAD_POLICY `place` is the number of
+ * the line, after HTML5_POLICY_NOT_UTF8 the place of the first such byte, and after any other status it is 0. To the calls of a
+ * tokenizer the handle is closed, but for html5_free.
  */
-uint32_t html5_cleaner_new(html5_handle *handle, const uint8_t *policy, size_t len, uint64_t *place);
+html5_status html5_cleaner_new(html5_handle *handle, const uint8_t *policy, size_t len, uint64_t *place);
 
-/* Begins another page, by the same policy. What was kept and not taken is gone. */
-uint32_t html5_cleaner_restart(html5_handle *handle);
+/* Begins another page, by the same policy. What was not taken is gone. */
+html5_status html5_cleaner_restart(html5_handle *handle);
 
 /* Reads the next bytes of the page, in pieces of any size. */
-uint32_t html5_cleaner_feed(html5_handle *handle, const uint8_t *bytes, size_t len);
+html5_status html5_cleaner_feed(html5_handle *handle, const uint8_t *bytes, size_t len);
+#define html5_cleaner_feed(handle, bytes, len) html5_cleaner_feed(handle, html5_bytes_or_none(bytes), len)
 
-/* Tells the end of the page. The rest of what is kept of it can then be taken. */
-uint32_t html5_cleaner_end(html5_handle *handle);
+/* Ends the page. All that is kept of it can be taken then. */
+html5_status html5_cleaner_end(html5_handle *handle);
 
-/* Moves the next bytes of what was kept to `out`, as many as fit, and answers how many: 0 where none wait. */
+/* Moves the next bytes of what is kept to `out`, as many as wait and fit, and answers how many. */
 size_t html5_cleaner_take(html5_handle *handle, uint8_t *out, size_t len);
 
 /* After HTML5_NOT_UTF8: the place of the first byte that is no UTF-8, counted from the page's first. */
 uint64_t html5_cleaner_error_at(html5_handle *handle);
 
-/* Whether nothing more is read, as html5_is_over says it of a tokenizer. */
+/* Whether nothing more is read of the page: it has ended, or a call was refused for good. Of a closed one it is false. */
 bool html5_cleaner_is_over(html5_handle *handle);
+
+/* Bytes of UTF-8 of its own memory, and how many. A zero byte stands after them, which does not count. */
+typedef struct {
+    char *at;
+    size_t len;
+} html5_page;
+
+static inline html5_status html5_take_page(html5_handle *handle, html5_page *kept) {
+    for (size_t room = 1 << 14;; room *= 2) {
+        char *at = (char *)realloc(kept->at, room + 1);
+        if (!at) return HTML5_NO_MEMORY;
+        kept->at = at;
+        kept->len += html5_cleaner_take(handle, (uint8_t *)at + kept->len, room - kept->len);
+        at[kept->len] = 0;
+        if (kept->len < room) return HTML5_DONE;
+    }
+}
+
+/*
+ * What the cleaner's policy keeps of a whole page. `free(kept->at)` gives its memory back. After any status but HTML5_DONE
+ * there is none.
+ */
+static inline html5_status html5_clean(html5_handle *handle, const char *page, size_t len, html5_page *kept) {
+    kept->at = NULL;
+    kept->len = 0;
+    html5_status status = html5_cleaner_restart(handle);
+    if (!status) status = html5_cleaner_feed(handle, page, len);
+    if (!status) status = html5_cleaner_end(handle);
+    if (!status) status = html5_take_page(handle, kept);
+    if (status) {
+        free(kept->at);
+        kept->at = NULL;
+        kept->len = 0;
+    }
+    return status;
+}
 
 /* ---- a reader of records */
 
@@ -174,12 +231,20 @@ typedef struct {
     html5_text public_id, system_id;                           /* of a DOCTYPE */
 } html5_token;
 
+/* Why there is no next token. */
+enum html5_stop {
+    HTML5_ALL_READ = 0,  /* all that was taken is read */
+    HTML5_TEXT_OPEN = 1, /* a text is left whose end has not come */
+    HTML5_NOT_WHOLE = 2  /* what is left is no whole record: not all was taken, or it is no record */
+};
+
 /* The bytes that were taken of a handle and not read yet. One of zeros is empty. */
 typedef struct {
     uint8_t *bytes;
     size_t len, room;
     size_t at;       /* where the next record begins */
     size_t searched; /* how far the end of an open text was looked for */
+    enum html5_stop stop; /* after `html5_next_token` answered false */
 } html5_reader;
 
 static inline uint64_t html5_number(const uint8_t *at) {
@@ -279,8 +344,9 @@ static inline const uint8_t *html5_read_text(html5_reader *reader, html5_token *
     return stop + 1;
 }
 
-/* The next token that was taken whole. It answers whether there is one. */
+/* The next token that was taken whole. It answers whether there is one, and if not `reader->stop` says why. */
 static inline bool html5_next_token(html5_reader *reader, html5_token *token) {
+    reader->stop = HTML5_ALL_READ;
     if (reader->at == reader->len) return false;
     memset(token, 0, sizeof *token);
     token->text.at = token->public_id.at = token->system_id.at = "";
@@ -288,7 +354,10 @@ static inline bool html5_next_token(html5_reader *reader, html5_token *token) {
     const uint8_t *after = token->kind == HTML5_TEXT
                                ? html5_read_text(reader, token)
                                : html5_read_other(token, reader->bytes + reader->at, reader->bytes + reader->len);
-    if (!after) return false;
+    if (!after) {
+        reader->stop = token->kind == HTML5_TEXT ? HTML5_TEXT_OPEN : HTML5_NOT_WHOLE;
+        return false;
+    }
     reader->at = (size_t)(after - reader->bytes);
     return true;
 }

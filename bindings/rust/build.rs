@@ -1,14 +1,22 @@
-//! Links the archive that `bindings/check.sh` makes, from the folder that FIRNUUBAL_LIB names, or else from
-//! `bindings/out`.
+//! Links the archive libfirnuubal.a: from the folder that FIRNUUBAL_LIB names, from `bindings/out`, where
+//! `bindings/build.sh` leaves it, or from `dist`, where it is shipped.
 
 use std::env;
 use std::path::PathBuf;
 
+const ARCHIVE: &str = "libfirnuubal.a";
+
 fn main() {
-    let beside = PathBuf::from(env::var_os("CARGO_MANIFEST_DIR").unwrap()).join("../out");
-    let folder = env::var_os("FIRNUUBAL_LIB").map_or(beside, PathBuf::from);
+    println!("cargo:rerun-if-env-changed=FIRNUUBAL_LIB");
+    let here = PathBuf::from(env::var_os("CARGO_MANIFEST_DIR").unwrap());
+    let folders = match env::var_os("FIRNUUBAL_LIB") {
+        Some(folder) => vec![PathBuf::from(folder)],
+        None => vec![here.join("../out"), here.join("../../dist")],
+    };
+    let Some(folder) = folders.iter().find(|folder| folder.join(ARCHIVE).is_file()) else {
+        panic!("{ARCHIVE} is in none of {folders:?}: run bindings/build.sh, or set FIRNUUBAL_LIB");
+    };
     println!("cargo:rustc-link-search=native={}", folder.display());
     println!("cargo:rustc-link-lib=static=firnuubal");
-    println!("cargo:rerun-if-env-changed=FIRNUUBAL_LIB");
-    println!("cargo:rerun-if-changed={}", folder.join("libfirnuubal.a").display());
+    println!("cargo:rerun-if-changed={}", folder.join(ARCHIVE).display());
 }

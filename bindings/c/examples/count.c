@@ -39,10 +39,10 @@ static bool count_waiting(counts *found, html5_reader *reader, html5_handle *han
     return true;
 }
 
-static uint32_t count_page(counts *found, html5_reader *reader, html5_handle *handle) {
+static html5_status count_page(counts *found, html5_reader *reader, html5_handle *handle) {
     static uint8_t bytes[1 << 16];
     html5_options options = {0};
-    uint32_t status = html5_new(handle, bytes, 0, &options);
+    html5_status status = html5_new(handle, bytes, 0, &options);
     for (size_t len; status == HTML5_DONE && (len = fread(bytes, 1, sizeof bytes, stdin)) > 0;) {
         status = html5_feed(handle, bytes, len);
         if (!count_waiting(found, reader, handle)) return HTML5_NO_MEMORY;
@@ -55,7 +55,7 @@ int main(void) {
     html5_handle handle = {0};
     html5_reader reader = {0};
     counts found = {0};
-    uint32_t status = count_page(&found, &reader, &handle);
+    html5_status status = count_page(&found, &reader, &handle);
     html5_reader_free(&reader);
     html5_free(&handle);
     printf("tags %" PRIu64 ", attributes %" PRIu64 " of %" PRIu64 " bytes, texts %" PRIu64 " of %" PRIu64 " bytes, comments %" PRIu64 ", errors %" PRIu64 "\n",

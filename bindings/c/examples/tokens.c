@@ -81,7 +81,7 @@ static html5_text charset_of(const html5_token *token) {
 }
 
 /* Prints what waits, and after a pause its line. */
-static bool print_waiting(html5_reader *reader, html5_handle *handle, uint32_t status) {
+static bool print_waiting(html5_reader *reader, html5_handle *handle, html5_status status) {
     html5_token token;
     if (!html5_fill(reader, handle)) return false;
     while (html5_next_token(reader, &token)) print_token(&token);
@@ -95,19 +95,19 @@ static bool print_waiting(html5_reader *reader, html5_handle *handle, uint32_t s
 }
 
 /* Feeds a piece, past all pauses. */
-static uint32_t feed(html5_reader *reader, html5_handle *handle, const uint8_t *bytes, size_t len) {
+static html5_status feed(html5_reader *reader, html5_handle *handle, const uint8_t *bytes, size_t len) {
     for (;;) {
-        uint32_t status = html5_feed(handle, bytes, len);
+        html5_status status = html5_feed(handle, bytes, len);
         if (!print_waiting(reader, handle, status)) return HTML5_NO_MEMORY;
         if (status != HTML5_SCRIPT && status != HTML5_ENCODING) return status;
         len = 0;
     }
 }
 
-static uint32_t print_page(html5_reader *reader, html5_handle *handle, size_t piece) {
+static html5_status print_page(html5_reader *reader, html5_handle *handle, size_t piece) {
     static uint8_t bytes[1 << 16];
     html5_options options = {.replies = HTML5_PAUSING_REPLIES};
-    uint32_t status = html5_new(handle, bytes, 0, &options);
+    html5_status status = html5_new(handle, bytes, 0, &options);
     for (size_t len; status == HTML5_DONE && (len = fread(bytes, 1, piece, stdin)) > 0;)
         status = feed(reader, handle, bytes, len);
     if (status == HTML5_DONE) status = html5_end(handle);
@@ -120,7 +120,7 @@ int main(int count, char **words) {
     if (piece == 0 || piece > 1 << 16) return 2;
     html5_handle handle = {0};
     html5_reader reader = {0};
-    uint32_t status = print_page(&reader, &handle, piece);
+    html5_status status = print_page(&reader, &handle, piece);
     if (status == HTML5_NOT_UTF8)
         fprintf(stderr, "byte %" PRIu64 " is no UTF-8\n", html5_error_at(&handle));
     else if (status != HTML5_DONE)

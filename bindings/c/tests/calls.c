@@ -15,15 +15,15 @@ static int failed;
         } \
     } while (0)
 
-static uint32_t feed(html5_handle *handle, const char *text) {
+static html5_status feed(html5_handle *handle, const char *text) {
     return html5_feed(handle, (const uint8_t *)text, strlen(text));
 }
 
-static uint32_t insert(html5_handle *handle, const char *text) {
+static html5_status insert(html5_handle *handle, const char *text) {
     return html5_insert(handle, (const uint8_t *)text, strlen(text));
 }
 
-static uint32_t open_after(html5_handle *handle, const char *last_start_tag, html5_options options) {
+static html5_status open_after(html5_handle *handle, const char *last_start_tag, html5_options options) {
     return html5_new(handle, (const uint8_t *)last_start_tag, strlen(last_start_tag), &options);
 }
 
@@ -45,6 +45,7 @@ static void reads_a_page_in_pieces(void) {
     CHECK(html5_end(&handle) == HTML5_CUT);
     CHECK(feed(&handle, "\xa9</p") == HTML5_DONE);
     CHECK(feed(&handle, ">") == HTML5_DONE);
+    CHECK(html5_feed(&handle, NULL, 0) == HTML5_DONE);
     CHECK(TAKES(&handle, 4, "\x03" "1 <"));
     CHECK(!html5_is_over(&handle));
     CHECK(html5_end(&handle) == HTML5_DONE);
@@ -90,6 +91,30 @@ static void says_where_bytes_are_no_text(void) {
     html5_free(&handle);
 }
 
+/* Why there is no next token: all is read, or a text is open. */
+static void says_why_there_is_no_token(void) {
+    html5_handle handle = {0};
+    html5_reader reader = {0};
+    html5_token token;
+    html5_options options = {0};
+    CHECK(open_after(&handle, "", options) == HTML5_DONE);
+    CHECK(feed(&handle, "<p>1") == HTML5_DONE);
+    CHECK(html5_fill(&reader, &handle));
+    CHECK(html5_next_token(&reader, &token) && token.kind == HTML5_START_TAG);
+    CHECK(!html5_next_token(&reader, &token) && reader.stop == HTML5_TEXT_OPEN);
+    CHECK(html5_end(&handle) == HTML5_DONE);
+    CHECK(html5_fill(&reader, &handle));
+    CHECK(html5_next_token(&reader, &token) && token.kind == HTML5_TEXT && token.text.len == 1);
+    CHECK(html5_next_token(&reader, &token) && token.kind == HTML5_END);
+    CHECK(!html5_next_token(&reader, &token) && reader.stop == HTML5_ALL_READ);
+    reader.bytes[0] = HTML5_COMMENT;
+    reader.at = 0;
+    reader.len = 5;
+    CHECK(!html5_next_token(&reader, &token) && reader.stop == HTML5_NOT_WHOLE);
+    html5_reader_free(&reader);
+    html5_free(&handle);
+}
+
 static void is_closed_until_it_is_opened(void) {
     html5_handle handle = {0};
     html5_options options = {0}, no_state = {.state = 6}, no_replies = {.replies = 3};
@@ -112,86 +137,11 @@ static void is_closed_until_it_is_opened(void) {
     CHECK(feed(&handle, "x") == HTML5_CLOSED);
 }
 
-static uint32_t open_cleaner(html5_handle *handle, const char *policy, uint64_t *place) {
-    return html5_cleaner_new(handle, (const uint8_t *)policy, strlen(policy), place);
-}
-
-static uint32_t clean(html5_handle *handle, const char *text) {
-    return html5_cleaner_feed(handle, (const uint8_t *)text, strlen(text));
-}
-
-/* Whether the next bytes of a cleaned page, as many as there is room for, are these. */
-static bool keeps(html5_handle *handle, size_t room, const char *bytes) {
-    uint8_t out[256];
-    size_t taken = html5_cleaner_take(handle, out, room);
-    return taken == strlen(bytes) && memcmp(out, bytes, taken) == 0;
-}
-
-static void cleans_pages_by_one_policy(void) {
-    html5_handle handle = {0};
-    uint64_t place = 7;
-    CHECK(open_cleaner(&handle, "allow p", &place) == HTML5_DONE);
-    CHECK(place == 0);
-    CHECK(clean(&handle, "<p onclick=x>\xc3") == HTML5_DONE);
-    CHECK(html5_cleaner_end(&handle) == HTML5_CUT);
-    CHECK(clean(&handle, "\xa9<b>b</b><script>c</scr") == HTML5_DONE);
-    CHECK(keeps(&handle, 5, "<p>\xc3\xa9"));
-    CHECK(clean(&handle, "ipt>d") == HTML5_DONE);
-    CHECK(!html5_cleaner_is_over(&handle));
-    CHECK(html5_cleaner_end(&handle) == HTML5_DONE);
-    CHECK(html5_cleaner_is_over(&handle));
-    CHECK(keeps(&handle, 64, "bd"));
-    CHECK(clean(&handle, "x") == HTML5_OVER);
-    CHECK(html5_cleaner_end(&handle) == HTML5_OVER);
-    CHECK(html5_cleaner_restart(&handle) == HTML5_DONE);
-    CHECK(clean(&handle, "<b><p>e\xff") == HTML5_NOT_UTF8);
-    CHECK(html5_cleaner_error_at(&handle) == 7);
-    CHECK(clean(&handle, "<b><p>e") == HTML5_DONE);
-    CHECK(html5_cleaner_end(&handle) == HTML5_DONE);
-    CHECK(keeps(&handle, 64, "<p>e"));
-    html5_free(&handle);
-    CHECK(clean(&handle, "x") == HTML5_CLOSED);
-}
-
-static void says_what_is_wrong_with_a_policy(void) {
-    html5_handle handle = {0};
-    uint64_t place = 0;
-    CHECK(open_cleaner(&handle, "allow p\nallov b", &place) == HTML5_BAD_POLICY);
-    CHECK(place == 2);
-    CHECK(open_cleaner(&handle, "allow \xff", &place) == HTML5_POLICY_NOT_UTF8);
-    CHECK(place == 6);
-    CHECK(clean(&handle, "x") == HTML5_CLOSED);
-    CHECK(html5_cleaner_restart(&handle) == HTML5_CLOSED);
-    CHECK(html5_cleaner_end(&handle) == HTML5_CLOSED);
-    CHECK(keeps(&handle, 8, ""));
-    CHECK(html5_cleaner_error_at(&handle) == 0);
-    CHECK(!html5_cleaner_is_over(&handle));
-}
-
-static void is_of_one_kind_at_a_time(void) {
-    html5_handle handle = {0};
-    html5_options options = {0};
-    uint64_t place;
-    CHECK(open_cleaner(&handle, "", &place) == HTML5_DONE);
-    CHECK(clean(&handle, "<b>x</b>") == HTML5_DONE);
-    CHECK(feed(&handle, "y") == HTML5_CLOSED);
-    CHECK(html5_end(&handle) == HTML5_CLOSED);
-    CHECK(TAKES(&handle, 64, ""));
-    CHECK(html5_cleaner_end(&handle) == HTML5_DONE);
-    CHECK(keeps(&handle, 64, "<b>x</b>"));
-    CHECK(open_after(&handle, "", options) == HTML5_DONE);
-    CHECK(clean(&handle, "y") == HTML5_CLOSED);
-    CHECK(feed(&handle, "y") == HTML5_DONE);
-    html5_free(&handle);
-}
-
 int main(void) {
     reads_a_page_in_pieces();
     pauses_and_lets_text_in();
     says_where_bytes_are_no_text();
+    says_why_there_is_no_token();
     is_closed_until_it_is_opened();
-    cleans_pages_by_one_policy();
-    says_what_is_wrong_with_a_policy();
-    is_of_one_kind_at_a_time();
     return failed;
 }

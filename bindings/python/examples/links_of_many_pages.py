@@ -20,13 +20,12 @@ import pathlib
 import sys
 
 HERE = pathlib.Path(__file__).resolve().parent
-LINKS = {"a": "href", "area": "href", "link": "href", "img": "src", "script": "src", "iframe": "src"}
 NOT_IN_URLS = str.maketrans("", "", "\t\n\r")
 
 
 def tokenizer_module():
     """The module firnuubal, wherever this process runs."""
-    sys.path.insert(0, str(HERE.parent))
+    sys.path.insert(0, str(HERE.parent / "src"))
     import firnuubal
 
     return firnuubal
@@ -34,29 +33,15 @@ def tokenizer_module():
 
 def links_of_page(path):
     """The links of a page: for each the number of the line on which its tag ends, and what is written there."""
-    firnuubal = tokenizer_module()
     with open(path, "rb") as page:
-        for token in firnuubal.tokens(page):
-            if not isinstance(token, firnuubal.StartTag):
-                continue
-            link = dict(token.attributes).get(LINKS.get(token.name))
-            if link is not None:
-                yield token.line, link.translate(NOT_IN_URLS)
+        for link in tokenizer_module().links(page):
+            yield link.line, link.address.translate(NOT_IN_URLS)
 
 
 def text_of_page(path):
     """What stands between the tags of a page, without scripts and styles."""
-    firnuubal = tokenizer_module()
-    skipped, texts = False, []
     with open(path, "rb") as page:
-        for token in firnuubal.tokens(page):
-            if isinstance(token, firnuubal.StartTag):
-                skipped = token.name in ("script", "style")
-            elif isinstance(token, firnuubal.EndTag):
-                skipped = False
-            elif isinstance(token, firnuubal.Text) and not skipped:
-                texts.append(token.text)
-    return "".join(texts)
+        return tokenizer_module().text(page)
 
 
 def records_of_page(path, is_text):

@@ -10,7 +10,7 @@ import pathlib
 import re
 import sys
 
-sys.path.insert(0, str(pathlib.Path(__file__).resolve().parent.parent))
+sys.path.insert(0, str(pathlib.Path(__file__).resolve().parent.parent / "src"))
 
 import firnuubal
 from firnuubal import Fed
@@ -42,7 +42,7 @@ def line_of(token):
             return tag_line("start", token)
         case firnuubal.EndTag():
             return tag_line("end", token)
-        case firnuubal.Text(text):
+        case firnuubal.Text(_, text):
             return f"text {quoted(text)}"
         case firnuubal.Comment(line, text):
             return f"comment {line} {quoted(text)}"

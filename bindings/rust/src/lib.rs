@@ -1,8 +1,12 @@
-//! A proved HTML tokenizer, called through its C interface.
+//! HTML pages cleaned and read by a proved tokenizer, called through its C interface.
 //!
-//! What the tokenizer says is proved; this crate, which calls it and reads its records, is not.
+//! What the library says is proved; this crate, which calls it and reads its records, is not.
 //!
-//! ```no_run
+//! ```
+//! assert_eq!(firnuubal::clean("<p onclick=x>1"), "<p>1");
+//! ```
+//!
+//! ```
 //! use firnuubal::{Options, Token, Tokenizer};
 //!
 //! let mut tokenizer = Tokenizer::new(&Options::default())?;
@@ -16,50 +20,36 @@
 //! # Ok::<(), firnuubal::Error>(())
 //! ```
 
+mod cleaner;
+mod owned;
+mod pages;
+mod raw;
 mod record;
 
+pub use cleaner::{clean, Cleaner, Policy, PolicyBuilder};
+pub use owned::{OwnedTag, OwnedToken};
+pub use pages::{links, read_tokens, text, Link};
 pub use record::{Attributes, Doctype, Tag, Token, Tokens};
 
-use std::ffi::c_void;
+use raw::{Handle, RawOptions};
 use std::fmt;
-use std::ptr;
-
-#[repr(C)]
-struct Handle {
-    at: *mut c_void,
-    is_open: bool,
-}
-
-#[repr(C)]
-struct RawOptions {
-    state: u32,
-    replies: u32,
-    exact_errors: bool,
-    keep_bom: bool,
-    foreign: bool,
-}
-
-extern "C" {
-    fn html5_new(handle: *mut Handle, last: *const u8, len: usize, options: *const RawOptions) -> u32;
-    fn html5_feed(handle: *mut Handle, bytes: *const u8, len: usize) -> u32;
-    fn html5_insert(handle: *mut Handle, text: *const u8, len: usize) -> u32;
-    fn html5_end(handle: *mut Handle) -> u32;
-    fn html5_take(handle: *mut Handle, out: *mut u8, len: usize) -> usize;
-    fn html5_error_at(handle: *mut Handle) -> u64;
-    fn html5_is_over(handle: *mut Handle) -> bool;
-    fn html5_free(handle: *mut Handle);
-}
 
 /// The state in which a reading starts.
 #[derive(Clone, Copy, Debug, Default, PartialEq, Eq)]
 #[repr(u32)]
 pub enum State {
+    /// Text with tags.
     #[default]
     Data = 0,
+    /// Text alone, to the end.
     Plaintext = 1,
+    /// Text with references, as in `title`.
     Rcdata = 2,
+    /// Text alone, as in `style`.
     Rawtext = 3,
+    /// As in `script`.
     ScriptData = 4,
+    /// A CDATA section.
     CdataSection = 5,
 }
 
@@ -79,7 +69,9 @@ pub enum Replies {
 /// How a page is read.
 #[derive(Clone, Copy, Debug, Default, PartialEq, Eq)]
 pub struct Options<'o> {
+    /// Where the reading starts.
     pub state: State,
+    /// What is done after tags.
     pub replies: Replies,
     /// The name of the tag whose end tag ends raw text, where the reading starts in some.
     pub last_start_tag: &'o str,
@@ -108,13 +100,34 @@ pub enum Error {
     /// A request for memory was refused.
     NoMemory,
     /// The byte at this place, counted from the page's first, is no UTF-8.
-    NotUtf8 { at: u64 },
+    NotUtf8 {
+        /// The place.
+        at: u64,
+    },
     /// The input ends within a character.
     Cut,
     /// Text waits after a pause: feed first, if only no bytes.
     Waiting,
-    /// The end was told, or an earlier call was refused for good.
+    /// The page has ended, or an earlier call was refused for good.
     Over,
+    /// A policy takes no such rule as the one on this line.
+    BadPolicy {
+        /// The number of the line, from 1.
+        line: u64,
+    },
+}
+
+impl Error {
+    // The error of a status that is none of success. A handle that a want of memory closed is over, too.
+    fn of_status(status: u32, at: impl FnOnce() -> u64) -> Error {
+        match status {
+            3 => Error::NoMemory,
+            4 => Error::NotUtf8 { at: at() },
+            5 => Error::Cut,
+            6 => Error::Waiting,
+            _ => Error::Over,
+        }
+    }
 }
 
 impl fmt::Display for Error {
@@ -125,6 +138,7 @@ impl fmt::Display for Error {
             Error::Cut => f.write_str("the input ends within a character"),
             Error::Waiting => f.write_str("text waits after a pause"),
             Error::Over => f.write_str("the reading is over"),
+            Error::BadPolicy { line } => write!(f, "line {line} is no rule that a policy takes"),
         }
     }
 }
@@ -132,6 +146,7 @@ impl fmt::Display for Error {
 impl std::error::Error for Error {}
 
 /// A tokenizer. Its tokens wait in it until they are read.
+#[derive(Debug)]
 pub struct Tokenizer {
     handle: Handle,
     taken: Vec<u8>,
@@ -152,38 +167,47 @@ impl Tokenizer {
             foreign: options.foreign,
         };
         let mut tokenizer = Tokenizer {
-            handle: Handle { at: ptr::null_mut(), is_open: false },
+            handle: Handle::CLOSED,
             taken: Vec::new(),
             read: record::Read::default(),
         };
         let last = options.last_start_tag;
-        let status = unsafe { html5_new(&mut tokenizer.handle, last.as_ptr(), last.len(), &raw) };
+        let status = unsafe { raw::html5_new(&mut tokenizer.handle, last.as_ptr(), last.len(), &raw) };
         tokenizer.fed_or_error(status)?;
         Ok(tokenizer)
     }
 
     /// Reads the next bytes, in pieces of any size. After a pause it goes on, with what waits and these bytes.
     pub fn feed(&mut self, bytes: &[u8]) -> Result<Fed, Error> {
-        let status = unsafe { html5_feed(&mut self.handle, bytes.as_ptr(), bytes.len()) };
+        let status = unsafe { raw::html5_feed(&mut self.handle, bytes.as_ptr(), bytes.len()) };
         self.fed_or_error(status)
+    }
+
+    /// Reads the next bytes, past all pauses.
+    pub fn feed_all(&mut self, bytes: &[u8]) -> Result<(), Error> {
+        let mut fed = self.feed(bytes)?;
+        while fed != Fed::Done {
+            fed = self.feed(&[])?;
+        }
+        Ok(())
     }
 
     /// Puts a text in front of what waits, as `document.write` does.
     pub fn insert(&mut self, text: &str) -> Result<(), Error> {
-        let status = unsafe { html5_insert(&mut self.handle, text.as_ptr(), text.len()) };
+        let status = unsafe { raw::html5_insert(&mut self.handle, text.as_ptr(), text.len()) };
         self.fed_or_error(status).map(|_| ())
     }
 
     /// Tells the end of the page.
     pub fn end(&mut self) -> Result<(), Error> {
-        let status = unsafe { html5_end(&mut self.handle) };
+        let status = unsafe { raw::html5_end(&mut self.handle) };
         self.fed_or_error(status).map(|_| ())
     }
 
     /// Whether nothing more is read: the end was told, or a call was refused for good. After `Error::NoMemory` it says
     /// whether the reading can go on.
     pub fn is_over(&mut self) -> bool {
-        unsafe { html5_is_over(&mut self.handle) }
+        unsafe { raw::html5_is_over(&mut self.handle) }
     }
 
     /// The tokens that were told and not read yet. A text is one token however it was fed, so the last one comes when its
@@ -195,18 +219,8 @@ impl Tokenizer {
 
     // Takes all that waits. What was read goes.
     fn take_all(&mut self) {
-        const ROOM: usize = 1 << 14;
         self.read.drop_read(&mut self.taken);
-        loop {
-            let len = self.taken.len();
-            self.taken.reserve(ROOM);
-            let room = self.taken.spare_capacity_mut();
-            let taken = unsafe { html5_take(&mut self.handle, room.as_mut_ptr().cast(), room.len()) };
-            unsafe { self.taken.set_len(len + taken) };
-            if taken == 0 {
-                return;
-            }
-        }
+        raw::take_all(&mut self.handle, raw::html5_take, &mut self.taken);
     }
 
     fn fed_or_error(&mut self, status: u32) -> Result<Fed, Error> {
@@ -214,18 +228,13 @@ impl Tokenizer {
             0 => Ok(Fed::Done),
             1 => Ok(Fed::Script),
             2 => Ok(Fed::Encoding),
-            3 => Err(Error::NoMemory),
-            4 => Err(Error::NotUtf8 { at: unsafe { html5_error_at(&mut self.handle) } }),
-            5 => Err(Error::Cut),
-            6 => Err(Error::Waiting),
-            // A handle that a want of memory closed is over, too. No option here is bad.
-            _ => Err(Error::Over),
+            status => Err(Error::of_status(status, || unsafe { raw::html5_error_at(&mut self.handle) })),
         }
     }
 }
 
 impl Drop for Tokenizer {
     fn drop(&mut self) {
-        unsafe { html5_free(&mut self.handle) }
+        unsafe { raw::html5_free(&mut self.handle) }
     }
 }

@@ -2,17 +2,27 @@
 
 use std::str;
 
-/// A token. Its texts are borrowed from the tokenizer.
+/// A token. Its texts are borrowed from the tokenizer. A line is the one on which the token ends.
 #[derive(Clone, Debug, PartialEq, Eq)]
+#[allow(missing_docs)] // the fields say themselves
 pub enum Token<'t> {
+    /// A start tag.
     StartTag(Tag<'t>),
+    /// An end tag.
     EndTag(Tag<'t>),
+    /// A run of text, all of it, however it was fed.
     Text(&'t str),
+    /// A comment.
     Comment { line: u64, text: &'t str },
+    /// A processing instruction: what stands between `<?` and `>`.
     Instruction { line: u64, content: &'t str },
+    /// A document type.
     Doctype(Doctype<'t>),
+    /// U+0000 in text.
     NullCharacter { line: u64 },
+    /// A parse error, with its message as html5ever has it.
     ParseError { line: u64, message: &'t str },
+    /// The end of the page.
     End { line: u64 },
 }
 
@@ -21,15 +31,26 @@ pub enum Token<'t> {
 pub struct Tag<'t> {
     /// The line on which its `>` stands.
     pub line: u64,
+    /// Its name, in small letters.
     pub name: &'t str,
+    /// Its attributes, in order.
     pub attributes: Attributes<'t>,
+    /// Whether it ends in `/>`.
     pub self_closing: bool,
     /// An attribute of a repeated name was left out.
     pub duplicate_attributes: bool,
 }
 
+impl<'t> Tag<'t> {
+    /// The value of the attribute of this name.
+    pub fn get(&self, name: &str) -> Option<&'t str> {
+        self.attributes.clone().find(|(own, _)| *own == name).map(|(_, value)| value)
+    }
+}
+
 /// A document type.
 #[derive(Clone, Debug, PartialEq, Eq)]
+#[allow(missing_docs)] // the fields say themselves
 pub struct Doctype<'t> {
     pub line: u64,
     pub name: Option<&'t str>,
@@ -55,10 +76,17 @@ impl<'t> Iterator for Attributes<'t> {
         self.bytes = rest;
         Some((text(name), text(value)))
     }
+
+    fn size_hint(&self) -> (usize, Option<usize>) {
+        let count = self.count as usize;
+        (count, Some(count))
+    }
 }
 
+impl ExactSizeIterator for Attributes<'_> {}
+
 // How far the bytes that were taken are read.
-#[derive(Default)]
+#[derive(Debug, Default)]
 pub(crate) struct Read {
     // Where the next record begins.
     at: usize,
@@ -75,7 +103,8 @@ impl Read {
     }
 }
 
-/// The tokens that were told and not read yet.
+/// The tokens that were sent and not read yet.
+#[derive(Debug)]
 pub struct Tokens<'t> {
     bytes: &'t [u8],
     read: &'t mut Read,

@@ -1,0 +1,62 @@
+"""HTML pages cleaned and read by a proved tokenizer, called through its C interface.
+
+    import firnuubal
+
+    firnuubal.clean("<p onclick=x>1")  # '<p>1'
+
+    with open("page.html", "rb") as page:
+        for token in firnuubal.tokens(page):
+            if isinstance(token, firnuubal.StartTag):
+                print(token.line, token.name, token.attributes)
+
+What the library says is proved; this package, which calls it and reads its records, is not. An asyncio program feeds a
+`Tokenizer` or a `Cleaner` as pieces arrive: no call waits.
+"""
+
+from ._cleaner import ALLOWED_ATTRIBUTES, ALLOWED_TAGS, ALLOWED_URL_SCHEMES, Cleaner, Policy, clean
+from ._errors import PolicyError, Status, TokenizerError
+from ._records import (
+    Comment,
+    Doctype,
+    End,
+    EndTag,
+    Instruction,
+    NullCharacter,
+    ParseError,
+    StartTag,
+    Text,
+    Token,
+)
+from ._tokenizer import Fed, Link, Replies, State, Tokenizer, links, text, tokens
+
+__version__ = "0.2.0"
+
+__all__ = [
+    "ALLOWED_ATTRIBUTES",
+    "ALLOWED_TAGS",
+    "ALLOWED_URL_SCHEMES",
+    "Cleaner",
+    "Comment",
+    "Doctype",
+    "End",
+    "EndTag",
+    "Fed",
+    "Instruction",
+    "Link",
+    "NullCharacter",
+    "ParseError",
+    "Policy",
+    "PolicyError",
+    "Replies",
+    "StartTag",
+    "State",
+    "Status",
+    "Text",
+    "Token",
+    "Tokenizer",
+    "TokenizerError",
+    "clean",
+    "links",
+    "text",
+    "tokens",
+]

@@ -1,0 +1,114 @@
+"""The library, libfirnuubal.so, and its calls."""
+
+import ctypes
+import os
+import pathlib
+
+NAME = "libfirnuubal.so"
+HERE = pathlib.Path(__file__).resolve().parent
+
+
+class Handle(ctypes.Structure):
+    """What a call is given: html5_handle of firnuubal.h. One of zeros is closed."""
+
+    _fields_ = [("at", ctypes.c_void_p), ("is_open", ctypes.c_bool)]
+
+
+class Options(ctypes.Structure):
+    """html5_options of firnuubal.h."""
+
+    _fields_ = [
+        ("state", ctypes.c_uint32),
+        ("replies", ctypes.c_uint32),
+        ("exact_errors", ctypes.c_bool),
+        ("keep_bom", ctypes.c_bool),
+        ("foreign", ctypes.c_bool),
+    ]
+
+
+_HANDLE = ctypes.POINTER(Handle)
+_BYTES = [ctypes.c_char_p, ctypes.c_size_t]
+_STATUS = ctypes.c_uint32
+
+# Each call: the types of its arguments, and that of its answer.
+_CALLS = {
+    "html5_new": ([_HANDLE, *_BYTES, ctypes.POINTER(Options)], _STATUS),
+    "html5_feed": ([_HANDLE, *_BYTES], _STATUS),
+    "html5_insert": ([_HANDLE, *_BYTES], _STATUS),
+    "html5_end": ([_HANDLE], _STATUS),
+    "html5_take": ([_HANDLE, *_BYTES], ctypes.c_size_t),
+    "html5_error_at": ([_HANDLE], ctypes.c_uint64),
+    "html5_is_over": ([_HANDLE], ctypes.c_bool),
+    "html5_free": ([_HANDLE], None),
+    "html5_cleaner_new": ([_HANDLE, *_BYTES, ctypes.POINTER(ctypes.c_uint64)], _STATUS),
+    "html5_cleaner_restart": ([_HANDLE], _STATUS),
+    "html5_cleaner_feed": ([_HANDLE, *_BYTES], _STATUS),
+    "html5_cleaner_end": ([_HANDLE], _STATUS),
+    "html5_cleaner_take": ([_HANDLE, *_BYTES], ctypes.c_size_t),
+    "html5_cleaner_error_at": ([_HANDLE], ctypes.c_uint64),
+    "html5_cleaner_is_over": ([_HANDLE], ctypes.c_bool),
+}
+
+
+def _folders():
+    """Where the library may be: where it is said to be, in the package, or in the repository around it."""
+    if "FIRNUUBAL_LIB" in os.environ:
+        return [pathlib.Path(os.environ["FIRNUUBAL_LIB"])]
+    top = HERE.parents[3] if len(HERE.parents) > 3 else HERE
+    return [HERE, top / "bindings" / "out", top / "dist"]
+
+
+def _load():
+    found = [folder / NAME for folder in _folders() if (folder / NAME).is_file()]
+    if not found:
+        places = ", ".join(str(folder) for folder in _folders())
+        raise ImportError(f"{NAME} is in none of {places}: install the wheel in dist/, or run bindings/build.sh")
+    loaded = ctypes.CDLL(str(found[0]))
+    for name, (arguments, answer) in _CALLS.items():
+        function = getattr(loaded, name)
+        function.argtypes, function.restype = arguments, answer
+    return loaded
+
+
+library = _load()
+
+ROOM = 1 << 16
+
+
+def taken(take, handle, room):
+    """All the bytes that wait in a handle."""
+    parts = []
+    while count := take(handle, room, ROOM):
+        parts.append(ctypes.string_at(room, count))
+    return b"".join(parts)
+
+
+def bytes_of(piece):
+    """A piece of a page as bytes: a text as its UTF-8."""
+    if isinstance(piece, bytes):
+        return piece
+    if isinstance(piece, str):
+        return piece.encode()
+    return bytes(memoryview(piece))
+
+
+def pieces_of(page, size=ROOM):
+    """The pieces of a page: of a text, of bytes, of a file of either, or of an iterable of either."""
+    if isinstance(page, str):
+        page = page.encode()
+    if isinstance(page, (bytes, bytearray, memoryview)):
+        view = memoryview(page).cast("B")
+        return (bytes(view[at : at + size]) for at in range(0, len(view), size))
+    if hasattr(page, "read"):
+        return _pieces_of_file(page, size)
+    return (bytes_of(piece) for piece in page)
+
+
+def _pieces_of_file(file, size):
+    while True:
+        piece = file.read(size)
+        if piece is None:
+            raise BlockingIOError("the page's read() gave None: it has no bytes now, and doesn't wait for more")
+        if not piece:
+            return
+        yield bytes_of(piece)

@@ -1,0 +1,216 @@
+"""Tokens, and how they are read from the library's records (crates/html5records/README.md)."""
+
+import struct
+from typing import List, NamedTuple, Optional, Tuple, Union
+
+
+def _is_same(token, other):
+    """Equal tokens are of one kind, too."""
+    return type(token) is type(other) and tuple.__eq__(token, other)
+
+
+def _is_other(token, other):
+    return not _is_same(token, other)
+
+
+def _hash(token):
+    return hash((type(token).__name__, tuple(token)))
+
+
+class StartTag(NamedTuple):
+    """A start tag, with the line on which its `>` stands, and its attributes as pairs of a name and a value."""
+
+    line: int
+    name: str
+    attributes: Tuple[Tuple[str, str], ...]
+    self_closing: bool
+    duplicate_attributes: bool
+    __eq__, __ne__, __hash__ = _is_same, _is_other, _hash
+
+    def get(self, name, default=None):
+        """The value of the attribute of this name."""
+        return next((value for own, value in self.attributes if own == name), default)
+
+
+class EndTag(NamedTuple):
+    """An end tag."""
+
+    line: int
+    name: str
+    attributes: Tuple[Tuple[str, str], ...]
+    self_closing: bool
+    duplicate_attributes: bool
+    __eq__, __ne__, __hash__ = _is_same, _is_other, _hash
+
+
+class Text(NamedTuple):
+    """A run of text, all of it, however it was fed, with the line on which it begins."""
+
+    line: int
+    text: str
+    __eq__, __ne__, __hash__ = _is_same, _is_other, _hash
+
+
+class Comment(NamedTuple):
+    """A comment, with the line on which it ends."""
+
+    line: int
+    text: str
+    __eq__, __ne__, __hash__ = _is_same, _is_other, _hash
+
+
+class Instruction(NamedTuple):
+    """A processing instruction: what stands between `<?` and `>`."""
+
+    line: int
+    content: str
+    __eq__, __ne__, __hash__ = _is_same, _is_other, _hash
+
+
+class Doctype(NamedTuple):
+    """A document type. A part that it lacks is None."""
+
+    line: int
+    name: Optional[str]
+    public_id: Optional[str]
+    system_id: Optional[str]
+    force_quirks: bool
+    __eq__, __ne__, __hash__ = _is_same, _is_other, _hash
+
+
+class NullCharacter(NamedTuple):
+    """U+0000 in text."""
+
+    line: int
+    __eq__, __ne__, __hash__ = _is_same, _is_other, _hash
+
+
+class ParseError(NamedTuple):
+    """A parse error, with its message as html5ever has it."""
+
+    line: int
+    message: str
+    __eq__, __ne__, __hash__ = _is_same, _is_other, _hash
+
+
+class End(NamedTuple):
+    """The end of the page."""
+
+    line: int
+    __eq__, __ne__, __hash__ = _is_same, _is_other, _hash
+
+
+Token = Union[StartTag, EndTag, Text, Comment, Instruction, Doctype, NullCharacter, ParseError, End]
+
+_START, _END_TAG, _TEXT, _DOCTYPE, _ERROR = 1, 2, 3, 6, 8
+_WITH_TEXT = {4: Comment, 5: Instruction, 8: ParseError}
+_LINE_ALONE = {7: NullCharacter, 9: End}
+
+_number = struct.Struct("<Q").unpack_from
+_two_numbers = struct.Struct("<QQ").unpack_from
+_tag_head = struct.Struct("<QBQ").unpack_from
+_new = tuple.__new__
+
+
+def _attributes(data, at, count):
+    """So many attributes, and the place after them."""
+    found = []
+    for _ in range(count):
+        name = at + 8
+        value = name + _number(data, at)[0] + 8
+        at = value + _number(data, value - 8)[0]
+        found.append((data[name : value - 8].decode(), data[value:at].decode()))
+    return tuple(found), at
+
+
+def _tag(kind, data, at):
+    """A tag, from the place after its kind, and the place after it."""
+    line, flags, size = _tag_head(data, at)
+    at += 17
+    name = data[at : at + size].decode()
+    at += size
+    count = _number(data, at)[0]
+    attributes, at = _attributes(data, at + 8, count) if count else ((), at + 8)
+    return _new(kind, (line, name, attributes, flags & 1 > 0, flags & 2 > 0)), at
+
+
+def _doctype(data, at):
+    line, flags = _number(data, at)[0], data[at + 8]
+    at += 9
+    parts = []
+    for flag in (1, 2, 4):
+        part = None
+        if flags & flag:
+            begin = at + 8
+            at = begin + _number(data, at)[0]
+            part = data[begin:at].decode()
+        parts.append(part)
+    return Doctype(line, *parts, flags & 8 > 0), at
+
+
+def _other(kind, data, at):
+    """A token that is no tag and no text, from the place after its kind, and the place after it."""
+    if kind == _DOCTYPE:
+        return _doctype(data, at)
+    if kind in _LINE_ALONE:
+        return _LINE_ALONE[kind](_number(data, at)[0]), at + 8
+    line, size = _two_numbers(data, at)
+    end = at + 16 + size
+    return _WITH_TEXT[kind](line, data[at + 16 : end].decode()), end
+
+
+class Reader:
+    """Reads tokens from records as they are taken. All records but a text are taken whole."""
+
+    def __init__(self, errors=True):
+        # Whether parse errors are read. Else they end no text.
+        self._errors = errors
+        # The parts of the text that is open, and the line on which it begins.
+        self._open = None
+        self._line = 1
+        # The texts that no other token has followed, where errors are left out.
+        self._run = []
+        self._run_line = 1
+
+    def read(self, taken) -> List[Token]:
+        """The tokens whose end was taken."""
+        tokens, at = [], 0
+        if self._open is not None:
+            at = self._read_text(taken, 0, tokens)
+        size = len(taken)
+        while at < size:
+            kind = taken[at]
+            if kind == _TEXT:
+                self._open = []
+                at = self._read_text(taken, at + 1, tokens)
+                continue
+            if kind <= _END_TAG:
+                token, at = _tag(StartTag if kind == _START else EndTag, taken, at + 1)
+            else:
+                token, at = _other(kind, taken, at + 1)
+            self._line = token[0]
+            if self._errors or kind != _ERROR:
+                if self._run:
+                    self._end_run(tokens)
+                tokens.append(token)
+        return tokens
+
+    def _read_text(self, taken, at, tokens):
+        """Reads on in the open text, up to its end or to all that was taken."""
+        end = taken.find(b"\xff", at)
+        self._open.append(taken[at:] if end < 0 else taken[at:end])
+        if end < 0:
+            return len(taken)
+        text = b"".join(self._open).decode()
+        self._open = None
+        if self._errors:
+            tokens.append(_new(Text, (self._line, text)))
+        else:
+            if not self._run:
+                self._run_line = self._line
+            self._run.append(text)
+        return end + 1
+
+    def _end_run(self, tokens):
+        tokens.append(Text(self._run_line, "".join(self._run)))
+        self._run = []

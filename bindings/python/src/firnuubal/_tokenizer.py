@@ -1,0 +1,158 @@
+"""The tokenizer, and what is read of whole pages."""
+
+import ctypes
+import enum
+from typing import Iterator, NamedTuple
+
+from ._errors import Status, TokenizerError
+from ._library import ROOM, Handle, Options, bytes_of, library, pieces_of, taken
+from ._records import EndTag, Reader, StartTag, Text, Token
+
+
+class State(enum.IntEnum):
+    """The state in which a reading starts."""
+
+    DATA = 0
+    PLAINTEXT = 1
+    RCDATA = 2
+    RAWTEXT = 3
+    SCRIPT_DATA = 4
+    CDATA_SECTION = 5
+
+
+class Replies(enum.IntEnum):
+    """What the tokenizer does after tags."""
+
+    STANDARD = 0  # scripts, styles, titles and their like are no markup
+    NONE = 1  # all is markup
+    PAUSING = 2  # as the standard's, and it pauses after </script> and <meta charset=..>
+
+
+class Fed(enum.IntEnum):
+    """What a feed came to: all was read, or it paused and what follows waits."""
+
+    DONE = 0
+    SCRIPT = 1
+    ENCODING = 2
+
+
+class Tokenizer:
+    """A tokenizer. Its tokens wait in it until they are read.
+
+    Use it in a `with`, so that its memory is given back at once. One thread at a time may call it; while the library
+    reads, other threads of Python run. With `errors=False` parse errors are left out, so that each run of text is one
+    token.
+    """
+
+    _free = staticmethod(library.html5_free)
+
+    def __init__(
+        self,
+        *,
+        state: State = State.DATA,
+        replies: Replies = Replies.STANDARD,
+        last_start_tag: str = "",
+        exact_errors: bool = False,
+        keep_bom: bool = False,
+        foreign: bool = False,
+        errors: bool = True,
+    ):
+        self._handle = Handle()
+        self._reader = Reader(errors)
+        self._room = ctypes.create_string_buffer(ROOM)
+        options = Options(state, replies, exact_errors, keep_bom, foreign)
+        last = last_start_tag.encode()
+        self._checked(library.html5_new(self._handle, last, len(last), options))
+
+    def __enter__(self):
+        return self
+
+    def __exit__(self, *_):
+        self.close()
+
+    def __del__(self):
+        if "_handle" in self.__dict__:
+            self.close()
+
+    def close(self) -> None:
+        """Gives the memory back. Tokens that were read stay."""
+        self._free(self._handle)
+
+    def feed(self, piece) -> Fed:
+        """Reads the next piece, a text or bytes. After a pause it goes on, with what waits and this piece."""
+        piece = bytes_of(piece)
+        return Fed(self._checked(library.html5_feed(self._handle, piece, len(piece))))
+
+    def insert(self, text: str) -> None:
+        """Puts a text in front of what waits, as document.write does."""
+        text = bytes_of(text)
+        self._checked(library.html5_insert(self._handle, text, len(text)))
+
+    def end(self) -> None:
+        """Ends the page."""
+        self._checked(library.html5_end(self._handle))
+
+    def is_over(self) -> bool:
+        """Whether nothing more is read: the page has ended, or a call was refused for good."""
+        return library.html5_is_over(self._handle)
+
+    def tokens(self) -> Iterator[Token]:
+        """The tokens that were sent and not read yet. A text comes when its end is known."""
+        return iter(self._reader.read(taken(library.html5_take, self._handle, self._room)))
+
+    def _checked(self, status):
+        if status < Status.NO_MEMORY:
+            return status
+        at = library.html5_error_at(self._handle) if status == Status.NOT_UTF8 else None
+        raise TokenizerError(Status(status), at)
+
+
+def tokens(page, *, piece: int = ROOM, **options) -> Iterator[Token]:
+    """The tokens of a page, as they are read, past all pauses.
+
+    The page is a text, bytes, a file of either, or an iterable of pieces of either. The options are those of
+    `Tokenizer`.
+    """
+    with Tokenizer(**options) as tokenizer:
+        for given in pieces_of(page, piece):
+            fed = tokenizer.feed(given)
+            yield from tokenizer.tokens()
+            while fed != Fed.DONE:
+                fed = tokenizer.feed(b"")
+                yield from tokenizer.tokens()
+        tokenizer.end()
+        yield from tokenizer.tokens()
+
+
+class Link(NamedTuple):
+    """A link, with the line on which its tag ends."""
+
+    line: int
+    address: str
+
+
+_LINKS = {"a": "href", "area": "href", "link": "href", "img": "src", "script": "src", "iframe": "src"}
+
+
+def links(page) -> Iterator[Link]:
+    """The links of a page: `href` of a, area and link, `src` of img, script and iframe, as html5links prints them but
+    for tabs and line breaks in them, which stay."""
+    for token in tokens(page):
+        if type(token) is StartTag and token.attributes:
+            address = token.get(_LINKS.get(token.name))
+            if address is not None:
+                yield Link(token.line, address)
+
+
+def text(page) -> str:
+    """The text of a page, without its scripts and styles, as html5text prints it."""
+    runs, within = [], False
+    for token in tokens(page):
+        if type(token) is Text:
+            if not within:
+                runs.append(token.text)
+        elif type(token) is StartTag:
+            within = token.name in ("script", "style")
+        elif type(token) is EndTag:
+            within = False
+    return "".join(runs)

@@ -1,0 +1,107 @@
+"""Tests of cleaning: pages of each kind and in pieces, policies, refusals."""
+
+import io
+import pickle
+import threading
+import unittest
+
+import firnuubal
+from firnuubal import Cleaner, Policy, PolicyError, Status, TokenizerError, clean
+
+PAGE = "<p onclick=x>1 &lt; 2<script>x</script><a href=javascript:x>y</a>é"
+KEPT = "<p>1 &#60; 2<a>y</a>é"
+
+
+class Cleaning(unittest.TestCase):
+    def test_pages_of_each_kind(self):
+        given = [PAGE, PAGE.encode(), bytearray(PAGE.encode()), memoryview(PAGE.encode())]
+        given += [io.StringIO(PAGE), io.BytesIO(PAGE.encode()), list(PAGE), iter([PAGE])]
+        for each in given:
+            self.assertEqual(clean(each), KEPT, each)
+
+    def test_a_page_in_pieces(self):
+        with Cleaner() as cleaner:
+            for piece in range(1, len(PAGE) + 1):
+                parts = [cleaner.feed(PAGE[at : at + piece]) for at in range(0, len(PAGE), piece)]
+                self.assertEqual("".join([*parts, cleaner.end()]), KEPT)
+
+    def test_one_page_after_the_other(self):
+        with Cleaner() as cleaner:
+            self.assertEqual([cleaner.clean("<b>1"), cleaner.clean("<i>2")], ["<b>1", "<i>2"])
+
+    def test_a_page_of_no_text(self):
+        self.assertEqual(clean(""), "")
+
+    def test_bytes_that_are_no_text(self):
+        with Cleaner() as cleaner:
+            cleaner.feed(b"<p>ab")
+            with self.assertRaises(TokenizerError) as refused:
+                cleaner.feed(b"c\xff")
+            self.assertEqual((refused.exception.status, refused.exception.at), (Status.NOT_UTF8, 6))
+            self.assertEqual(cleaner.clean("<p>1"), "<p>1")
+
+    def test_a_character_that_is_cut(self):
+        with self.assertRaises(TokenizerError) as refused:
+            clean(b"\xc3")
+        self.assertEqual(refused.exception.status, Status.CUT)
+        self.assertEqual(clean("<p>1"), "<p>1")
+
+    def test_a_closed_cleaner(self):
+        cleaner = Cleaner()
+        cleaner.close()
+        cleaner.close()
+        with self.assertRaises(TokenizerError) as refused:
+            cleaner.feed("x")
+        self.assertEqual(refused.exception.status, Status.CLOSED)
+
+    def test_two_hundred_threads(self):
+        found = []
+        threads = [threading.Thread(target=lambda: found.append(clean(PAGE))) for _ in range(200)]
+        for thread in threads:
+            thread.start()
+        for thread in threads:
+            thread.join()
+        self.assertEqual(found, [KEPT] * 200)
+
+
+class Policies(unittest.TestCase):
+    def test_the_rules_of_a_text(self):
+        policy = Policy("allow p class\nallow a href\nschemes ftp\nnoopener\n")
+        self.assertEqual(clean("<p class=x><b>1</b><a href=ftp:x>", policy), '<p class="x">1<a href="ftp:x" rel="noopener">')
+
+    def test_keywords(self):
+        self.assertEqual(clean("<p class=x lang=y><b>1</b>", tags={"p"}), '<p lang="y">1')
+        self.assertEqual(clean("<p class=x lang=y>", attributes={"p": ["class"]}), '<p class="x">')
+        self.assertEqual(clean("<a href=ftp:x>", url_schemes=["ftp"]), '<a href="ftp:x">')
+        self.assertEqual(clean("<a href=x>", link_rel="noopener"), '<a href="x" rel="noopener">')
+        self.assertEqual(clean("<p>1<b>2</p>", balance=True), "<p>1<b>2</b></p>")
+        self.assertEqual(clean("<q>1</q>2", tags={"p"}, clean_content_tags={"q"}), "2")
+        self.assertEqual(clean("<p>1", tags=(), attributes={}, url_schemes=()), "1")
+
+    def test_the_standard_policy_is_that_of_the_lists(self):
+        lists = Policy()
+        for tag in sorted(firnuubal.ALLOWED_TAGS | {"u", "form", "video", "font"}):
+            for name in ("title", "href", "src", "alt", "width", "height", "start", "cite", "class", "id"):
+                for address in ("x", "http:x", "https:x", "mailto:x", "ftp:x"):
+                    page = f"<{tag} {name}={address}>1"
+                    self.assertEqual(clean(page, lists), clean(page), page)
+
+    def test_rules_that_no_policy_takes(self):
+        for line, text in ((1, "allow script"), (2, "allow p\nallow p onclick"), (1, "schemes javascript"), (1, "keep p")):
+            with self.assertRaises(PolicyError) as refused:
+                Policy(text)
+            self.assertEqual((refused.exception.line, refused.exception.rule), (line, text.split("\n")[line - 1]))
+            again = pickle.loads(pickle.dumps(refused.exception))
+            self.assertEqual(str(again), str(refused.exception))
+
+    def test_words_that_are_no_policy(self):
+        with self.assertRaises(ValueError):
+            Policy(link_rel="nofollow")
+        with self.assertRaises(TypeError):
+            Policy("allow p", tags={"p"})
+        with self.assertRaises(TypeError):
+            clean("x", Policy(), tags={"p"})
+
+
+if __name__ == "__main__":
+    unittest.main()

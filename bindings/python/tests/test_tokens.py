@@ -1,0 +1,159 @@
+"""Tests of the tokenizer: pauses, refusals, texts that arrive in pieces, pages of each kind."""
+
+import io
+import pickle
+import threading
+import unittest
+
+import firnuubal
+from firnuubal import End, EndTag, Fed, Replies, StartTag, State, Status, Text, Tokenizer, TokenizerError
+
+
+class Calls(unittest.TestCase):
+    def test_a_page_in_pieces(self):
+        page = "<p CLASS=é>1 &lt; 2".encode()
+        due = [StartTag(1, "p", (("class", "é"),), False, False), Text(1, "1 < 2"), End(1)]
+        for piece in range(1, len(page) + 1):
+            self.assertEqual(list(firnuubal.tokens(io.BytesIO(page), piece=piece)), due)
+
+    def test_a_text_waits_for_its_end(self):
+        with Tokenizer() as tokenizer:
+            tokenizer.feed(b"one ")
+            self.assertEqual(list(tokenizer.tokens()), [])
+            tokenizer.feed(b"two<p")
+            tokenizer.feed(b">")
+            self.assertEqual(list(tokenizer.tokens())[0], Text(1, "one two"))
+
+    def test_text_is_put_in_after_a_script(self):
+        with Tokenizer(replies=Replies.PAUSING) as tokenizer:
+            self.assertEqual(tokenizer.feed(b"<script>x</script>c"), Fed.SCRIPT)
+            self.assertIsInstance(list(tokenizer.tokens())[-1], EndTag)
+            with self.assertRaises(TokenizerError) as refused:
+                tokenizer.end()
+            self.assertEqual(refused.exception.status, Status.WAITING)
+            tokenizer.insert("a<b>")
+            self.assertEqual(tokenizer.feed(b"d"), Fed.DONE)
+            tokenizer.end()
+            due = [Text(1, "a"), StartTag(1, "b", (), False, False), Text(1, "cd"), End(1)]
+            self.assertEqual(list(tokenizer.tokens()), due)
+
+    def test_an_encoding_is_named(self):
+        with Tokenizer(replies=Replies.PAUSING) as tokenizer:
+            self.assertEqual(tokenizer.feed(b"<meta charset=latin1>x"), Fed.ENCODING)
+            self.assertEqual(list(tokenizer.tokens())[-1].attributes, (("charset", "latin1"),))
+
+    def test_bytes_that_are_no_text(self):
+        with Tokenizer() as tokenizer:
+            tokenizer.feed(b"<p>ab")
+            with self.assertRaises(TokenizerError) as refused:
+                tokenizer.feed(b"c\xff")
+            self.assertEqual((refused.exception.status, refused.exception.at), (Status.NOT_UTF8, 6))
+            self.assertIsInstance(next(tokenizer.tokens()), StartTag)
+
+    def test_a_character_that_is_cut(self):
+        with Tokenizer() as tokenizer:
+            tokenizer.feed("é".encode()[:1])
+            with self.assertRaises(TokenizerError) as refused:
+                tokenizer.end()
+            self.assertEqual(refused.exception.status, Status.CUT)
+
+    def test_after_the_end(self):
+        with Tokenizer() as tokenizer:
+            self.assertFalse(tokenizer.is_over())
+            tokenizer.end()
+            self.assertTrue(tokenizer.is_over())
+            with self.assertRaises(TokenizerError) as refused:
+                tokenizer.feed(b"x")
+            self.assertEqual(refused.exception.status, Status.OVER)
+
+    def test_raw_text_from_the_start(self):
+        with Tokenizer(state=State.RCDATA, last_start_tag="title") as tokenizer:
+            tokenizer.feed(b"<b>&amp;</title>")
+            self.assertEqual(list(tokenizer.tokens()), [Text(1, "<b>&"), EndTag(1, "title", (), False, False)])
+
+    def test_a_closed_tokenizer(self):
+        tokenizer = Tokenizer()
+        tokenizer.close()
+        with self.assertRaises(TokenizerError) as refused:
+            tokenizer.feed(b"x")
+        self.assertEqual(refused.exception.status, Status.CLOSED)
+
+    def test_memory_that_was_given_back_twice(self):
+        tokenizer = Tokenizer()
+        tokenizer.close()
+        tokenizer.close()
+        self.assertFalse(tokenizer.is_over())
+
+    def test_an_option_that_is_refused_leaves_nothing_to_close(self):
+        with self.assertRaises(TokenizerError) as refused:
+            Tokenizer(state=99)
+        self.assertEqual(refused.exception.status, Status.BAD_OPTION)
+
+    def test_errors_pickle(self):
+        for error in (TokenizerError(Status.NOT_UTF8, 6), TokenizerError(Status.CUT)):
+            again = pickle.loads(pickle.dumps(error))
+            self.assertEqual((again.status, again.at, str(again)), (error.status, error.at, str(error)))
+
+
+class Tokens(unittest.TestCase):
+    def test_tokens_of_two_kinds_differ(self):
+        start, end = StartTag(1, "p", (), False, False), EndTag(1, "p", (), False, False)
+        self.assertNotEqual(start, end)
+        self.assertEqual(len({start, end, StartTag(1, "p", (), False, False)}), 2)
+        self.assertNotEqual(End(1), (1,))
+
+    def test_an_attribute_by_its_name(self):
+        tag = next(firnuubal.tokens("<a href=x title>"))
+        self.assertEqual((tag.get("href"), tag.get("title"), tag.get("id"), tag.get("id", 1)), ("x", "", None, 1))
+
+    def test_the_lines_of_texts(self):
+        found = [token for token in firnuubal.tokens("1\n2<p>\n3</p>4") if isinstance(token, Text)]
+        self.assertEqual(found, [Text(1, "1\n2"), Text(2, "\n3"), Text(3, "4")])
+
+    def test_texts_without_the_errors_in_them(self):
+        page = "a&#x80;b\0c"
+        kinds = [type(token).__name__ for token in firnuubal.tokens(page)]
+        self.assertIn("ParseError", kinds)
+        due = [Text(1, "a\u20acb"), firnuubal.NullCharacter(1), Text(1, "c"), End(1)]
+        self.assertEqual(list(firnuubal.tokens(page, errors=False)), due)
+
+    def test_pages_of_each_kind(self):
+        page = "<p>é"
+        due = [StartTag(1, "p", (), False, False), Text(1, "é"), End(1)]
+        given = [page, page.encode(), bytearray(page.encode()), memoryview(page.encode())]
+        given += [io.StringIO(page), io.BytesIO(page.encode()), ["<", b"p>", "é"], iter([page])]
+        for each in given:
+            self.assertEqual(list(firnuubal.tokens(each)), due, each)
+
+    def test_a_file_that_does_not_wait(self):
+        class NotReady:
+            def read(self, size):
+                return None
+
+        with self.assertRaises(BlockingIOError):
+            list(firnuubal.tokens(NotReady()))
+
+    def test_links(self):
+        page = '<a href="/x?a&amp;b">\n<script><a href=no></script><img src=y><p href=z><a>'
+        self.assertEqual(list(firnuubal.links(page)), [(1, "/x?a&b"), (2, "y")])
+
+    def test_text(self):
+        self.assertEqual(firnuubal.text("<title>One &amp; two</title><p>three<style>x</style>"), "One & twothree")
+
+    def test_two_hundred_threads(self):
+        found = []
+        page = "<p>1" * 200
+
+        def read():
+            found.append(sum(isinstance(token, StartTag) for token in firnuubal.tokens(page, piece=7)))
+
+        threads = [threading.Thread(target=read) for _ in range(200)]
+        for thread in threads:
+            thread.start()
+        for thread in threads:
+            thread.join()
+        self.assertEqual(found, [200] * 200)
+
+
+if __name__ == "__main__":
+    unittest.main()

@@ -1,0 +1,237 @@
+//! Cleaning: what a policy keeps of a page.
+
+use crate::raw::{self, Handle};
+use crate::Error;
+use std::collections::{BTreeMap, BTreeSet};
+use std::io::{self, Read, Write};
+
+/// What is kept of a page: the rules of a text, which were tried.
+///
+/// `Policy::parse` takes the text form (crates/html5policy/README.md), `PolicyBuilder` elements, attributes and schemes
+/// one by one. `Policy::default` is the standard policy.
+#[derive(Clone, Debug, Default, PartialEq, Eq)]
+pub struct Policy {
+    // No text is the standard policy.
+    text: String,
+}
+
+impl Policy {
+    /// The policy of these rules, a line each. A rule that no policy takes is `Error::BadPolicy`.
+    pub fn parse(rules: &str) -> Result<Policy, Error> {
+        let text = if rules.is_empty() { String::from("\n") } else { String::from(rules) };
+        let policy = Policy { text };
+        Cleaner::new(&policy)?;
+        Ok(policy)
+    }
+
+    /// What the policy keeps of a page.
+    pub fn clean(&self, page: &str) -> String {
+        self.try_clean(page).expect("memory for a cleaned page")
+    }
+
+    fn try_clean(&self, page: &str) -> Result<String, Error> {
+        let mut cleaner = Cleaner::new(self)?;
+        cleaner.feed(page.as_bytes())?;
+        cleaner.end()?;
+        Ok(cleaner.take())
+    }
+
+    /// Writes what the policy keeps of a page, as its bytes arrive.
+    pub fn clean_stream(&self, mut page: impl Read, mut kept: impl Write) -> io::Result<()> {
+        let mut cleaner = Cleaner::new(self)?;
+        let mut piece = vec![0; 1 << 16];
+        loop {
+            let len = page.read(&mut piece)?;
+            if len == 0 {
+                break;
+            }
+            cleaner.feed(&piece[..len])?;
+            kept.write_all(cleaner.take().as_bytes())?;
+        }
+        cleaner.end()?;
+        kept.write_all(cleaner.take().as_bytes())
+    }
+}
+
+/// What the standard policy keeps of a page: text, its blocks, lists and tables, links and images.
+///
+/// ```
+/// assert_eq!(firnuubal::clean("<p onclick=x>1 <a href=javascript:x>2</a>"), "<p>1 <a>2</a>");
+/// ```
+pub fn clean(page: &str) -> String {
+    Policy::default().clean(page)
+}
+
+/// Makes a policy of elements, attributes and schemes, as ammonia's `Builder` does. It begins with none.
+///
+/// ```
+/// use firnuubal::PolicyBuilder;
+///
+/// let mut builder = PolicyBuilder::new();
+/// builder.tags(["p", "a"]).tag_attributes("a", ["href"]).url_schemes(["https"]).noopener(true);
+/// let policy = builder.build()?;
+/// assert_eq!(policy.clean("<p id=x><a href='https://h/'>1</a>"), r#"<p><a href="https://h/" rel="noopener">1</a>"#);
+/// # Ok::<(), firnuubal::Error>(())
+/// ```
+#[derive(Clone, Debug, Default, PartialEq, Eq)]
+pub struct PolicyBuilder {
+    tags: BTreeMap<String, BTreeSet<String>>,
+    generic_attributes: BTreeSet<String>,
+    url_schemes: BTreeSet<String>,
+    clean_content_tags: BTreeSet<String>,
+    noopener: bool,
+    balance: bool,
+}
+
+fn strings<'w>(words: impl IntoIterator<Item = &'w str>) -> impl Iterator<Item = String> {
+    words.into_iter().map(String::from).collect::<Vec<_>>().into_iter()
+}
+
+impl PolicyBuilder {
+    /// A policy that keeps text alone.
+    pub fn new() -> PolicyBuilder {
+        PolicyBuilder::default()
+    }
+
+    /// Keeps these elements, too.
+    pub fn tags<'w>(&mut self, names: impl IntoIterator<Item = &'w str>) -> &mut PolicyBuilder {
+        for name in strings(names) {
+            self.tags.entry(name).or_default();
+        }
+        self
+    }
+
+    /// Keeps an element, and these attributes of it.
+    pub fn tag_attributes<'w>(&mut self, tag: &str, names: impl IntoIterator<Item = &'w str>) -> &mut PolicyBuilder {
+        self.tags.entry(String::from(tag)).or_default().extend(strings(names));
+        self
+    }
+
+    /// Keeps these attributes in each element.
+    pub fn generic_attributes<'w>(&mut self, names: impl IntoIterator<Item = &'w str>) -> &mut PolicyBuilder {
+        self.generic_attributes.extend(strings(names));
+        self
+    }
+
+    /// Keeps addresses of these schemes, beside relative ones.
+    pub fn url_schemes<'w>(&mut self, names: impl IntoIterator<Item = &'w str>) -> &mut PolicyBuilder {
+        self.url_schemes.extend(strings(names));
+        self
+    }
+
+    /// Drops these elements with what stands in them.
+    pub fn clean_content_tags<'w>(&mut self, names: impl IntoIterator<Item = &'w str>) -> &mut PolicyBuilder {
+        self.clean_content_tags.extend(strings(names));
+        self
+    }
+
+    /// Whether a link that is kept gets `rel="noopener"`.
+    pub fn noopener(&mut self, is_added: bool) -> &mut PolicyBuilder {
+        self.noopener = is_added;
+        self
+    }
+
+    /// Whether each end tag closes what was opened inside its element, and the page's end what is still open.
+    pub fn balance(&mut self, balances: bool) -> &mut PolicyBuilder {
+        self.balance = balances;
+        self
+    }
+
+    // The rules in their text form.
+    fn rules(&self) -> String {
+        let mut rules = String::new();
+        let mut rule = |word: &str, names: Vec<&str>| {
+            if word != "allow" && names.is_empty() {
+                return;
+            }
+            rules.push_str(word);
+            for name in names {
+                rules.push(' ');
+                rules.push_str(name);
+            }
+            rules.push('\n');
+        };
+        for (tag, attributes) in &self.tags {
+            rule("allow", std::iter::once(tag).chain(attributes).map(String::as_str).collect());
+        }
+        for (word, names) in [
+            ("everywhere", &self.generic_attributes),
+            ("schemes", &self.url_schemes),
+            ("hide", &self.clean_content_tags),
+        ] {
+            rule(word, names.iter().map(String::as_str).collect());
+        }
+        for (word, is_said) in [("noopener", self.noopener), ("balance", self.balance)] {
+            if is_said {
+                rules.push_str(word);
+                rules.push('\n');
+            }
+        }
+        rules
+    }
+
+    /// The policy, or which of its rules no policy takes.
+    pub fn build(&self) -> Result<Policy, Error> {
+        Policy::parse(&self.rules())
+    }
+}
+
+/// Cleans pages by a policy, one after the other, each as its bytes arrive.
+#[derive(Debug)]
+pub struct Cleaner {
+    handle: Handle,
+}
+
+// The handle has no tie to a thread, and each call takes it by `&mut`.
+unsafe impl Send for Cleaner {}
+
+impl Cleaner {
+    /// A cleaner at the start of a page.
+    pub fn new(policy: &Policy) -> Result<Cleaner, Error> {
+        let mut cleaner = Cleaner { handle: Handle::CLOSED };
+        let mut place = 0;
+        let text = &policy.text;
+        match unsafe { raw::html5_cleaner_new(&mut cleaner.handle, text.as_ptr(), text.len(), &mut place) } {
+            10 => Err(Error::BadPolicy { line: place }),
+            status => cleaner.done_or_error(status).map(|()| cleaner),
+        }
+    }
+
+    /// Reads the next bytes, in pieces of any size.
+    pub fn feed(&mut self, bytes: &[u8]) -> Result<(), Error> {
+        let status = unsafe { raw::html5_cleaner_feed(&mut self.handle, bytes.as_ptr(), bytes.len()) };
+        self.done_or_error(status)
+    }
+
+    /// Ends the page.
+    pub fn end(&mut self) -> Result<(), Error> {
+        let status = unsafe { raw::html5_cleaner_end(&mut self.handle) };
+        self.done_or_error(status)
+    }
+
+    /// What is kept of the page and was not taken yet.
+    pub fn take(&mut self) -> String {
+        let mut taken = Vec::new();
+        raw::take_all(&mut self.handle, raw::html5_cleaner_take, &mut taken);
+        String::from_utf8(taken).expect("pieces of a cleaned page are UTF-8")
+    }
+
+    /// Begins another page, by the same policy. What was not taken is gone.
+    pub fn restart(&mut self) -> Result<(), Error> {
+        let status = unsafe { raw::html5_cleaner_restart(&mut self.handle) };
+        self.done_or_error(status)
+    }
+
+    fn done_or_error(&mut self, status: u32) -> Result<(), Error> {
+        match status {
+            0 => Ok(()),
+            status => Err(Error::of_status(status, || unsafe { raw::html5_cleaner_error_at(&mut self.handle) })),
+        }
+    }
+}
+
+impl Drop for Cleaner {
+    fn drop(&mut self) {
+        unsafe { raw::html5_free(&mut self.handle) }
+    }
+}

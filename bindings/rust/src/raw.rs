@@ -1,0 +1,57 @@
+//! The calls of the library, as firnuubal.h has them.
+
+use std::ffi::c_void;
+use std::ptr;
+
+/// A handle, of a tokenizer or of a cleaner. One of zeros is closed.
+#[repr(C)]
+#[derive(Debug)]
+pub(crate) struct Handle {
+    at: *mut c_void,
+    is_open: bool,
+}
+
+impl Handle {
+    pub(crate) const CLOSED: Handle = Handle { at: ptr::null_mut(), is_open: false };
+}
+
+#[repr(C)]
+pub(crate) struct RawOptions {
+    pub(crate) state: u32,
+    pub(crate) replies: u32,
+    pub(crate) exact_errors: bool,
+    pub(crate) keep_bom: bool,
+    pub(crate) foreign: bool,
+}
+
+extern "C" {
+    pub(crate) fn html5_new(handle: *mut Handle, last: *const u8, len: usize, options: *const RawOptions) -> u32;
+    pub(crate) fn html5_feed(handle: *mut Handle, bytes: *const u8, len: usize) -> u32;
+    pub(crate) fn html5_insert(handle: *mut Handle, text: *const u8, len: usize) -> u32;
+    pub(crate) fn html5_end(handle: *mut Handle) -> u32;
+    pub(crate) fn html5_take(handle: *mut Handle, out: *mut u8, len: usize) -> usize;
+    pub(crate) fn html5_error_at(handle: *mut Handle) -> u64;
+    pub(crate) fn html5_is_over(handle: *mut Handle) -> bool;
+    pub(crate) fn html5_free(handle: *mut Handle);
+    pub(crate) fn html5_cleaner_new(handle: *mut Handle, policy: *const u8, len: usize, place: *mut u64) -> u32;
+    pub(crate) fn html5_cleaner_restart(handle: *mut Handle) -> u32;
+    pub(crate) fn html5_cleaner_feed(handle: *mut Handle, bytes: *const u8, len: usize) -> u32;
+    pub(crate) fn html5_cleaner_end(handle: *mut Handle) -> u32;
+    pub(crate) fn html5_cleaner_take(handle: *mut Handle, out: *mut u8, len: usize) -> usize;
+    pub(crate) fn html5_cleaner_error_at(handle: *mut Handle) -> u64;
+}
+
+/// Appends all that waits in a handle.
+pub(crate) fn take_all(handle: &mut Handle, take: unsafe extern "C" fn(*mut Handle, *mut u8, usize) -> usize, taken: &mut Vec<u8>) {
+    const ROOM: usize = 1 << 14;
+    loop {
+        let len = taken.len();
+        taken.reserve(ROOM);
+        let room = taken.spare_capacity_mut();
+        let count = unsafe { take(handle, room.as_mut_ptr().cast(), room.len()) };
+        unsafe { taken.set_len(len + count) };
+        if count == 0 {
+            return;
+        }
+    }
+}

@@ -1,0 +1,83 @@
+//! Pages in pieces, policies, refusals.
+
+use firnuubal::{clean, Cleaner, Error, Options, OwnedToken, Policy, PolicyBuilder, Tokenizer};
+
+const PAGE: &str = "<p onclick=x>1 &lt; 2<script>x</script><a href=javascript:x>y</a>é";
+const KEPT: &str = "<p>1 &#60; 2<a>y</a>é";
+
+#[test]
+fn a_page_in_pieces() -> Result<(), Error> {
+    let mut cleaner = Cleaner::new(&Policy::default())?;
+    for size in 1..=PAGE.len() {
+        let mut kept = String::new();
+        for piece in PAGE.as_bytes().chunks(size) {
+            cleaner.feed(piece)?;
+            kept += &cleaner.take();
+        }
+        cleaner.end()?;
+        assert_eq!(kept + &cleaner.take(), KEPT);
+        cleaner.restart()?;
+    }
+    Ok(())
+}
+
+#[test]
+fn a_page_from_a_stream() {
+    let mut kept = Vec::new();
+    Policy::default().clean_stream(PAGE.as_bytes(), &mut kept).unwrap();
+    assert_eq!(kept, KEPT.as_bytes());
+    let refused = Policy::default().clean_stream(&b"a\xFF"[..], &mut kept).unwrap_err();
+    assert_eq!(refused.kind(), std::io::ErrorKind::InvalidData);
+}
+
+#[test]
+fn policies() -> Result<(), Error> {
+    let policy = Policy::parse("allow p class\nallow a href\nschemes ftp\nnoopener\n")?;
+    assert_eq!(policy.clean("<p class=x><b>1<a href=ftp:x>"), r#"<p class="x">1<a href="ftp:x" rel="noopener">"#);
+    assert_eq!(PolicyBuilder::new().build()?.clean("<p>1"), "1");
+    let mut builder = PolicyBuilder::new();
+    builder.tags(["p", "b"]).generic_attributes(["lang"]).clean_content_tags(["q"]).balance(true);
+    assert_eq!(builder.build()?.clean("<p lang=x><b>1</p><q>2</q>"), r#"<p lang="x"><b>1</b></p>"#);
+    Ok(())
+}
+
+#[test]
+fn rules_that_no_policy_takes() {
+    assert_eq!(Policy::parse("allow p\nallow script\n"), Err(Error::BadPolicy { line: 2 }));
+    assert_eq!(PolicyBuilder::new().tag_attributes("p", ["onclick"]).build(), Err(Error::BadPolicy { line: 1 }));
+    assert_eq!(PolicyBuilder::new().url_schemes(["javascript"]).build(), Err(Error::BadPolicy { line: 1 }));
+}
+
+#[test]
+fn refusals() -> Result<(), Error> {
+    let mut cleaner = Cleaner::new(&Policy::default())?;
+    cleaner.feed(b"<p>ab")?;
+    assert_eq!(cleaner.feed(b"c\xFF"), Err(Error::NotUtf8 { at: 6 }));
+    cleaner.feed(&[0xC3])?;
+    assert_eq!(cleaner.end(), Err(Error::Cut));
+    cleaner.restart()?;
+    cleaner.end()?;
+    assert_eq!(cleaner.feed(b"x"), Err(Error::Over));
+    Ok(())
+}
+
+#[test]
+fn cleaners_in_two_hundred_threads() {
+    let threads: Vec<_> = (0..200).map(|_| std::thread::spawn(|| clean(PAGE))).collect();
+    for thread in threads {
+        assert_eq!(thread.join().unwrap(), KEPT);
+    }
+}
+
+#[test]
+fn tokens_that_own_their_texts() -> Result<(), Error> {
+    let mut tokenizer = Tokenizer::new(&Options::default())?;
+    tokenizer.feed(b"<a href=x title=y>1")?;
+    let tokens: Vec<OwnedToken> = tokenizer.tokens().map(OwnedToken::from).collect();
+    tokenizer.end()?;
+    let OwnedToken::StartTag(tag) = &tokens[0] else {
+        panic!("{tokens:?}");
+    };
+    assert_eq!(tag.attributes, [("href".into(), "x".into()), ("title".into(), "y".into())]);
+    Ok(())
+}
