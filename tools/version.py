@@ -20,6 +20,12 @@ PLACES = {
     "bindings/rust/Cargo.toml": r'^version = "(.*)"',
 }
 
+# Where it stands as a number, a byte for each of its parts.
+NUMBERS = {
+    "crates/html5c/src/version.rt": r"^const VERSION: u32 = 0x(\w+);",
+    "bindings/c/firnuubal.h": r"^#define FIRNUUBAL_VERSION_NUMBER 0x(\w+)",
+}
+
 
 def version_in(place, pattern):
     """The version that a file has first, or none."""
@@ -27,8 +33,16 @@ def version_in(place, pattern):
     return found and found.group(1)
 
 
+def version_of(number):
+    """The version that such a number has, if it is one."""
+    digits = (number or "").replace("_", "")
+    return ".".join(str(int(digits[at : at + 2], 16)) for at in (0, 2, 4)) if len(digits) == 6 else None
+
+
 def main():
     versions = {place: version_in(place, pattern) for place, pattern in PLACES.items()}
+    numbers = {f"{place}, the number": version_of(version_in(place, pattern)) for place, pattern in NUMBERS.items()}
+    versions.update(numbers)
     if None in versions.values() or len(set(versions.values())) != 1:
         for place, version in versions.items():
             print(f"tools/version.py: {place}: {version or 'no version'}")

@@ -10,6 +10,9 @@
 /* The version of the library, of this header and of the readers. */
 #define FIRNUUBAL_VERSION "0.2.0"
 
+/* The same as a number, its three numbers a byte each. `html5_version` says it of the library that is linked. */
+#define FIRNUUBAL_VERSION_NUMBER 0x000200
+
 #include <stdbool.h>
 #include <stddef.h>
 #include <stdint.h>
@@ -19,6 +22,9 @@
 #ifdef __cplusplus
 extern "C" {
 #endif
+
+/* The version of the library, as FIRNUUBAL_VERSION_NUMBER has that of this header. */
+uint32_t html5_version(void);
 
 /* ---- the tokenizer */
 

@@ -138,6 +138,7 @@ static void is_closed_until_it_is_opened(void) {
 }
 
 int main(void) {
+    CHECK(html5_version() == FIRNUUBAL_VERSION_NUMBER);
     reads_a_page_in_pieces();
     pauses_and_lets_text_in();
     says_where_bytes_are_no_text();

@@ -11,6 +11,7 @@ mod opening;
 mod options;
 mod slot;
 pub mod status;
+mod version;
 
 pub use calls::{
     html5_end, html5_error_at, html5_feed, html5_free, html5_insert, html5_is_over, html5_new,
@@ -22,3 +23,4 @@ pub use cleaner_calls::{
 };
 pub use handle::Handle;
 pub use options::Options;
+pub use version::html5_version;
