@@ -44,7 +44,7 @@ none-above test ends inner stack below h =
 
 -- ---- the parts of a flow host
 
-record Calm (stack : List (List ℕ)) : Type 0 where
+record IsCalm (stack : List (List ℕ)) : Type 0 where
   holder : holds_parts (kind_on_top stack) ≡ false
   heading : top_of_kind is_heading stack ≡ false
   paragraph : near (of_kind is_paragraph) bounds_paragraph stack ≡ false
@@ -56,7 +56,7 @@ record Calm (stack : List (List ℕ)) : Type 0 where
   ruby : near (of_kind is_ruby) has_marker stack ≡ false
   form : near (of_kind is_form) no_kind stack ≡ false
 
-calm : (stack : List (List ℕ)) → is_flow_host stack ≡ true → Calm stack
+calm : (stack : List (List ℕ)) → is_flow_host stack ≡ true → IsCalm stack
 unfolding is_flow_host
 calm stack h =
     let p1 = and_parts (not (holds_parts (kind_on_top stack))) _ h in
@@ -81,7 +81,7 @@ calm stack h =
       form = not-true _ p9.1;
     }
 
-host-of : (stack : List (List ℕ)) → Calm stack → is_flow_host stack ≡ true
+host-of : (stack : List (List ℕ)) → IsCalm stack → is_flow_host stack ≡ true
 unfolding is_flow_host
 host-of stack c = rw (c.holder, c.heading, c.paragraph, c.anchor, c.no_break, c.button, c.list_item, c.description, c.ruby, c.form) refl
 
@@ -209,7 +209,7 @@ fragment-above stack items s h = fits-above [] stack items s (and_parts (each_fi
 
 -- ---- a flow host suits all items
 
-calm-allows : (k : Kind) (stack : List (List ℕ)) → Calm stack → allows stack k ≡ true
+calm-allows : (k : Kind) (stack : List (List ℕ)) → IsCalm stack → allows stack k ≡ true
 calm-allows Unknown stack c = refl
 calm-allows Caption stack c = refl
 calm-allows ColumnGroup stack c = refl
@@ -233,12 +233,12 @@ calm-allows RubyContainer stack c = rw c.ruby refl
 calm-allows RubyText stack c = rw c.ruby refl
 calm-allows other stack c = rw c.paragraph refl
 
-calm-allows-item : (item : Item) (stack : List (List ℕ)) → Calm stack → allows_item stack item ≡ true
+calm-allows-item : (item : Item) (stack : List (List ℕ)) → IsCalm stack → allows_item stack item ≡ true
 calm-allows-item (StartTag name attributes) stack c = calm-allows (kind_of name) stack c
 calm-allows-item (EndTag name) stack c = refl
 calm-allows-item (Text text) stack c = refl
 
-calm-allows-all : (items : List Item) (stack : List (List ℕ)) → Calm stack → list_all (allows_item stack) items ≡ true
+calm-allows-all : (items : List Item) (stack : List (List ℕ)) → IsCalm stack → list_all (allows_item stack) items ≡ true
 calm-allows-all [] stack c = refl
 calm-allows-all (item ∷ items) stack c =
     and_from (allows_item stack item) (list_all (allows_item stack) items) (calm-allows-item item stack c) (calm-allows-all items stack c)
@@ -284,7 +284,7 @@ unfolding is_flow_host near
 none-open-host = refl
 
 cell-calm : (k : Kind) (name : List ℕ) (stack : List (List ℕ)) → kind_of name ≡ k → has_marker k ≡ true → near (of_kind is_form) no_kind stack ≡ false
-    → Calm (name ∷ stack)
+    → IsCalm (name ∷ stack)
 unfolding near
 cell-calm Caption name stack is h none = record {
   holder = rw is refl;
@@ -316,7 +316,7 @@ pub cell-host : (name : List ℕ) (stack : List (List ℕ)) → has_marker (kind
     → is_flow_host (name ∷ stack) ≡ true
 cell-host name stack h none = host-of (name ∷ stack) (cell-calm (kind_of name) name stack refl h (not-true _ none))
 
-record Neutral (k : Kind) : Type 0 where
+record IsNeutral (k : Kind) : Type 0 where
   holder : holds_parts k ≡ false
   heading : is_heading k ≡ false
   paragraph : is_paragraph k ≡ false
@@ -329,11 +329,11 @@ record Neutral (k : Kind) : Type 0 where
   form : is_form k ≡ false
 
 neutral_of : {k : Kind} → holds_parts k ≡ false → is_heading k ≡ false → is_paragraph k ≡ false → is_anchor k ≡ false → is_no_break k ≡ false → is_button k ≡ false
-    → is_list_item k ≡ false → is_description k ≡ false → is_ruby k ≡ false → is_form k ≡ false → Neutral k
+    → is_list_item k ≡ false → is_description k ≡ false → is_ruby k ≡ false → is_form k ≡ false → IsNeutral k
 neutral_of a b c d e f g h i j =
     record { holder = a; heading = b; paragraph = c; anchor = d; no_break = e; button = f; list_item = g; description = h; ruby = i; form = j }
 
-neutral : (k : Kind) → is_neutral k ≡ true → Neutral k
+neutral : (k : Kind) → is_neutral k ≡ true → IsNeutral k
 neutral Ordinary h = neutral_of refl refl refl refl refl refl refl refl refl refl
 neutral Formatting h = neutral_of refl refl refl refl refl refl refl refl refl refl
 neutral Division h = neutral_of refl refl refl refl refl refl refl refl refl refl
@@ -364,7 +364,7 @@ neutral-host name stack h host =
 
 -- ---- a `p`, an `a` and a `li` in a flow host
 
-paragraph-allows : (k : Kind) (name : List ℕ) (stack : List (List ℕ)) → kind_of name ≡ Paragraph → Calm stack → allows (name ∷ stack) k ≡ not (closes_paragraph k)
+paragraph-allows : (k : Kind) (name : List ℕ) (stack : List (List ℕ)) → kind_of name ≡ Paragraph → IsCalm stack → allows (name ∷ stack) k ≡ not (closes_paragraph k)
 unfolding near
 paragraph-allows Unknown name stack is c = refl
 paragraph-allows Caption name stack is c = refl
@@ -389,7 +389,7 @@ paragraph-allows RubyContainer name stack is c = rw (is, c.ruby) refl
 paragraph-allows RubyText name stack is c = rw (is, c.ruby) refl
 paragraph-allows other name stack is c = rw is refl
 
-anchor-allows : (k : Kind) (name : List ℕ) (stack : List (List ℕ)) → kind_of name ≡ Anchor → Calm stack → allows (name ∷ stack) k ≡ not (is_anchor k)
+anchor-allows : (k : Kind) (name : List ℕ) (stack : List (List ℕ)) → kind_of name ≡ Anchor → IsCalm stack → allows (name ∷ stack) k ≡ not (is_anchor k)
 unfolding near
 anchor-allows Unknown name stack is c = refl
 anchor-allows Caption name stack is c = refl
@@ -414,7 +414,7 @@ anchor-allows RubyContainer name stack is c = rw (is, c.ruby) refl
 anchor-allows RubyText name stack is c = rw (is, c.ruby) refl
 anchor-allows other name stack is c = rw (is, c.paragraph) refl
 
-item-allows : (k : Kind) (name : List ℕ) (stack : List (List ℕ)) → kind_of name ≡ ListItem → Calm stack → allows (name ∷ stack) k ≡ not (is_list_item k)
+item-allows : (k : Kind) (name : List ℕ) (stack : List (List ℕ)) → kind_of name ≡ ListItem → IsCalm stack → allows (name ∷ stack) k ≡ not (is_list_item k)
 unfolding near
 item-allows Unknown name stack is c = refl
 item-allows Caption name stack is c = refl

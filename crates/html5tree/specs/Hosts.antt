@@ -10,8 +10,8 @@ use Rattle.html5tree.specs.Fitting.{bounds_item, fits_flow, none_near, no_paragr
 use Rattle.html5tree.specs.Tree.{Tree, Path, with_text}
 use Rattle.html5tree.specs.Tree.Tree.{Nothing, Element, Characters}
 use Rattle.html5tree.specs.Parser.{Parser}
-use Rattle.html5tree.specs.Lockstep.{Good, parser}
-use Rattle.html5tree.specs.Shown.{Shown}
+use Rattle.html5tree.specs.Lockstep.{IsInOrder, parser}
+use Rattle.html5tree.specs.Shown.{Shows}
 
 -- A parser between two items, whose document is the tree of a path. Its insertion mode is the one that "reset the insertion mode
 -- appropriately" finds, its form element pointer the open form, if there is one, and each entry of its list of active formatting elements an
@@ -19,8 +19,8 @@ use Rattle.html5tree.specs.Shown.{Shown}
 -- open.
 pub record IsHost (p : Parser) (path : Path) : Type 0 where
   pub follows : p ≡ parser p.page p.formatting
-  pub good : Good p.formatting p.page
-  pub shown : Shown p.page path
+  pub good : IsInOrder p.formatting p.page
+  pub shown : Shows p.page path
 
 -- what is the same afterwards. The list of active formatting elements may have lost entries, as the Noah's Ark clause removes them.
 pub record IsBack (before after : Parser) : Type 0 where
