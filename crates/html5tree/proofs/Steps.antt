@@ -34,7 +34,7 @@ record IsPlain (k : Kind) : Type 0 where
   form : is_form k ≡ false
   opens : can_open k ≡ true
 
--- ---- start items in flow
+-- ---- start tags in flow
 
 opens : (k : Kind) (page : Page) (l : List Entry) (name : List ℕ) (attributes : List Attribute) → kind_of name ≡ k → IsPlain k
     → can_hold (kind_on_top (names page.opened)) k ≡ true → IsInOrder l page
@@ -69,7 +69,7 @@ unfolding AreNumbered
 later-next next [] n = tt
 later-next next (e ∷ s) n = (omega (arith, n.0), n.1)
 
--- an element that has no end item
+-- an element that has no end tag
 voids-in : (mode : Mode) (page : Page) (l : List Entry) (name : List ℕ) (attributes : List Attribute) → mode ≡ mode_of (names page.opened) → IsInOrder l page
     → IsInStep (record { page = popped (inserted page name attributes); formatting = l; mode = mode; form = form_of page.opened; fostering = false }) (popped (inserted page name attributes))
 voids-in mode page l name attributes same g = record {
@@ -111,7 +111,7 @@ plain_kind m a b d = record { mode = m; free = a; form = b; opens = d }
 abbrev page_at : ℕ → List Element → List Edit → Page
 page_at next opened edits = record { next = next; opened = opened; edits = edits }
 
--- implied end items that a ruby part does not generate
+-- implied end tags that a ruby part does not generate
 no-implied : (but goes : Kind → Bool) → ((k : Kind) → goes k ≡ false → (is_implied k && not (but k)) ≡ false) → (next : ℕ) (s : List Element) (edits : List Edit)
     → (near (of_kind is_ruby) has_marker (names s) && top_of_kind goes (names s)) ≡ false
     → without_implied but (page_at next s edits) ≡ page_at next s edits
@@ -305,7 +305,7 @@ flow-end mode InFlow again m name part table = refl
 flow-end mode CaptionFlow again m name part table = caption-ends (kind_of name) again m name part table
 flow-end mode CellFlow again m name part table = cell-ends (kind_of name) again m name part table
 
--- ---- end items
+-- ---- end tags
 
 later-numbered : (next : ℕ) (e : Element) (s : List Element) → AreNumbered next (e ∷ s) → AreNumbered next s
 unfolding AreNumbered

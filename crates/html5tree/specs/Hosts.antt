@@ -43,7 +43,7 @@ put_at path tree = record path { inner = followed_by path.inner tree }
 
 -- ---- which fragments fit in a host, by the names of its open elements, innermost first
 
--- whether a host bounds no element of a kind that a fragment opens, wherever it does so
+-- whether an element of a kind can stand in a host, and in what a fragment opens there: it closes nothing of the host
 abbrev pub allows : List (List ℕ) → Kind → Bool
 allows stack Unknown = true
 allows stack RubyBase = none_near is_ruby has_marker stack
@@ -55,11 +55,11 @@ abbrev pub allows_item : List (List ℕ) → Item → Bool
 allows_item stack (StartTag name attributes) = allows stack (kind_of name)
 allows_item stack other = true
 
--- where text can stand, and all elements of a fragment are allowed
+-- whether text can stand there, and all elements of a fragment are allowed
 unfoldable pub suits : List (List ℕ) → List Item → Bool
 suits stack items = not (holds_parts (kind_on_top stack)) && list_all (allows_item stack) items
 
--- ---- hosts that suit each fragment
+-- ---- hosts that suit all fragments
 
 -- text can stand there, and nothing is near that a fragment could close
 unfoldable pub is_flow_host : List (List ℕ) → Bool
