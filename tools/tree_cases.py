@@ -99,32 +99,40 @@ CHOSEN = [
 # An input that tells the kind of a name, which stands for NAME.
 BY_NAME = "<p><NAME>0</p><b><NAME>1</b>2</NAME>3<li><NAME><li><ruby><NAME><rt></ruby><table><NAME>x"
 
-HEAD = """-- Random items, with the trees that a model of the standard's tree construction builds of them, and with whether they all fit: by
--- `python3 tools/tree_cases.py`, and not by hand.
+# What the proofs unfold, by module, and what else they name.
+READING = {
+    "Names": "is_among kind_in all_names kind_of",
+    "Scopes": "near",
+}
+FITTING = READING | {"Fitting": "fits open_after each_fits all_open_after"}
+TREES = READING | {
+    "Items": "in_front whole_texts without_newlines",
+    "Document": "joined changed changed_before found without applied built bare",
+    "Parser": "has_node inside outside without_node is_bounded popped_until implied_ended has_entry without_entry"
+    " last_named is_one_of are_all_of count_alike without_earliest pushed cleared last_table lost kept reopened",
+    "Adoption": "ended_by furthest_block replaced inner_loop added_after adopted outer_loop",
+    "InBody": "innermost",
+    "Tables": "mode_of back_to is_hidden leading_space after_space",
+    "Construction": "process run",
+}
+NAMED = {"Items": "Item", "Tree": "Tree", "Fitting": "all_fit", "Construction": "tree_of"}
+HEAD = """-- Items, with the trees that a model of the standard's tree construction builds of them, and with whether they all
+-- fit: by `python3 tools/tree_cases.py`, and not by hand.
 use Rattle.std.proofs.Common.{◌≡◌, Bool, true, false, List, [], ◌∷◌, refl}
 use Rattle.std.specs.Prelude.{codes, map}
-use Rattle.html5tree.specs.Names.{is_among, kind_in, all_names, kind_of}
-use Rattle.html5tree.specs.Items.{Item, in_front, whole_texts, without_newlines}
 use Rattle.html5tree.specs.Items.Item.{StartTag, Text}
-use Rattle.html5tree.specs.Tree.{Tree}
 use Rattle.html5tree.specs.Tree.Tree.{Nothing, Element, Characters}
-use Rattle.html5tree.specs.Scopes.{near}
-use Rattle.html5tree.specs.Fitting.{fits, open_after, each_fits, all_open_after, all_fit}
-use Rattle.html5tree.specs.Document.{joined, changed, changed_before, found, without, applied, built, bare}
-use Rattle.html5tree.specs.Parser.{has_node, inside, outside, without_node, is_bounded, popped_until, implied_ended, has_entry, without_entry, last_named, is_one_of, are_all_of, count_alike, without_earliest, pushed, cleared, last_table, lost, kept, reopened}
-use Rattle.html5tree.specs.Adoption.{ended_by, furthest_block, replaced, inner_loop, added_after, adopted, outer_loop}
-use Rattle.html5tree.specs.InBody.{innermost}
-use Rattle.html5tree.specs.Tables.{mode_of, back_to, is_hidden, leading_space, after_space}
-use Rattle.html5tree.specs.Construction.{process, run, tree_of}
-use Rattle.html5tree.proofs.Shorthand.{start, end, attribute}
 """
-TREES = (
-    "is_among kind_in all_names kind_of in_front whole_texts without_newlines near joined changed changed_before found without applied built"
-    " bare has_node inside outside without_node is_bounded popped_until implied_ended has_entry without_entry last_named is_one_of are_all_of"
-    " count_alike without_earliest pushed cleared last_table lost kept reopened ended_by furthest_block replaced inner_loop added_after adopted"
-    " outer_loop innermost mode_of back_to is_hidden leading_space after_space process run"
-)
-FITTING = "is_among kind_in all_names kind_of near fits open_after each_fits all_open_after"
+FOOT = "use Rattle.html5tree.proofs.Shorthand.{start, end, attribute}\n"
+
+
+def imports() -> str:
+    """The `use` lines of what the proofs unfold and name."""
+    lines = []
+    for module in sorted({*TREES, *FITTING, *NAMED}):
+        named = dict.fromkeys(" ".join(names.get(module, "") for names in (TREES, FITTING, NAMED)).split())
+        lines.append(f"use Rattle.html5tree.specs.{module}.{{{', '.join(named)}}}\n")
+    return "".join(lines)
 
 
 class Maker:
@@ -179,9 +187,9 @@ class Maker:
     def misnested_items(self):
         """Formatting elements with blocks in them, which are closed in another order."""
         formatting = self.choices.sample(["a", "b", "i", "u", "nobr"], self.choices.randrange(1, 4))
-        several = [["div"], ["p", "div"], ["div", "ul", "li"], ["table", "tr", "td"], ["table", "div"], ["span", "div", "b"]]
-        blocks = self.choices.choice(several)
-        attributes = self.choices.choice([[()], [(), (("id", "1"),)], [(("id", "1"), ("class", "2")), (("class", "2"), ("id", "1"))]])
+        blocks = self.choices.choice(["div", "p div", "div ul li", "table tr td", "table div", "span div b"]).split()
+        both = (("id", "1"), ("class", "2"))
+        attributes = self.choices.choice([[()], [(), both[:1]], [both, both[::-1]]])
         items = []
         for _ in range(self.choices.randrange(1, 6)):
             names = self.choices.choices(formatting, k=self.choices.choice([1, 2, 3, 5]))
@@ -229,24 +237,17 @@ def items_of(markup: str):
     return items
 
 
-def codes(text: str) -> str:
-    if text and all(" " <= c <= "~" and c not in '"\\' for c in text):
-        return f'codes "{text}"'
-    return "[]" if not text else "(" + " ∷ ".join(str(ord(c)) for c in text) + " ∷ [])"
-
-
 def term(text: str) -> str:
     """A text as an argument."""
-    written = codes(text)
-    return f"({written})" if written.startswith("codes") else written
+    return '(codes "' + text.replace("\n", "\\n") + '")' if text else "[]"
 
 
-def listed(parts: list[str]) -> str:
-    return " ∷ ".join([*parts, "[]"])
+def list_term(parts: list[str]) -> str:
+    return "(" + " ∷ ".join([*parts, "[]"]) + ")" if parts else "[]"
 
 
 def attributes_term(attributes) -> str:
-    return "(" + listed([f"attribute {term(name)} {term(value)}" for name, value in attributes]) + ")" if attributes else "[]"
+    return list_term([f"attribute {term(name)} {term(value)}" for name, value in attributes])
 
 
 def item_term(item) -> str:
@@ -260,14 +261,15 @@ def item_term(item) -> str:
 
 
 def items_term(items) -> str:
-    return "(" + listed([item_term(item) for item in items]) + ")"
+    return list_term([item_term(item) for item in items])
 
 
 def tree_term(nodes) -> str:
     written = "Nothing"
     for node in nodes:
         if node.name:
-            written = f"(Element {written} {term(node.name)} {attributes_term(node.attributes)} {tree_term(node.children)})"
+            rest = f"{term(node.name)} {attributes_term(node.attributes)} {tree_term(node.children)}"
+            written = f"(Element {written} {rest})"
         else:
             written = f"(Characters {written} {term(node.text)})"
     return written
@@ -277,14 +279,18 @@ def batches(cases: list) -> list[list]:
     return [cases[at : at + BATCH] for at in range(0, len(cases), BATCH)]
 
 
-def lemma(name: str, function: str, kind: str, cases: list[tuple[str, str]], unfolding: str) -> str:
-    given = "".join(f"    {items}\n    ∷ " if at == 0 else f"{items}\n    ∷ " for at, (items, _) in enumerate(cases))
-    wanted = "".join(f"    {answer}\n    ∷ " if at == 0 else f"{answer}\n    ∷ " for at, (_, answer) in enumerate(cases))
+def definition(name: str, kind: str, entries: list[str]) -> str:
+    return f"{name} : List {kind}\n{name} =\n    " + "\n    ∷ ".join([*entries, "[]"]) + "\n\n"
+
+
+def proof(name: str, function: str, kind: str, cases: list[tuple[str, str]], unfolded: dict[str, str]) -> str:
+    """Items, their answers, and the proof that these are what the function answers."""
+    names = " ".join(unfolded.values())
     return (
-        f"{name}_items : List (List Item)\n{name}_items =\n{given}[]\n\n"
-        f"{name}_answers : List {kind}\n{name}_answers =\n{wanted}[]\n\n"
-        f"{name} : map {function} {name}_items ≡ {name}_answers\n"
-        f"unfolding {name}_items {name}_answers {unfolding}\n{name} = refl\n"
+        definition(f"{name}_items", "(List Item)", [items for items, _ in cases])
+        + definition(f"{name}_answers", kind, [answer for _, answer in cases])
+        + f"{name} : map {function} {name}_items ≡ {name}_answers\n"
+        + f"unfolding {name}_items {name}_answers {names}\n{name} = refl\n"
     )
 
 
@@ -293,8 +299,11 @@ def built(items) -> tuple[str, str]:
 
 
 def random_cases(number: int) -> list[tuple[str, str]]:
-    made = [Maker(f"tree {at}") for at in range(number)]
-    return [built((it.items, it.misnested_items, it.items, it.fitting_items)[at % 4]()) for at, it in enumerate(made)]
+    cases = []
+    for at in range(number):
+        it = Maker(f"tree {at}")
+        cases.append(built((it.items, it.misnested_items, it.items, it.fitting_items)[at % 4]()))
+    return cases
 
 
 def chosen_cases() -> list[tuple[str, str]]:
@@ -306,21 +315,24 @@ def name_cases() -> list[tuple[str, str]]:
 
 
 def fitting_cases(number: int) -> list[tuple[str, str]]:
-    made = [Maker(f"fitting {at}") for at in range(number)]
-    several = [it.items() if at % 4 == 0 else it.fitting_items() for at, it in enumerate(made)]
-    return [(items_term(items), "true" if tree.all_fit(items) else "false") for items in several]
+    cases = []
+    for at in range(number):
+        it = Maker(f"fitting {at}")
+        items = it.items() if at % 4 == 0 else it.fitting_items()
+        cases.append((items_term(items), "true" if tree.all_fit(items) else "false"))
+    return cases
 
 
 def proofs() -> str:
-    parts = [HEAD]
-    for head, name, function, kind, cases, unfolding in [
+    parts = [HEAD + imports() + FOOT]
+    for head, name, function, kind, cases, unfolded in [
         ("trees of random items", "random", "tree_of", "Tree", random_cases(120), TREES),
         ("trees of items that were chosen", "chosen", "tree_of", "Tree", chosen_cases(), TREES),
         ("trees by name", "names", "tree_of", "Tree", name_cases(), TREES),
         ("which random items all fit", "fitting", "(all_fit [])", "Bool", fitting_cases(120), FITTING),
     ]:
         parts.append(f"-- ---- {head}\n")
-        parts += [lemma(f"{name}_{at}", function, kind, batch, unfolding) for at, batch in enumerate(batches(cases))]
+        parts += [proof(f"{name}_{at}", function, kind, batch, unfolded) for at, batch in enumerate(batches(cases))]
     return "\n".join(parts)
 
 
@@ -329,7 +341,7 @@ def is_built_as_nested(items) -> bool:
 
 
 def try_cases(number: int):
-    """Of items that keep their newlines: that those which fit are built as they are nested, and how many of the others are."""
+    """Of items that keep newlines: that those which fit are built as nested, and how many of the others are."""
     made = [Maker(f"try {at}") for at in range(number)]
     several = [it.fitting_items() if at % 2 == 0 else it.balanced_items() for at, it in enumerate(made)]
     fitting = [items for items in several if tree.all_fit(items) and tree.keeps_newlines(items)]
@@ -338,7 +350,7 @@ def try_cases(number: int):
             sys.exit(f"this fits, and is built otherwise than nested: {items}")
     others = [items for items in several[1::2] if not tree.all_fit(items) and tree.keeps_newlines(items)]
     nested = sum(map(is_built_as_nested, others))
-    print(f"{len(fitting)} fit, and are built as they are nested; of {len(others)} that are balanced and don't fit, {nested} are")
+    print(f"{len(fitting)} fit, and are built as nested; of {len(others)} balanced that don't fit, {nested} are")
 
 
 def main():

@@ -1,8 +1,8 @@
 """What a browser builds of tags and texts: "Tree construction" of the HTML standard, of a fragment in a `div`.
 
-It knows the names of crates/html5tree/README.md, of which none is foreign and none switches the tokenizer. It is written
-from that page and the standard's section, and goes on token by token, a character a token, as the standard does:
-with "in table text" as an insertion mode, and a tree of nodes that are moved. `tree_of` builds, `all_fit` says
+It knows the names of crates/html5tree/README.md, of which none is foreign and none switches the tokenizer. It is
+written from that page and the standard's section, and goes on token by token, a character a token, as the standard
+does: with "in table text" as an insertion mode, and a tree of nodes that are moved. `tree_of` builds, `all_fit` says
 which items fit, by the page's table, and `nesting` is the tree that the tags show.
 """
 

@@ -5,8 +5,8 @@ use Rattle.html5tree.specs.Construction.{run, tree_in, tree_of}
 use Rattle.html5tree.specs.Document.{tree_built}
 use Rattle.html5tree.specs.Fitting.{all_fit, all_open_after, each_fits, none_open}
 use Rattle.html5tree.specs.Items.{Item, keeps_newlines, read_items, whole_texts}
-use Rattle.html5tree.specs.Lockstep.{form_of, parser}
-use Rattle.html5tree.specs.Page.{nest_all, start_page}
+use Rattle.html5tree.specs.Lockstep.{form_of, nest_all, parser}
+use Rattle.html5tree.specs.Page.{start_page}
 use Rattle.html5tree.specs.Parser.{start_parser}
 use Rattle.html5tree.specs.Tables.{mode_of}
 use Rattle.html5tree.specs.Tree.{Path, empty_path, nested, nesting}

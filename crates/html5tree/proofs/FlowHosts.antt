@@ -1,13 +1,14 @@
 -- Hosts in which each fragment fits that fits by itself.
 use Rattle.std.proofs.Common.{◌≡◌, ℕ, suc, Bool, true, false, List, [], ◌∷◌, ◌++◌, length, refl, ap, sym, ◌∙◌}
 use Rattle.std.specs.Prelude.{◌&&◌, not, if◌then◌else◌}
+use Rattle.std.specs.List.{list_all}
 use Rattle.std.proofs.lemmas.Bool.{false≢true, not-true, and_parts, and_from}
 use Rattle.html5tree.specs.Fitting.{all_fit, all_open_after, bounds_item, bounds_paragraph, can_open, each_fits, fits, fits_flow, fits_in, holds, holds_parts, is_implied_before_text, no_paragraph, none_implied, none_near, none_open, open_after}
-use Rattle.html5tree.specs.Hosts.{is_flow_host, is_neutral}
+use Rattle.html5tree.specs.Hosts.{allows, allows_item, closes_paragraph, is_flow_host, is_neutral, suits}
 use Rattle.html5tree.specs.Items.{Item, balanced}
 use Rattle.html5tree.specs.Items.Item.{EndTag, StartTag, Text}
 use Rattle.html5tree.specs.Names.{Kind, has_marker, is_anchor, is_button, is_description, is_form, is_heading, is_implied, is_list_item, is_no_break, is_paragraph, is_part, is_ruby, is_void, kind_of, no_kind, of_kind}
-use Rattle.html5tree.specs.Names.Kind.{Anchor, Block, Button, Caption, Cell, Description, Dialog, Division, Form, Formatting, Heading, ListBlock, ListItem, NoBreak, Ordinary, Preformatted, Ruby, RubyBase, RubyContainer, RubyText, Search, Unknown, Void}
+use Rattle.html5tree.specs.Names.Kind.{Anchor, Block, Button, Caption, Cell, Column, ColumnGroup, Description, Dialog, Division, Form, Formatting, Heading, ListBlock, ListItem, NoBreak, Ordinary, Paragraph, Preformatted, Ruby, RubyBase, RubyContainer, RubyText, Search, TableBody, TableRow, Unknown, Void}
 use Rattle.html5tree.specs.Scopes.{kind_on_top, near, top_of_kind}
 
 -- ---- what is near in a stack above another
@@ -43,7 +44,7 @@ none-above test ends inner stack below h =
 
 -- ---- the parts of a flow host
 
-record Calm (stack : List (List ℕ)) : Type 0 where
+record IsCalm (stack : List (List ℕ)) : Type 0 where
   holder : holds_parts (kind_on_top stack) ≡ false
   heading : top_of_kind is_heading stack ≡ false
   paragraph : near (of_kind is_paragraph) bounds_paragraph stack ≡ false
@@ -55,7 +56,7 @@ record Calm (stack : List (List ℕ)) : Type 0 where
   ruby : near (of_kind is_ruby) has_marker stack ≡ false
   form : near (of_kind is_form) no_kind stack ≡ false
 
-calm : (stack : List (List ℕ)) → is_flow_host stack ≡ true → Calm stack
+calm : (stack : List (List ℕ)) → is_flow_host stack ≡ true → IsCalm stack
 unfolding is_flow_host
 calm stack h =
     let p1 = and_parts (not (holds_parts (kind_on_top stack))) _ h in
@@ -80,78 +81,100 @@ calm stack h =
       form = not-true _ p9.1;
     }
 
-host-of : (stack : List (List ℕ)) → Calm stack → is_flow_host stack ≡ true
+host-of : (stack : List (List ℕ)) → IsCalm stack → is_flow_host stack ≡ true
 unfolding is_flow_host
 host-of stack c = rw (c.holder, c.heading, c.paragraph, c.anchor, c.no_break, c.button, c.list_item, c.description, c.ruby, c.form) refl
 
--- ---- items above a flow host
+-- ---- items above a host
 
-implied-above : (test : Kind → Bool) (inner stack : List (List ℕ)) → Calm stack → none_implied test inner ≡ true → none_implied test (inner ++ stack) ≡ true
-implied-above test [] stack c h = rw c.ruby refl
-implied-above test (name ∷ inner) stack c h =
+implied-above : (test : Kind → Bool) (inner stack : List (List ℕ)) → near (of_kind is_ruby) has_marker stack ≡ false → none_implied test inner ≡ true
+    → none_implied test (inner ++ stack) ≡ true
+implied-above test [] stack none h = rw none refl
+implied-above test (name ∷ inner) stack none h =
     at (near (of_kind is_ruby) has_marker (name ∷ inner)) (near (of_kind is_ruby) has_marker (name ∷ inner ++ stack)) (test (kind_of name))
-    (near-above (of_kind is_ruby) has_marker (name ∷ inner) stack c.ruby) h
+    (near-above (of_kind is_ruby) has_marker (name ∷ inner) stack none) h
   where
     at : (a b i : Bool) → (a ≡ false → b ≡ false) → not (a && i) ≡ true → not (b && i) ≡ true
     at true true i f h = h
     at true false i f h = refl
     at false b i f h = rw (f refl) refl
 
-heading-above : (inner stack : List (List ℕ)) → Calm stack → not (top_of_kind is_heading inner) ≡ true → not (top_of_kind is_heading (inner ++ stack)) ≡ true
-heading-above [] stack c h = rw c.heading refl
-heading-above (name ∷ inner) stack c h = h
+heading-above : (inner stack : List (List ℕ)) → not (top_of_kind is_heading stack) ≡ true → not (top_of_kind is_heading inner) ≡ true
+    → not (top_of_kind is_heading (inner ++ stack)) ≡ true
+heading-above [] stack none h = none
+heading-above (name ∷ inner) stack none h = h
 
-paragraph-above : (inner stack : List (List ℕ)) → Calm stack → no_paragraph inner ≡ true → no_paragraph (inner ++ stack) ≡ true
-paragraph-above inner stack c h = none-above is_paragraph bounds_paragraph inner stack c.paragraph h
+nothing-above : (test ends : Kind → Bool) (inner stack : List (List ℕ)) → none_near test ends stack ≡ true → none_near test ends inner ≡ true
+    → none_near test ends (inner ++ stack) ≡ true
+nothing-above test ends inner stack none h = none-above test ends inner stack (not-true (near (of_kind test) ends stack) none) h
+
+paragraph-above : (inner stack : List (List ℕ)) → no_paragraph stack ≡ true → no_paragraph inner ≡ true → no_paragraph (inner ++ stack) ≡ true
+paragraph-above inner stack none h = nothing-above is_paragraph bounds_paragraph inner stack none h
 
 both-above : (a b c d : Bool) → (a ≡ true → c ≡ true) → (b ≡ true → d ≡ true) → (a && b) ≡ true → (c && d) ≡ true
 both-above a b c d f g h = let p = and_parts a b h in and_from c d (f p.0) (g p.1)
 
-flow-above : (k : Kind) (inner stack : List (List ℕ)) → Calm stack → fits_flow k inner ≡ true → fits_flow k (inner ++ stack) ≡ true
-flow-above Unknown inner stack c h = absurd (false≢true h)
-flow-above Ordinary inner stack c h = refl
-flow-above Ruby inner stack c h = refl
-flow-above Formatting inner stack c h = refl
-flow-above Void inner stack c h = refl
-flow-above Anchor inner stack c h = none-above is_anchor has_marker inner stack c.anchor h
-flow-above NoBreak inner stack c h = none-above is_no_break has_marker inner stack c.no_break h
-flow-above Button inner stack c h = none-above is_button has_marker inner stack c.button h
-flow-above Heading inner stack c h =
+flow-above : (k : Kind) (inner stack : List (List ℕ)) → is_part k ≡ false → allows stack k ≡ true → fits_flow k inner ≡ true → fits_flow k (inner ++ stack) ≡ true
+flow-above Unknown inner stack part a h = absurd (false≢true h)
+flow-above Caption inner stack part a h = absurd (false≢true (sym part))
+flow-above ColumnGroup inner stack part a h = absurd (false≢true (sym part))
+flow-above Column inner stack part a h = absurd (false≢true (sym part))
+flow-above TableBody inner stack part a h = absurd (false≢true (sym part))
+flow-above TableRow inner stack part a h = absurd (false≢true (sym part))
+flow-above Cell inner stack part a h = absurd (false≢true (sym part))
+flow-above Ordinary inner stack part a h = refl
+flow-above Ruby inner stack part a h = refl
+flow-above Formatting inner stack part a h = refl
+flow-above Void inner stack part a h = refl
+flow-above Anchor inner stack part a h = nothing-above is_anchor has_marker inner stack a h
+flow-above NoBreak inner stack part a h = nothing-above is_no_break has_marker inner stack a h
+flow-above Button inner stack part a h = nothing-above is_button has_marker inner stack a h
+flow-above Heading inner stack part a h =
+    let p = and_parts (no_paragraph stack) (not (top_of_kind is_heading stack)) a in
     both-above (no_paragraph inner) (not (top_of_kind is_heading inner)) (no_paragraph (inner ++ stack)) (not (top_of_kind is_heading (inner ++ stack)))
-    (paragraph-above inner stack c) (heading-above inner stack c) h
-flow-above ListItem inner stack c h =
+    (paragraph-above inner stack p.0) (heading-above inner stack p.1) h
+flow-above ListItem inner stack part a h =
+    let p = and_parts (no_paragraph stack) (none_near is_list_item bounds_item stack) a in
     both-above (no_paragraph inner) (none_near is_list_item bounds_item inner) (no_paragraph (inner ++ stack)) (none_near is_list_item bounds_item (inner ++ stack))
-    (paragraph-above inner stack c) (none-above is_list_item bounds_item inner stack c.list_item) h
-flow-above Description inner stack c h =
+    (paragraph-above inner stack p.0) (nothing-above is_list_item bounds_item inner stack p.1) h
+flow-above Description inner stack part a h =
+    let p = and_parts (no_paragraph stack) (none_near is_description bounds_item stack) a in
     both-above (no_paragraph inner) (none_near is_description bounds_item inner) (no_paragraph (inner ++ stack)) (none_near is_description bounds_item (inner ++ stack))
-    (paragraph-above inner stack c) (none-above is_description bounds_item inner stack c.description) h
-flow-above Form inner stack c h =
+    (paragraph-above inner stack p.0) (nothing-above is_description bounds_item inner stack p.1) h
+flow-above Form inner stack part a h =
+    let p = and_parts (no_paragraph stack) (none_near is_form no_kind stack) a in
     both-above (no_paragraph inner) (none_near is_form no_kind inner) (no_paragraph (inner ++ stack)) (none_near is_form no_kind (inner ++ stack))
-    (paragraph-above inner stack c) (none-above is_form no_kind inner stack c.form) h
-flow-above RubyBase inner stack c h = implied-above is_implied inner stack c h
-flow-above RubyContainer inner stack c h = implied-above is_implied inner stack c h
-flow-above RubyText inner stack c h = implied-above is_implied_before_text inner stack c h
-flow-above other inner stack c h = paragraph-above inner stack c h
+    (paragraph-above inner stack p.0) (nothing-above is_form no_kind inner stack p.1) h
+flow-above RubyBase inner stack part a h = implied-above is_implied inner stack (not-true _ a) h
+flow-above RubyContainer inner stack part a h = implied-above is_implied inner stack (not-true _ a) h
+flow-above RubyText inner stack part a h = implied-above is_implied_before_text inner stack (not-true _ a) h
+flow-above other inner stack part a h = paragraph-above inner stack a h
 
-start-above : (k : Kind) (inner stack : List (List ℕ)) → Calm stack → fits_in (kind_on_top inner) k inner ≡ true → fits_in (kind_on_top (inner ++ stack)) k (inner ++ stack) ≡ true
-start-above k [] stack c h =
-    rw c.holder (both-above (not (is_part k)) (fits_flow k []) (not (is_part k)) (fits_flow k stack) (λ x. x) (flow-above k [] stack c) h)
-start-above k (name ∷ inner) stack c h = at (holds_parts (kind_of name)) h
+-- an element in flow
+apart-above : (k : Kind) (inner stack : List (List ℕ)) → allows stack k ≡ true → (not (is_part k) && fits_flow k inner) ≡ true
+    → (not (is_part k) && fits_flow k (inner ++ stack)) ≡ true
+apart-above k inner stack a h =
+    let p = and_parts (not (is_part k)) (fits_flow k inner) h in
+    and_from (not (is_part k)) (fits_flow k (inner ++ stack)) p.0 (flow-above k inner stack (not-true (is_part k) p.0) a p.1)
+
+start-above : (k : Kind) (inner stack : List (List ℕ)) → holds_parts (kind_on_top stack) ≡ false → allows stack k ≡ true
+    → fits_in (kind_on_top inner) k inner ≡ true → fits_in (kind_on_top (inner ++ stack)) k (inner ++ stack) ≡ true
+start-above k [] stack holder a h = rw holder (apart-above k [] stack a h)
+start-above k (name ∷ inner) stack holder a h = at (holds_parts (kind_of name)) h
   where
     at : (b : Bool) → (if b then holds (kind_of name) k else not (is_part k) && fits_flow k (name ∷ inner)) ≡ true
         → (if b then holds (kind_of name) k else not (is_part k) && fits_flow k (name ∷ inner ++ stack)) ≡ true
     at true h = h
-    at false h =
-        both-above (not (is_part k)) (fits_flow k (name ∷ inner)) (not (is_part k)) (fits_flow k (name ∷ inner ++ stack)) (λ x. x)
-        (flow-above k (name ∷ inner) stack c) h
+    at false h = apart-above k (name ∷ inner) stack a h
 
-item-above : (item : Item) (inner stack : List (List ℕ)) → Calm stack → fits inner item ≡ true → fits (inner ++ stack) item ≡ true
+item-above : (item : Item) (inner stack : List (List ℕ)) → holds_parts (kind_on_top stack) ≡ false → allows_item stack item ≡ true
+    → fits inner item ≡ true → fits (inner ++ stack) item ≡ true
 unfolding fits
-item-above (StartTag name attributes) inner stack c h = start-above (kind_of name) inner stack c h
-item-above (EndTag name) [] stack c h = absurd (false≢true (and_parts (can_open (kind_of name)) false h).1)
-item-above (EndTag name) (inner_name ∷ inner) stack c h = h
-item-above (Text text) [] stack c h = rw c.holder refl
-item-above (Text text) (name ∷ inner) stack c h = h
+item-above (StartTag name attributes) inner stack holder a h = start-above (kind_of name) inner stack holder a h
+item-above (EndTag name) [] stack holder a h = absurd (false≢true (and_parts (can_open (kind_of name)) false h).1)
+item-above (EndTag name) (inner_name ∷ inner) stack holder a h = h
+item-above (Text text) [] stack holder a h = rw holder refl
+item-above (Text text) (name ∷ inner) stack holder a h = h
 
 open-above : (item : Item) (inner stack : List (List ℕ)) → fits inner item ≡ true → open_after (inner ++ stack) item ≡ open_after inner item ++ stack
 unfolding fits open_after
@@ -164,20 +187,68 @@ open-above (EndTag name) [] stack h = absurd (false≢true (and_parts (can_open 
 open-above (EndTag name) (inner_name ∷ inner) stack h = refl
 open-above (Text text) inner stack h = refl
 
-each-above : (items : List Item) (inner stack : List (List ℕ)) → Calm stack → each_fits inner items ≡ true → each_fits (inner ++ stack) items ≡ true
+each-above : (items : List Item) (inner stack : List (List ℕ)) → holds_parts (kind_on_top stack) ≡ false → list_all (allows_item stack) items ≡ true
+    → each_fits inner items ≡ true → each_fits (inner ++ stack) items ≡ true
 unfolding each_fits
-each-above [] inner stack c h = refl
-each-above (item ∷ items) inner stack c h =
+each-above [] inner stack holder a h = refl
+each-above (item ∷ items) inner stack holder a h =
     let p = and_parts (fits inner item) (each_fits (open_after inner item) items) h in
-    and_from (fits (inner ++ stack) item) (each_fits (open_after (inner ++ stack) item) items) (item-above item inner stack c p.0)
-    (ap (λ o. each_fits o items) (open-above item inner stack p.0) ∙ each-above items (open_after inner item) stack c p.1)
+    let q = and_parts (allows_item stack item) (list_all (allows_item stack) items) a in
+    and_from (fits (inner ++ stack) item) (each_fits (open_after (inner ++ stack) item) items) (item-above item inner stack holder q.0 p.0)
+    (ap (λ o. each_fits o items) (open-above item inner stack p.0) ∙ each-above items (open_after inner item) stack holder q.1 p.1)
 
-pub fits-above : (inner stack : List (List ℕ)) (items : List Item) → is_flow_host stack ≡ true → each_fits inner items ≡ true
+pub fits-above : (inner stack : List (List ℕ)) (items : List Item) → suits stack items ≡ true → each_fits inner items ≡ true
     → each_fits (inner ++ stack) items ≡ true
-fits-above inner stack items host h = each-above items inner stack (calm stack host) h
+unfolding suits
+fits-above inner stack items s h =
+    let p = and_parts (not (holds_parts (kind_on_top stack))) (list_all (allows_item stack) items) s in
+    each-above items inner stack (not-true _ p.0) p.1 h
 
-pub fragment-above : (stack : List (List ℕ)) (items : List Item) → is_flow_host stack ≡ true → all_fit [] items ≡ true → each_fits stack items ≡ true
-fragment-above stack items host h = each-above items [] stack (calm stack host) (and_parts (each_fits [] items) (none_open (all_open_after [] items)) h).0
+pub fragment-above : (stack : List (List ℕ)) (items : List Item) → suits stack items ≡ true → all_fit [] items ≡ true → each_fits stack items ≡ true
+fragment-above stack items s h = fits-above [] stack items s (and_parts (each_fits [] items) (none_open (all_open_after [] items)) h).0
+
+-- ---- a flow host suits all items
+
+calm-allows : (k : Kind) (stack : List (List ℕ)) → IsCalm stack → allows stack k ≡ true
+calm-allows Unknown stack c = refl
+calm-allows Caption stack c = refl
+calm-allows ColumnGroup stack c = refl
+calm-allows Column stack c = refl
+calm-allows TableBody stack c = refl
+calm-allows TableRow stack c = refl
+calm-allows Cell stack c = refl
+calm-allows Ordinary stack c = refl
+calm-allows Ruby stack c = refl
+calm-allows Formatting stack c = refl
+calm-allows Void stack c = refl
+calm-allows Anchor stack c = rw c.anchor refl
+calm-allows NoBreak stack c = rw c.no_break refl
+calm-allows Button stack c = rw c.button refl
+calm-allows Heading stack c = rw (c.paragraph, c.heading) refl
+calm-allows ListItem stack c = rw (c.paragraph, c.list_item) refl
+calm-allows Description stack c = rw (c.paragraph, c.description) refl
+calm-allows Form stack c = rw (c.paragraph, c.form) refl
+calm-allows RubyBase stack c = rw c.ruby refl
+calm-allows RubyContainer stack c = rw c.ruby refl
+calm-allows RubyText stack c = rw c.ruby refl
+calm-allows other stack c = rw c.paragraph refl
+
+calm-allows-item : (item : Item) (stack : List (List ℕ)) → IsCalm stack → allows_item stack item ≡ true
+calm-allows-item (StartTag name attributes) stack c = calm-allows (kind_of name) stack c
+calm-allows-item (EndTag name) stack c = refl
+calm-allows-item (Text text) stack c = refl
+
+calm-allows-all : (items : List Item) (stack : List (List ℕ)) → IsCalm stack → list_all (allows_item stack) items ≡ true
+calm-allows-all [] stack c = refl
+calm-allows-all (item ∷ items) stack c =
+    and_from (allows_item stack item) (list_all (allows_item stack) items) (calm-allows-item item stack c) (calm-allows-all items stack c)
+
+pub flow-suits : (stack : List (List ℕ)) (items : List Item) → is_flow_host stack ≡ true → suits stack items ≡ true
+unfolding suits
+flow-suits stack items host =
+    let c = calm stack host in
+    and_from (not (holds_parts (kind_on_top stack))) (list_all (allows_item stack) items) (not-from (holds_parts (kind_on_top stack)) c.holder)
+    (calm-allows-all items stack c)
 
 -- ---- balance
 
@@ -213,7 +284,7 @@ unfolding is_flow_host near
 none-open-host = refl
 
 cell-calm : (k : Kind) (name : List ℕ) (stack : List (List ℕ)) → kind_of name ≡ k → has_marker k ≡ true → near (of_kind is_form) no_kind stack ≡ false
-    → Calm (name ∷ stack)
+    → IsCalm (name ∷ stack)
 unfolding near
 cell-calm Caption name stack is h none = record {
   holder = rw is refl;
@@ -245,7 +316,7 @@ pub cell-host : (name : List ℕ) (stack : List (List ℕ)) → has_marker (kind
     → is_flow_host (name ∷ stack) ≡ true
 cell-host name stack h none = host-of (name ∷ stack) (cell-calm (kind_of name) name stack refl h (not-true _ none))
 
-record Neutral (k : Kind) : Type 0 where
+record IsNeutral (k : Kind) : Type 0 where
   holder : holds_parts k ≡ false
   heading : is_heading k ≡ false
   paragraph : is_paragraph k ≡ false
@@ -258,11 +329,11 @@ record Neutral (k : Kind) : Type 0 where
   form : is_form k ≡ false
 
 neutral_of : {k : Kind} → holds_parts k ≡ false → is_heading k ≡ false → is_paragraph k ≡ false → is_anchor k ≡ false → is_no_break k ≡ false → is_button k ≡ false
-    → is_list_item k ≡ false → is_description k ≡ false → is_ruby k ≡ false → is_form k ≡ false → Neutral k
+    → is_list_item k ≡ false → is_description k ≡ false → is_ruby k ≡ false → is_form k ≡ false → IsNeutral k
 neutral_of a b c d e f g h i j =
     record { holder = a; heading = b; paragraph = c; anchor = d; no_break = e; button = f; list_item = g; description = h; ruby = i; form = j }
 
-neutral : (k : Kind) → is_neutral k ≡ true → Neutral k
+neutral : (k : Kind) → is_neutral k ≡ true → IsNeutral k
 neutral Ordinary h = neutral_of refl refl refl refl refl refl refl refl refl refl
 neutral Formatting h = neutral_of refl refl refl refl refl refl refl refl refl refl
 neutral Division h = neutral_of refl refl refl refl refl refl refl refl refl refl
@@ -290,3 +361,92 @@ neutral-host name stack h host =
       ruby = near-past is_ruby has_marker name stack n.ruby c.ruby;
       form = near-past is_form no_kind name stack n.form c.form;
     })
+
+-- ---- a `p`, an `a` and a `li` in a flow host
+
+paragraph-allows : (k : Kind) (name : List ℕ) (stack : List (List ℕ)) → kind_of name ≡ Paragraph → IsCalm stack → allows (name ∷ stack) k ≡ not (closes_paragraph k)
+unfolding near
+paragraph-allows Unknown name stack is c = refl
+paragraph-allows Caption name stack is c = refl
+paragraph-allows ColumnGroup name stack is c = refl
+paragraph-allows Column name stack is c = refl
+paragraph-allows TableBody name stack is c = refl
+paragraph-allows TableRow name stack is c = refl
+paragraph-allows Cell name stack is c = refl
+paragraph-allows Ordinary name stack is c = refl
+paragraph-allows Ruby name stack is c = refl
+paragraph-allows Formatting name stack is c = refl
+paragraph-allows Void name stack is c = refl
+paragraph-allows Anchor name stack is c = rw (is, c.anchor) refl
+paragraph-allows NoBreak name stack is c = rw (is, c.no_break) refl
+paragraph-allows Button name stack is c = rw (is, c.button) refl
+paragraph-allows Heading name stack is c = rw is refl
+paragraph-allows ListItem name stack is c = rw is refl
+paragraph-allows Description name stack is c = rw is refl
+paragraph-allows Form name stack is c = rw is refl
+paragraph-allows RubyBase name stack is c = rw (is, c.ruby) refl
+paragraph-allows RubyContainer name stack is c = rw (is, c.ruby) refl
+paragraph-allows RubyText name stack is c = rw (is, c.ruby) refl
+paragraph-allows other name stack is c = rw is refl
+
+anchor-allows : (k : Kind) (name : List ℕ) (stack : List (List ℕ)) → kind_of name ≡ Anchor → IsCalm stack → allows (name ∷ stack) k ≡ not (is_anchor k)
+unfolding near
+anchor-allows Unknown name stack is c = refl
+anchor-allows Caption name stack is c = refl
+anchor-allows ColumnGroup name stack is c = refl
+anchor-allows Column name stack is c = refl
+anchor-allows TableBody name stack is c = refl
+anchor-allows TableRow name stack is c = refl
+anchor-allows Cell name stack is c = refl
+anchor-allows Ordinary name stack is c = refl
+anchor-allows Ruby name stack is c = refl
+anchor-allows Formatting name stack is c = refl
+anchor-allows Void name stack is c = refl
+anchor-allows Anchor name stack is c = rw is refl
+anchor-allows NoBreak name stack is c = rw (is, c.no_break) refl
+anchor-allows Button name stack is c = rw (is, c.button) refl
+anchor-allows Heading name stack is c = rw (is, c.paragraph) refl
+anchor-allows ListItem name stack is c = rw (is, c.paragraph, c.list_item) refl
+anchor-allows Description name stack is c = rw (is, c.paragraph, c.description) refl
+anchor-allows Form name stack is c = rw (is, c.paragraph, c.form) refl
+anchor-allows RubyBase name stack is c = rw (is, c.ruby) refl
+anchor-allows RubyContainer name stack is c = rw (is, c.ruby) refl
+anchor-allows RubyText name stack is c = rw (is, c.ruby) refl
+anchor-allows other name stack is c = rw (is, c.paragraph) refl
+
+item-allows : (k : Kind) (name : List ℕ) (stack : List (List ℕ)) → kind_of name ≡ ListItem → IsCalm stack → allows (name ∷ stack) k ≡ not (is_list_item k)
+unfolding near
+item-allows Unknown name stack is c = refl
+item-allows Caption name stack is c = refl
+item-allows ColumnGroup name stack is c = refl
+item-allows Column name stack is c = refl
+item-allows TableBody name stack is c = refl
+item-allows TableRow name stack is c = refl
+item-allows Cell name stack is c = refl
+item-allows Ordinary name stack is c = refl
+item-allows Ruby name stack is c = refl
+item-allows Formatting name stack is c = refl
+item-allows Void name stack is c = refl
+item-allows Anchor name stack is c = rw (is, c.anchor) refl
+item-allows NoBreak name stack is c = rw (is, c.no_break) refl
+item-allows Button name stack is c = rw (is, c.button) refl
+item-allows Heading name stack is c = rw (is, c.paragraph) refl
+item-allows ListItem name stack is c = rw (is, c.paragraph) refl
+item-allows Description name stack is c = rw (is, c.paragraph) refl
+item-allows Form name stack is c = rw (is, c.paragraph, c.form) refl
+item-allows RubyBase name stack is c = rw (is, c.ruby) refl
+item-allows RubyContainer name stack is c = rw (is, c.ruby) refl
+item-allows RubyText name stack is c = rw (is, c.ruby) refl
+item-allows other name stack is c = rw (is, c.paragraph) refl
+
+pub paragraph-host : (k : Kind) (name : List ℕ) (stack : List (List ℕ)) → kind_of name ≡ Paragraph → is_flow_host stack ≡ true
+    → allows (name ∷ stack) k ≡ not (closes_paragraph k)
+paragraph-host k name stack is host = paragraph-allows k name stack is (calm stack host)
+
+pub anchor-host : (k : Kind) (name : List ℕ) (stack : List (List ℕ)) → kind_of name ≡ Anchor → is_flow_host stack ≡ true
+    → allows (name ∷ stack) k ≡ not (is_anchor k)
+anchor-host k name stack is host = anchor-allows k name stack is (calm stack host)
+
+pub item-host : (k : Kind) (name : List ℕ) (stack : List (List ℕ)) → kind_of name ≡ ListItem → is_flow_host stack ≡ true
+    → allows (name ∷ stack) k ≡ not (is_list_item k)
+item-host k name stack is host = item-allows k name stack is (calm stack host)

@@ -4,8 +4,8 @@ use Rattle.html5tree.specs.Construction.{parsed, run, tree_in}
 use Rattle.html5tree.specs.Fitting.{each_fits}
 use Rattle.html5tree.specs.Hosts.{IsBack, IsHost, put_at}
 use Rattle.html5tree.specs.Items.{Item, balanced, keeps_newlines, read_items, whole_texts}
-use Rattle.html5tree.specs.Lockstep.{Locked, form_of}
-use Rattle.html5tree.specs.Page.{names, nest_all}
+use Rattle.html5tree.specs.Lockstep.{IsInStep, form_of, nest_all}
+use Rattle.html5tree.specs.Page.{names}
 use Rattle.html5tree.specs.Parser.{Parser, start_parser}
 use Rattle.html5tree.specs.Tables.{mode_of}
 use Rattle.html5tree.specs.Tree.{Path, empty_path, nested, nesting, whole}
@@ -23,9 +23,9 @@ balanced-read fresh items h = balanced-newlines fresh (whole_texts items) 0 ∙ 
 
 -- the parser after the items, in the form in which hosts are
 locked-host : (fresh : Bool) (p : Parser) (path : Path) (items : List Item) → IsHost p path → each_fits (names p.page.opened) items ≡ true
-    → Locked (parsed fresh p items) (nest_all p.page (read_items fresh items))
+    → IsInStep (parsed fresh p items) (nest_all p.page (read_items fresh items))
 locked-host fresh p path items host h =
-    subst (λ q. Locked (run q (read_items fresh items)) (nest_all p.page (read_items fresh items))) (sym host.follows)
+    subst (λ q. IsInStep (run q (read_items fresh items)) (nest_all p.page (read_items fresh items))) (sym host.follows)
     (in-step p.page p.formatting (read_items fresh items) host.good (fits-read fresh items (names p.page.opened) h))
 
 pub host-after : (fresh : Bool) (p : Parser) (path : Path) (items : List Item) → IsHost p path → each_fits (names p.page.opened) items ≡ true

@@ -2,8 +2,8 @@
 use Rattle.std.proofs.Common.{◌≡◌, ℕ, ◌<◌, ◌≤◌, Bool, true, false, List, [], ◌∷◌, refl, sym, ◌∙◌, arith}
 use Rattle.std.specs.Prelude.{◌==◌, ◌&&◌, nat_le, if◌then◌else◌, Some, None}
 use Rattle.std.proofs.lemmas.Bool.{false≢true, eqb-true, eq-eqb, false_from_ne_true}
-use Rattle.html5tree.specs.Lockstep.{Numbered, Within, form_of}
-use Rattle.html5tree.specs.Lockstep.Within.{Done, Keep, Mark, Skip}
+use Rattle.html5tree.specs.Lockstep.{AreNumbered, IsWithin, form_of}
+use Rattle.html5tree.specs.Lockstep.IsWithin.{Done, Keep, Mark, Skip}
 use Rattle.html5tree.specs.Names.{Kind, has_marker, is_form, is_formatting, kind_of, no_kind}
 use Rattle.html5tree.specs.Page.{Element, names}
 use Rattle.html5tree.specs.Parser.{Entry, Parser, cleared, count_alike, has_entry, has_node, is_alike, kept, last_named, lost, pushed, reopened, without_earliest}
@@ -16,13 +16,13 @@ itself n = eq-eqb n n refl
 pub lower : (a b : ℕ) → a < b → (a == b) ≡ false
 lower a b h = false_from_ne_true (a == b) (λ e. let same : a ≡ b = eqb-true a b e in omega (arith, same, h))
 
-pub no-node : (n k : ℕ) (s : List Element) → Numbered k s → k ≤ n → has_node n s ≡ false
-unfolding has_node Numbered
+pub no-node : (n k : ℕ) (s : List Element) → AreNumbered k s → k ≤ n → has_node n s ≡ false
+unfolding has_node AreNumbered
 no-node n k [] h below = refl
 no-node n k (e ∷ s) h below =
     rw (lower e.node n (omega (arith, h.0, below))) (no-node n e.node s h.1 (omega (arith, h.0, below)))
 
-pub none-within : (n : ℕ) (l : List Entry) (s : List Element) → Within l s → has_node n s ≡ false → has_entry n l ≡ false
+pub none-within : (n : ℕ) (l : List Entry) (s : List Element) → IsWithin l s → has_node n s ≡ false → has_entry n l ≡ false
 unfolding has_node has_entry
 none-within n l (c ∷ s) (Mark e g w) h = at (e.node == n) h (none-within n _ s w)
   where
@@ -41,7 +41,7 @@ none-within n l (c ∷ s) (Skip e g w) h = at (e.node == n) h (none-within n l s
     at false h again = again h
 none-within n l [] Done h = refl
 
-pub is-open : (d : Element) (l : List Entry) (s : List Element) → Within (Active d ∷ l) s → has_node d.node s ≡ true
+pub is-open : (d : Element) (l : List Entry) (s : List Element) → IsWithin (Active d ∷ l) s → has_node d.node s ≡ true
 unfolding has_node
 is-open d l [] w = elim w [ ]
 is-open d l (c ∷ s) (Keep e f g w) = rw (itself d.node) refl
@@ -52,34 +52,34 @@ is-open d l (c ∷ s) (Skip e g w) = at (e.node == d.node) (is-open d l s w)
     at false h = h
 
 -- "reconstruct the active formatting elements" does nothing
-pub nothing-lost : (m : Parser) (l : List Entry) (s : List Element) → Within l s → reopened m (lost s l) (kept s l) ≡ record m { formatting = l }
+pub nothing-lost : (m : Parser) (l : List Entry) (s : List Element) → IsWithin l s → reopened m (lost s l) (kept s l) ≡ record m { formatting = l }
 unfolding lost kept reopened
 nothing-lost m [] s w = refl
 nothing-lost m (Marker ∷ l) s w = refl
 nothing-lost m (Active e ∷ l) s w = rw (is-open e l s w) refl
 
 -- a list without one of its elements
-pub without-earliest : (e : Element) (l : List Entry) (s : List Element) → Within l s → Within (without_earliest e l) s
+pub without-earliest : (e : Element) (l : List Entry) (s : List Element) → IsWithin l s → IsWithin (without_earliest e l) s
 unfolding without_earliest
 without-earliest e l [] Done = Done
 without-earliest e l (d ∷ s) (Mark x g w) = Mark x g w
 without-earliest e l (d ∷ s) (Skip y g w) = Skip y g (without-earliest e l s w)
 without-earliest e (c ∷ l) (d ∷ s) (Keep x f g w) = at (is_alike x e && (count_alike e l == 0)) (without-earliest e l s w)
   where
-    at : (b : Bool) → Within (without_earliest e l) s → Within (if b then l else Active x ∷ without_earliest e l) (x ∷ s)
+    at : (b : Bool) → IsWithin (without_earliest e l) s → IsWithin (if b then l else Active x ∷ without_earliest e l) (x ∷ s)
     at true v = Skip x g w
     at false v = Keep x f g v
 
-pub pushes : (e : Element) (l : List Entry) (s : List Element) → is_formatting (kind_of e.name) ≡ true → has_marker (kind_of e.name) ≡ false → Within l s → Within (pushed e l) (e ∷ s)
+pub pushes : (e : Element) (l : List Entry) (s : List Element) → is_formatting (kind_of e.name) ≡ true → has_marker (kind_of e.name) ≡ false → IsWithin l s → IsWithin (pushed e l) (e ∷ s)
 unfolding pushed
 pushes e l s f g w = at (nat_le 3 (count_alike e l))
   where
-    at : (b : Bool) → Within (Active e ∷ (if b then without_earliest e l else l)) (e ∷ s)
+    at : (b : Bool) → IsWithin (Active e ∷ (if b then without_earliest e l else l)) (e ∷ s)
     at true = Keep e f g (without-earliest e l s w)
     at false = Keep e f g w
 
 -- an element that is not near is not in the list
-pub none-named : (test : List ℕ → Bool) (l : List Entry) (s : List Element) → Within l s → near test has_marker (names s) ≡ false → last_named test l ≡ None
+pub none-named : (test : List ℕ → Bool) (l : List Entry) (s : List Element) → IsWithin l s → near test has_marker (names s) ≡ false → last_named test l ≡ None
 unfolding last_named near
 none-named test l [] Done h = refl
 none-named test l (d ∷ s) (Mark e g w) h = refl
@@ -124,13 +124,13 @@ fewer-near test stops more all (e ∷ s) h = at (test e) (stops (kind_of e)) (mo
     at false false false all h again = again h
 
 -- without the innermost open element, which is no formatting element and has no marker
-pub drops : (e : Element) (l : List Entry) (s : List Element) → is_formatting (kind_of e.name) ≡ false → has_marker (kind_of e.name) ≡ false → Within l (e ∷ s) → Within l s
+pub drops : (e : Element) (l : List Entry) (s : List Element) → is_formatting (kind_of e.name) ≡ false → has_marker (kind_of e.name) ≡ false → IsWithin l (e ∷ s) → IsWithin l s
 drops e l s other free (Keep d f g w) = absurd (false≢true (sym other ∙ f))
 drops e l s other free (Mark d g w) = absurd (false≢true (sym free ∙ g))
 drops e l s other free (Skip d g w) = w
 
 -- or has a marker
-pub clears : (e : Element) (l : List Entry) (s : List Element) → has_marker (kind_of e.name) ≡ true → Within l (e ∷ s) → Within (cleared l) s
+pub clears : (e : Element) (l : List Entry) (s : List Element) → has_marker (kind_of e.name) ≡ true → IsWithin l (e ∷ s) → IsWithin (cleared l) s
 unfolding cleared
 clears e l s marked (Keep d f g w) = absurd (false≢true (sym g ∙ marked))
 clears e l s marked (Mark d g w) = w

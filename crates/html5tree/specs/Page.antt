@@ -1,9 +1,7 @@
--- A page that is being built: the edits that make its document, and the open elements. Tree construction makes edits, and nesting makes some
--- of the same, so that the two can be compared step by step before any tree is looked at. What edits make is in Document.
-use Rattle.std.specs.Prelude.{ℕ, suc, Bool, true, false, List, [], ◌∷◌, map}
-use Rattle.html5tree.specs.Names.{kind_of, is_void}
-use Rattle.html5tree.specs.Items.{Attribute, Item}
-use Rattle.html5tree.specs.Items.Item.{StartTag, EndTag, Text}
+-- A page that is being built: the edits that make its document, and the open elements. What edits make is in Document. Tree construction is
+-- said by edits so that proofs can compare it with nesting, which makes some of the same (Lockstep), before any tree is looked at.
+use Rattle.std.specs.Prelude.{ℕ, suc, List, [], ◌∷◌, map}
+use Rattle.html5tree.specs.Items.{Attribute}
 
 -- Nodes are numbered as they are made, from 1 on. 0 is the root, the `html` element of "Parsing HTML fragments".
 pub data Edit : Type 0 where
@@ -65,18 +63,3 @@ rest_of (e ∷ es) = es
 
 abbrev pub popped : Page → Page
 popped page = record page { opened = rest_of page.opened }
-
--- ---- the edits of nesting
-
-abbrev pub placed : Bool → Page → List ℕ → List Attribute → Page
-placed true page name attributes = popped (inserted page name attributes)
-placed false page name attributes = inserted page name attributes
-
-unfoldable pub nest : Page → Item → Page
-nest page (StartTag name attributes) = placed (is_void (kind_of name)) page name attributes
-nest page (EndTag name) = popped page
-nest page (Text text) = texted page text
-
-unfoldable pub nest_all : Page → List Item → Page
-nest_all page [] = page
-nest_all page (item ∷ items) = nest_all (nest page item) items

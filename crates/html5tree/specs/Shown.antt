@@ -31,22 +31,22 @@ filled inner [] = root inner
 filled inner (h ∷ hs) = filled (NodesElement h.before h.node h.name h.attributes inner) hs
 
 -- all numbers are below k
-unfoldable pub Below : ℕ → Nodes → Type 0
-Below k None = ⊤
-Below k (NodesElement before n name attributes inner) = (n < k) × (Below k before × Below k inner)
-Below k (Characters before text) = Below k before
+unfoldable pub AreBelow : ℕ → Nodes → Type 0
+AreBelow k None = ⊤
+AreBelow k (NodesElement before n name attributes inner) = (n < k) × (AreBelow k before × AreBelow k inner)
+AreBelow k (Characters before text) = AreBelow k before
 
 -- inner elements were made later than outer ones and than what stands before these
-unfoldable pub Ordered : ℕ → List Held → Type 0
-Ordered next [] = ⊤
-Ordered next (h ∷ hs) = ((h.node < next) × (0 < h.node)) × (Below h.node h.before × Ordered h.node hs)
+unfoldable pub AreOrdered : ℕ → List Held → Type 0
+AreOrdered next [] = ⊤
+AreOrdered next (h ∷ hs) = ((h.node < next) × (0 < h.node)) × (AreBelow h.node h.before × AreOrdered h.node hs)
 
-pub record Shown (page : Page) (path : Path) : Type 0 where
+pub record Shows (page : Page) (path : Path) : Type 0 where
   pub inner : Nodes
   pub held : List Held
   pub builds : built page.edits ≡ filled inner held
   pub opened : page.opened ≡ elements held
   pub is : path ≡ record { inner = bare inner; levels = levels held }
-  pub ordered : Ordered page.next held
-  pub below : Below page.next inner
+  pub ordered : AreOrdered page.next held
+  pub below : AreBelow page.next inner
   pub some : 0 < page.next

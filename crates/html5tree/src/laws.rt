@@ -1,10 +1,11 @@
 //! What a browser builds of items that fit is the tree that their tags show.
-ghost use Rattle.std.specs.Prelude.{◌≡◌, ℕ, Bool, List, [], ◌∷◌, ◌++◌, false, true};
+ghost use Rattle.std.specs.Prelude.{◌≡◌, ℕ, Bool, List, [], ◌∷◌, ◌++◌, false, not, true};
 ghost use Rattle.html5tree.specs.Construction.{parsed, tree_in, tree_of};
 ghost use Rattle.html5tree.specs.Fitting.{all_fit, each_fits, none_near};
-ghost use Rattle.html5tree.specs.Hosts.{IsBack, IsHost, is_flow_host, is_neutral, put_at};
+ghost use Rattle.html5tree.specs.Hosts.{IsBack, IsHost, allows, closes_paragraph, is_flow_host, is_neutral, put_at, suits};
 ghost use Rattle.html5tree.specs.Items.{Item, balanced, keeps_newlines, read_items};
-ghost use Rattle.html5tree.specs.Names.{has_marker, is_form, kind_of, no_kind};
+ghost use Rattle.html5tree.specs.Names.{Kind, has_marker, is_anchor, is_form, is_list_item, kind_of, no_kind};
+ghost use Rattle.html5tree.specs.Names.Kind.{Anchor, ListItem, Paragraph};
 ghost use Rattle.html5tree.specs.Page.{names};
 ghost use Rattle.html5tree.specs.Parser.{Parser, start_parser};
 ghost use Rattle.html5tree.specs.Tree.{Path, empty_path, nested, nesting, whole};
@@ -53,15 +54,19 @@ pub fn tree_of_fitting_in_host()
     ensures first { IsHost start_parser empty_path }
 {}
 
-/// Which items fit in a host. A fragment that fits by itself fits in each flow host (`fragment`), and is
-/// balanced (`balanced`). What fits above some open elements fits above them in a flow host, too (`within`):
-/// so in a `p`, an `a` or a `li` of a flow host fits what fits above `p`, `a` or `li` alone.
-pub fn fits_in_flow_host()
-    ensures fragment { (stack : List (List ℕ)) (items : List Item) → is_flow_host stack ≡ true
+/// Which items fit in a host: those that fit by themselves, where it suits them (`suits`). That is, text can
+/// stand in the host, and no element that bounds one of theirs is near in it. So a fragment that fits by
+/// itself fits there (`fragment`), and is balanced (`balanced`). What fits above some open elements fits
+/// above them in such a host, too (`within`): in a `li` of a list, say, what fits above `li` alone. A flow
+/// host suits all items (`flow_host`).
+pub fn fits_in_host()
+    ensures fragment { (stack : List (List ℕ)) (items : List Item) → suits stack items ≡ true
         → all_fit [] items ≡ true → each_fits stack items ≡ true }
     ensures balanced { (items : List Item) → all_fit [] items ≡ true → balanced 0 items ≡ true }
-    ensures within { (inner stack : List (List ℕ)) (items : List Item) → is_flow_host stack ≡ true
+    ensures within { (inner stack : List (List ℕ)) (items : List Item) → suits stack items ≡ true
         → each_fits inner items ≡ true → each_fits (inner ++ stack) items ≡ true }
+    ensures flow_host { (stack : List (List ℕ)) (items : List Item) → is_flow_host stack ≡ true
+        → suits stack items ≡ true }
 {}
 
 /// Which hosts are flow hosts: one where nothing is open; a cell or a caption, if no form is open outside it; an
@@ -73,4 +78,14 @@ pub fn flow_hosts()
         → none_near is_form no_kind stack ≡ true → is_flow_host (name ∷ stack) ≡ true }
     ensures neutral { (name : List ℕ) (stack : List (List ℕ)) → is_neutral (kind_of name) ≡ true
         → is_flow_host stack ≡ true → is_flow_host (name ∷ stack) ≡ true }
+{}
+
+/// What a `p`, an `a` and a `li` allow in a flow host: all but what would close them.
+pub fn narrow_hosts()
+    ensures paragraph { (k : Kind) (name : List ℕ) (stack : List (List ℕ)) → kind_of name ≡ Paragraph
+        → is_flow_host stack ≡ true → allows (name ∷ stack) k ≡ not (closes_paragraph k) }
+    ensures anchor { (k : Kind) (name : List ℕ) (stack : List (List ℕ)) → kind_of name ≡ Anchor
+        → is_flow_host stack ≡ true → allows (name ∷ stack) k ≡ not (is_anchor k) }
+    ensures list_item { (k : Kind) (name : List ℕ) (stack : List (List ℕ)) → kind_of name ≡ ListItem
+        → is_flow_host stack ≡ true → allows (name ∷ stack) k ≡ not (is_list_item k) }
 {}
