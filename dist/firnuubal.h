@@ -1,0 +1,409 @@
+/*
+ * The tokenizer and the cleaner from C (C99), and a reader of the tokenizer's records.
+ *
+ * The functions of the first two parts are in the library: they are proved, and their contracts are in crates/html5c/src.
+ * What is `static inline` is in this header alone, and is not proved.
+ */
+#ifndef FIRNUUBAL_H
+#define FIRNUUBAL_H
+
+/* The version of the library, of this header and of the readers. */
+#define FIRNUUBAL_VERSION "0.2.0"
+
+/* The same as a number, its three numbers a byte each. `html5_version` says it of the library that is linked. */
+#define FIRNUUBAL_VERSION_NUMBER 0x000200
+
+#include <stdbool.h>
+#include <stddef.h>
+#include <stdint.h>
+#include <stdlib.h>
+#include <string.h>
+
+#ifdef __cplusplus
+extern "C" {
+#endif
+
+/* The version of the library, as FIRNUUBAL_VERSION_NUMBER has that of this header. */
+uint32_t html5_version(void);
+
+/* ---- the tokenizer */
+
+/*
+ * A tokenizer, or a page that is cleaned. One of zeros is closed: `html5_handle h = {0};`. Never copy an open one, and call it
+ * from one thread at a time.
+ */
+typedef struct {
+    void *at;
+    bool is_open;
+} html5_handle;
+
+/* What a call answers. */
+enum html5_status {
+    HTML5_DONE = 0,       /* all of it was read */
+    HTML5_SCRIPT = 1,     /* a pause: a script ends here; what follows it waits */
+    HTML5_ENCODING = 2,   /* a pause: a meta tag names an encoding; what follows it waits */
+    HTML5_NO_MEMORY = 3,  /* a request for memory was refused */
+    HTML5_NOT_UTF8 = 4,   /* these bytes are no UTF-8, whatever follows them */
+    HTML5_CUT = 5,        /* the input ends within a character */
+    HTML5_WAITING = 6,    /* text waits after a pause: feed first, if only no bytes */
+    HTML5_OVER = 7,       /* the end was told, or an earlier call was refused for good */
+    HTML5_CLOSED = 8,     /* the handle is closed */
+    HTML5_BAD_OPTION = 9, /* an option has no such value */
+    HTML5_BAD_POLICY = 10,     /* a line of the policy is no rule that it takes */
+    HTML5_POLICY_NOT_UTF8 = 11 /* the policy is no UTF-8 */
+};
+
+typedef enum html5_status html5_status;
+
+/* What a status says, in words. */
+static inline const char *html5_status_text(html5_status status) {
+    static const char *const texts[] = {
+        "done", "paused after a script", "paused after a meta tag that names an encoding", "out of memory",
+        "the page is no UTF-8", "the page ends within a character", "text waits after a pause",
+        "the page has ended, or an earlier call was refused for good", "the handle is closed",
+        "an option has no such value", "a line of the policy is no rule that it takes", "the policy is no UTF-8"};
+    return (size_t)status < sizeof texts / sizeof *texts ? texts[status] : "no such status";
+}
+
+/* The state in which the reading starts. */
+enum html5_state {
+    HTML5_DATA = 0,
+    HTML5_PLAINTEXT = 1,
+    HTML5_RCDATA = 2,
+    HTML5_RAWTEXT = 3,
+    HTML5_SCRIPT_DATA = 4,
+    HTML5_CDATA_SECTION = 5
+};
+
+/* What the tokenizer does after tags. */
+enum html5_replies {
+    HTML5_STANDARD_REPLIES = 0, /* scripts, styles, titles and their like are no markup */
+    HTML5_NO_REPLIES = 1,       /* all is markup */
+    HTML5_PAUSING_REPLIES = 2   /* as the standard's, and it pauses after </script> and <meta charset=..> */
+};
+
+/* How a page is read. Zeros are the usual way. */
+typedef struct {
+    uint32_t state;    /* one of enum html5_state */
+    uint32_t replies;  /* one of enum html5_replies */
+    bool exact_errors; /* tell every bad character as a parse error; it is slower */
+    bool keep_bom;     /* keep a byte order mark at the start */
+    bool foreign;      /* all content is foreign: <![CDATA[ opens a section */
+} html5_options;
+
+/*
+ * No pointer may be null. But where a length is 0, the bytes of a feed may be: `html5_feed(&handle, NULL, 0)` goes on after
+ * a pause.
+ */
+static inline const uint8_t *html5_bytes_or_none(const void *bytes) {
+    return bytes ? (const uint8_t *)bytes : (const uint8_t *)"";
+}
+
+/*
+ * Opens a handle at the start of a page. What it held before is freed. `last_start_tag` is the name of the tag whose end
+ * tag ends raw text, where the reading starts in some; its length is 0 otherwise.
+ */
+html5_status html5_new(html5_handle *handle, const uint8_t *last_start_tag, size_t len, const html5_options *options);
+
+/* Reads the next bytes, in pieces of any size. After a pause it goes on, with what waits and these bytes. */
+html5_status html5_feed(html5_handle *handle, const uint8_t *bytes, size_t len);
+#define html5_feed(handle, bytes, len) html5_feed(handle, html5_bytes_or_none(bytes), len)
+
+/*
+ * Puts a text in front of what waits, as document.write does. It is UTF-8 by itself, else nothing changes. Where nothing
+ * more is read it answers HTML5_OVER, whatever the bytes.
+ */
+html5_status html5_insert(html5_handle *handle, const uint8_t *text, size_t len);
+
+/* Tells the end of the page. */
+html5_status html5_end(html5_handle *handle);
+
+/* Moves the next bytes of the records to `out`, as many as fit, and answers how many. */
+size_t html5_take(html5_handle *handle, uint8_t *out, size_t len);
+
+/* After HTML5_NOT_UTF8: the place of the first byte that is no UTF-8, counted from the page's first. */
+uint64_t html5_error_at(html5_handle *handle);
+
+/*
+ * Whether nothing more is read: the end was told, or a call was refused for good. Then feeds, inserts and ends answer
+ * HTML5_OVER; what was recorded can still be taken. After HTML5_NO_MEMORY it says whether the page can go on. Of a closed
+ * handle it is false.
+ */
+bool html5_is_over(html5_handle *handle);
+
+/* Gives the memory back. The handle is closed then, and may be opened again. */
+void html5_free(html5_handle *handle);
+
+/* ---- the cleaner */
+
+/*
+ * Opens a handle at the start of a page that is cleaned. What it held before is freed. The policy is a text, a rule a line
+ * (crates/html5policy/README.md); one of no bytes is the standard policy. After HTML5_BAD_POLICY `place` is the number of
+ * the line, after HTML5_POLICY_NOT_UTF8 the place of the first such byte, and after any other status it is 0. To the calls of a
+ * tokenizer the handle is closed, but for html5_free.
+ */
+html5_status html5_cleaner_new(html5_handle *handle, const uint8_t *policy, size_t len, uint64_t *place);
+
+/* Begins another page, by the same policy. What was not taken is gone. */
+html5_status html5_cleaner_restart(html5_handle *handle);
+
+/* Reads the next bytes of the page, in pieces of any size. */
+html5_status html5_cleaner_feed(html5_handle *handle, const uint8_t *bytes, size_t len);
+#define html5_cleaner_feed(handle, bytes, len) html5_cleaner_feed(handle, html5_bytes_or_none(bytes), len)
+
+/* Ends the page. All that is kept of it can be taken then. */
+html5_status html5_cleaner_end(html5_handle *handle);
+
+/* Moves the next bytes of what is kept to `out`, as many as wait and fit, and answers how many. */
+size_t html5_cleaner_take(html5_handle *handle, uint8_t *out, size_t len);
+
+/* After HTML5_NOT_UTF8: the place of the first byte that is no UTF-8, counted from the page's first. */
+uint64_t html5_cleaner_error_at(html5_handle *handle);
+
+/* Whether nothing more is read of the page: it has ended, or a call was refused for good. Of a closed one it is false. */
+bool html5_cleaner_is_over(html5_handle *handle);
+
+/* Bytes of UTF-8 of its own memory, and how many. A zero byte stands after them, which does not count. */
+typedef struct {
+    char *at;
+    size_t len;
+} html5_page;
+
+static inline html5_status html5_take_page(html5_handle *handle, html5_page *kept) {
+    for (size_t room = 1 << 14;; room *= 2) {
+        char *at = (char *)realloc(kept->at, room + 1);
+        if (!at) return HTML5_NO_MEMORY;
+        kept->at = at;
+        kept->len += html5_cleaner_take(handle, (uint8_t *)at + kept->len, room - kept->len);
+        at[kept->len] = 0;
+        if (kept->len < room) return HTML5_DONE;
+    }
+}
+
+/*
+ * What the cleaner's policy keeps of a whole page. `free(kept->at)` gives its memory back. After any status but HTML5_DONE
+ * there is none.
+ */
+static inline html5_status html5_clean(html5_handle *handle, const char *page, size_t len, html5_page *kept) {
+    kept->at = NULL;
+    kept->len = 0;
+    html5_status status = html5_cleaner_restart(handle);
+    if (!status) status = html5_cleaner_feed(handle, page, len);
+    if (!status) status = html5_cleaner_end(handle);
+    if (!status) status = html5_take_page(handle, kept);
+    if (status) {
+        free(kept->at);
+        kept->at = NULL;
+        kept->len = 0;
+    }
+    return status;
+}
+
+/* ---- a reader of records */
+
+/* Bytes of UTF-8, which stay where they are until the reader is filled or freed. */
+typedef struct {
+    const char *at;
+    size_t len;
+} html5_text;
+
+enum html5_kind {
+    HTML5_START_TAG = 1,
+    HTML5_END_TAG = 2,
+    HTML5_TEXT = 3,
+    HTML5_COMMENT = 4,
+    HTML5_INSTRUCTION = 5,
+    HTML5_DOCTYPE = 6,
+    HTML5_NULL_CHARACTER = 7,
+    HTML5_PARSE_ERROR = 8,
+    HTML5_END = 9
+};
+
+/* The attributes of a tag that were not read yet. */
+typedef struct {
+    const uint8_t *at;
+    uint64_t count;
+} html5_attributes;
+
+/* A token. Which members say something depends on the kind. */
+typedef struct {
+    enum html5_kind kind;
+    uint64_t line;                /* the line that was reached; 0 of a text */
+    html5_text text;              /* of a tag or DOCTYPE its name; else the text, comment, instruction or message */
+    html5_attributes attributes;  /* of a tag */
+    bool self_closing;            /* of a tag */
+    bool duplicate_attributes;    /* of a tag: an attribute of a repeated name was left out */
+    bool has_name, has_public_id, has_system_id, force_quirks; /* of a DOCTYPE */
+    html5_text public_id, system_id;                           /* of a DOCTYPE */
+} html5_token;
+
+/* Why there is no next token. */
+enum html5_stop {
+    HTML5_ALL_READ = 0,  /* all that was taken is read */
+    HTML5_TEXT_OPEN = 1, /* a text is left whose end has not come */
+    HTML5_NOT_WHOLE = 2  /* what is left is no whole record: not all was taken, or it is no record */
+};
+
+/* The bytes that were taken of a handle and not read yet. One of zeros is empty. */
+typedef struct {
+    uint8_t *bytes;
+    size_t len, room;
+    size_t at;       /* where the next record begins */
+    size_t searched; /* how far the end of an open text was looked for */
+    enum html5_stop stop; /* after `html5_next_token` answered false */
+} html5_reader;
+
+static inline uint64_t html5_number(const uint8_t *at) {
+    uint64_t number = 0;
+    for (int byte = 7; byte >= 0; byte--) number = number << 8 | at[byte];
+    return number;
+}
+
+/* A text with its length in front. It moves the place past it, or to null where fewer bytes are left. */
+static inline html5_text html5_counted(const uint8_t **at, const uint8_t *end) {
+    html5_text text = {"", 0};
+    if (!*at || end - *at < 8 || (uint64_t)(end - *at - 8) < html5_number(*at)) {
+        *at = NULL;
+        return text;
+    }
+    text.len = (size_t)html5_number(*at);
+    text.at = (const char *)*at + 8;
+    *at += 8 + text.len;
+    return text;
+}
+
+/* The next attribute of a tag. It answers whether there is one. */
+static inline bool html5_next_attribute(html5_attributes *left, html5_text *name, html5_text *value) {
+    if (left->count == 0) return false;
+    name->len = (size_t)html5_number(left->at);
+    name->at = (const char *)left->at + 8;
+    value->len = (size_t)html5_number(left->at + 8 + name->len);
+    value->at = name->at + name->len + 8;
+    left->at += 16 + name->len + value->len;
+    left->count--;
+    return true;
+}
+
+/* A tag's name and attributes, from its flags on. It answers the place after them, or null. */
+static inline const uint8_t *html5_read_tag(html5_token *token, const uint8_t *at, const uint8_t *end) {
+    if (at == end) return NULL;
+    token->self_closing = *at & 1;
+    token->duplicate_attributes = *at & 2;
+    at++;
+    token->text = html5_counted(&at, end);
+    if (!at || end - at < 8) return NULL;
+    token->attributes.count = html5_number(at);
+    token->attributes.at = at += 8;
+    for (uint64_t left = token->attributes.count; at && left > 0; left--) {
+        html5_counted(&at, end);
+        html5_counted(&at, end);
+    }
+    return at;
+}
+
+/* The parts of a DOCTYPE, from its flags on. It answers the place after them, or null. */
+static inline const uint8_t *html5_read_doctype(html5_token *token, const uint8_t *at, const uint8_t *end) {
+    if (at == end) return NULL;
+    token->has_name = *at & 1;
+    token->has_public_id = *at & 2;
+    token->has_system_id = *at & 4;
+    token->force_quirks = *at & 8;
+    at++;
+    if (token->has_name) token->text = html5_counted(&at, end);
+    if (token->has_public_id) token->public_id = html5_counted(&at, end);
+    if (token->has_system_id) token->system_id = html5_counted(&at, end);
+    return at;
+}
+
+/* Any other record than a text's. It answers the place after it, or null where it is not whole. */
+static inline const uint8_t *html5_read_other(html5_token *token, const uint8_t *at, const uint8_t *end) {
+    if (end - at < 9) return NULL;
+    token->line = html5_number(at + 1);
+    at += 9;
+    switch (token->kind) {
+    case HTML5_START_TAG:
+    case HTML5_END_TAG:
+        return html5_read_tag(token, at, end);
+    case HTML5_DOCTYPE:
+        return html5_read_doctype(token, at, end);
+    case HTML5_COMMENT:
+    case HTML5_INSTRUCTION:
+    case HTML5_PARSE_ERROR:
+        token->text = html5_counted(&at, end);
+        return at;
+    default:
+        return at;
+    }
+}
+
+/* A text's record. It answers the place after it, or null where its end has not come. */
+static inline const uint8_t *html5_read_text(html5_reader *reader, html5_token *token) {
+    const uint8_t *begin = reader->bytes + reader->at + 1;
+    size_t from = reader->searched > reader->at + 1 ? reader->searched : reader->at + 1;
+    const uint8_t *stop = (const uint8_t *)memchr(reader->bytes + from, 0xFF, reader->len - from);
+    if (!stop) {
+        reader->searched = reader->len;
+        return NULL;
+    }
+    token->text.at = (const char *)begin;
+    token->text.len = (size_t)(stop - begin);
+    return stop + 1;
+}
+
+/* The next token that was taken whole. It answers whether there is one, and if not `reader->stop` says why. */
+static inline bool html5_next_token(html5_reader *reader, html5_token *token) {
+    reader->stop = HTML5_ALL_READ;
+    if (reader->at == reader->len) return false;
+    memset(token, 0, sizeof *token);
+    token->text.at = token->public_id.at = token->system_id.at = "";
+    token->kind = (enum html5_kind)reader->bytes[reader->at];
+    const uint8_t *after = token->kind == HTML5_TEXT
+                               ? html5_read_text(reader, token)
+                               : html5_read_other(token, reader->bytes + reader->at, reader->bytes + reader->len);
+    if (!after) {
+        reader->stop = token->kind == HTML5_TEXT ? HTML5_TEXT_OPEN : HTML5_NOT_WHOLE;
+        return false;
+    }
+    reader->at = (size_t)(after - reader->bytes);
+    return true;
+}
+
+/* Makes room for `more` bytes. What was read goes. It answers whether there was memory. */
+static inline bool html5_make_room(html5_reader *reader, size_t more) {
+    size_t left = reader->len - reader->at;
+    if (reader->at > 0) {
+        memmove(reader->bytes, reader->bytes + reader->at, left);
+        reader->searched -= reader->searched < reader->at ? reader->searched : reader->at;
+        reader->len = left;
+        reader->at = 0;
+    }
+    if (reader->room - left >= more) return true;
+    size_t room = 2 * reader->room > left + more ? 2 * reader->room : left + more;
+    uint8_t *bytes = (uint8_t *)realloc(reader->bytes, room);
+    if (!bytes) return false;
+    reader->bytes = bytes;
+    reader->room = room;
+    return true;
+}
+
+/* Takes all that waits in the handle. Texts of earlier tokens are gone then. It answers whether there was memory. */
+static inline bool html5_fill(html5_reader *reader, html5_handle *handle) {
+    enum { MORE = 1 << 14 };
+    for (;;) {
+        if (!html5_make_room(reader, MORE)) return false;
+        size_t taken = html5_take(handle, reader->bytes + reader->len, reader->room - reader->len);
+        if (taken == 0) return true;
+        reader->len += taken;
+    }
+}
+
+static inline void html5_reader_free(html5_reader *reader) {
+    free(reader->bytes);
+    memset(reader, 0, sizeof *reader);
+}
+
+#ifdef __cplusplus
+}
+#endif
+
+#endif
