@@ -133,6 +133,15 @@ class Tokens(unittest.TestCase):
         with self.assertRaises(BlockingIOError):
             list(firnuubal.tokens(NotReady()))
 
+    def test_tags_and_texts_that_are_passed_over(self):
+        page = "<p id=x>1<a href=y title=z>2</a>3</p>"
+        found = list(firnuubal.tokens(page, tags={"a"}))
+        a = StartTag(1, "a", (("href", "y"), ("title", "z")), False, False)
+        end = EndTag(1, "a", (), False, False)
+        self.assertEqual(found, [Text(1, "1"), a, Text(1, "2"), end, Text(1, "3"), End(1)])
+        for piece in range(1, len(page) + 1):
+            self.assertEqual(list(firnuubal.tokens(page, piece=piece, texts=False, tags={"a"})), [a, end, End(1)])
+
     def test_links(self):
         page = '<a href="/x?a&amp;b">\n<script><a href=no></script><img src=y><p href=z><a>'
         self.assertEqual(list(firnuubal.links(page)), [(1, "/x?a&b"), (2, "y")])

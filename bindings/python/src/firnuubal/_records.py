@@ -123,15 +123,11 @@ def _attributes(data, at, count):
     return tuple(found), at
 
 
-def _tag(kind, data, at):
-    """A tag, from the place after its kind, and the place after it."""
-    line, flags, size = _tag_head(data, at)
-    at += 17
-    name = data[at : at + size].decode()
-    at += size
-    count = _number(data, at)[0]
-    attributes, at = _attributes(data, at + 8, count) if count else ((), at + 8)
-    return _new(kind, (line, name, attributes, flags & 1 > 0, flags & 2 > 0)), at
+def _after_attributes(data, at, count):
+    """The place after so many attributes, which are not read."""
+    for _ in range(2 * count):
+        at += 8 + _number(data, at)[0]
+    return at
 
 
 def _doctype(data, at):
@@ -162,9 +158,12 @@ def _other(kind, data, at):
 class Reader:
     """Reads tokens from records as they are taken. All records but a text are taken whole."""
 
-    def __init__(self, errors=True):
+    def __init__(self, errors=True, texts=True, tags=None):
         # Whether parse errors are read. Else they end no text.
         self._errors = errors
+        self._texts = texts
+        # The names whose tags are read, in bytes, where not all are.
+        self._tags = None if tags is None else frozenset(name.encode() for name in tags)
         # The parts of the text that is open, and the line on which it begins.
         self._open = None
         self._line = 1
@@ -183,26 +182,25 @@ class Reader:
             if kind == _TEXT:
                 self._open = []
                 at = self._read_text(taken, at + 1, tokens)
-                continue
-            if kind <= _END_TAG:
-                token, at = _tag(StartTag if kind == _START else EndTag, taken, at + 1)
-            else:
-                token, at = _other(kind, taken, at + 1)
-            self._line = token[0]
-            if self._errors or kind != _ERROR:
+            elif kind <= _END_TAG:
                 if self._run:
                     self._end_run(tokens)
-                tokens.append(token)
+                at = self._read_tag(kind, taken, at + 1, tokens)
+            else:
+                at = self._read_other(kind, taken, at + 1, tokens)
         return tokens
 
     def _read_text(self, taken, at, tokens):
         """Reads on in the open text, up to its end or to all that was taken."""
         end = taken.find(b"\xff", at)
-        self._open.append(taken[at:] if end < 0 else taken[at:end])
+        if self._texts:
+            self._open.append(taken[at:] if end < 0 else taken[at:end])
         if end < 0:
             return len(taken)
-        text = b"".join(self._open).decode()
-        self._open = None
+        parts, self._open = self._open, None
+        if not self._texts:
+            return end + 1
+        text = b"".join(parts).decode()
         if self._errors:
             tokens.append(_new(Text, (self._line, text)))
         else:
@@ -210,6 +208,28 @@ class Reader:
                 self._run_line = self._line
             self._run.append(text)
         return end + 1
+
+    def _read_tag(self, kind, taken, at, tokens):
+        """Reads a tag from the place after its kind, or passes over it, and answers the place after it."""
+        self._line, flags, size = _tag_head(taken, at)
+        end = at + 17 + size
+        name = taken[at + 17 : end]
+        count = _number(taken, end)[0]
+        if self._tags is not None and name not in self._tags:
+            return _after_attributes(taken, end + 8, count)
+        attributes, end = _attributes(taken, end + 8, count) if count else ((), end + 8)
+        which = StartTag if kind == _START else EndTag
+        tokens.append(_new(which, (self._line, name.decode(), attributes, flags & 1 > 0, flags & 2 > 0)))
+        return end
+
+    def _read_other(self, kind, taken, at, tokens):
+        token, at = _other(kind, taken, at)
+        self._line = token.line
+        if self._errors or kind != _ERROR:
+            if self._run:
+                self._end_run(tokens)
+            tokens.append(token)
+        return at
 
     def _end_run(self, tokens):
         tokens.append(Text(self._run_line, "".join(self._run)))

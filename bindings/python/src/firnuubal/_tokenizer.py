@@ -2,7 +2,7 @@
 
 import ctypes
 import enum
-from typing import Iterator, NamedTuple
+from typing import Iterable, Iterator, NamedTuple, Optional
 
 from ._errors import Status, TokenizerError
 from ._library import ROOM, Handle, Options, bytes_of, library, pieces_of, taken
@@ -41,7 +41,7 @@ class Tokenizer:
 
     Use it in a `with`, so that its memory is given back at once. One thread at a time may call it; while the library
     reads, other threads of Python run. With `errors=False` parse errors are left out, so that each run of text is one
-    token.
+    token. With `texts=False` texts are passed over, and with `tags`, some names in small letters, all other tags.
     """
 
     _free = staticmethod(library.html5_free)
@@ -56,9 +56,11 @@ class Tokenizer:
         keep_bom: bool = False,
         foreign: bool = False,
         errors: bool = True,
+        texts: bool = True,
+        tags: Optional[Iterable[str]] = None,
     ):
         self._handle = Handle()
-        self._reader = Reader(errors)
+        self._reader = Reader(errors, texts, tags)
         self._room = ctypes.create_string_buffer(ROOM)
         options = Options(state, replies, exact_errors, keep_bom, foreign)
         last = last_start_tag.encode()
@@ -137,9 +139,9 @@ _LINKS = {"a": "href", "area": "href", "link": "href", "img": "src", "script": "
 def links(page) -> Iterator[Link]:
     """The links of a page: `href` of a, area and link, `src` of img, script and iframe, as html5links prints them but
     for tabs and line breaks in them, which stay."""
-    for token in tokens(page):
-        if type(token) is StartTag and token.attributes:
-            address = token.get(_LINKS.get(token.name))
+    for token in tokens(page, texts=False, tags=_LINKS):
+        if type(token) is StartTag:
+            address = token.get(_LINKS[token.name])
             if address is not None:
                 yield Link(token.line, address)
 
@@ -147,12 +149,9 @@ def links(page) -> Iterator[Link]:
 def text(page) -> str:
     """The text of a page, without its scripts and styles, as html5text prints it."""
     runs, within = [], False
-    for token in tokens(page):
-        if type(token) is Text:
-            if not within:
-                runs.append(token.text)
-        elif type(token) is StartTag:
-            within = token.name in ("script", "style")
-        elif type(token) is EndTag:
-            within = False
+    for token in tokens(page, tags=("script", "style")):
+        if type(token) is StartTag or type(token) is EndTag:
+            within = type(token) is StartTag
+        elif type(token) is Text and not within:
+            runs.append(token.text)
     return "".join(runs)
