@@ -77,7 +77,7 @@ def release_into(folder):
     files = sorted(file.name for file in folder.iterdir())
     return {
         "version": backend.project()["version"],
-        "toolchains": [said("rt", "version"), said("gcc", "--version")],
+        "toolchains": [said("rt", "version"), said("gcc", "--version"), said("ld", "--version")],
         "sources": sum_of_sources(),
         "files": {name: sum_of((folder / name).read_bytes()) for name in files},
     }
