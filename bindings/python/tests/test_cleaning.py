@@ -1,6 +1,8 @@
 """Tests of cleaning: pages of each kind and in pieces, policies, refusals."""
 
 import io
+import json
+import pathlib
 import pickle
 import threading
 import unittest
@@ -28,6 +30,12 @@ class Cleaning(unittest.TestCase):
     def test_one_page_after_the_other(self):
         with Cleaner() as cleaner:
             self.assertEqual([cleaner.clean("<b>1"), cleaner.clean("<i>2")], ["<b>1", "<i>2"])
+
+    def test_texts_that_attack_sanitizers(self):
+        rows = pathlib.Path(__file__).resolve().parents[3] / "tools" / "hostile.jsonl"
+        for row in rows.read_text(encoding="utf-8").splitlines():
+            text, kept = json.loads(row)[:2]
+            self.assertEqual(clean(text), kept, text)
 
     def test_a_page_of_no_text(self):
         self.assertEqual(clean(""), "")
