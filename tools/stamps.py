@@ -100,11 +100,20 @@ def unstamped():
     return {name: [file.stat().st_mtime_ns for file in files_in(library_of(name))] for name in names}
 
 
+def took(began, ended):
+    """What passed between two times, of the clock and of the processors that ran this script's children."""
+    clock = ended.elapsed - began.elapsed
+    processor = ended.children_user + ended.children_system - began.children_user - began.children_system
+    return f"{clock / 60:.1f} minutes by the clock and {processor / 60:.1f} of processor"
+
+
 def prove():
     """Runs `rt ci` and leaves the record of what it proved. Answers its status, or else how many crates changed."""
     RECORD.unlink(missing_ok=True)
     before, lay_there = sums(), unstamped()
+    began = os.times()
     status = subprocess.run(["rt", "ci"], check=False).returncode
+    print(f"tools/stamps.py: rt ci took {took(began, os.times())}", flush=True)
     if status:
         return status
     after, lie_there = sums(), unstamped()
