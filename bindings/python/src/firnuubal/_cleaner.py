@@ -168,8 +168,8 @@ def _cleaner_of(policy):
 def clean(page, policy: Optional[Policy] = None, **keywords) -> str:
     """What is kept of a page: a text, bytes, a file of either, or an iterable of pieces of either.
 
-    Without a policy it is the standard one; keywords are those of `Policy`. What is kept is read by a browser's
-    tokenizer as exactly the tags and the text that the policy keeps.
+    Without a policy it is the standard one; keywords are those of `Policy`. A tokenizer that goes on after the kept tags,
+    as the standard's does, reads what is kept as exactly these tags and the text. No promise is made of the tree.
 
     >>> clean("<p onclick=x>1")
     '<p>1'
