@@ -37,6 +37,15 @@ class Cleaning(unittest.TestCase):
             text, kept = json.loads(row)[:2]
             self.assertEqual(clean(text), kept, text)
 
+    def test_a_page_whose_pieces_are_cleaned(self):
+        pieces = ("<p>", clean("<b>1</b>"), "2")
+        self.assertEqual(clean(clean(piece) for piece in pieces), "<p><b>1</b>2")
+
+    def test_more_policies_than_are_kept(self):
+        for _ in range(2):
+            for number in range(40):
+                self.assertEqual(clean("<p>1", Policy(f"# {number}\nallow p\n")), "<p>1")
+
     def test_a_page_of_no_text(self):
         self.assertEqual(clean(""), "")
 

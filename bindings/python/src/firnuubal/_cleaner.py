@@ -156,13 +156,15 @@ _cleaners = threading.local()
 _MOST = 16
 
 
-def _cleaner_of(policy):
+def _cleaned(page, policy):
+    """What is kept of a page, by a cleaner that no other call has meanwhile, such as one of the page's own pieces."""
     known = _cleaners.__dict__.setdefault("known", {})
-    if policy not in known:
-        if len(known) == _MOST:
-            known.pop(next(iter(known))).close()
-        known[policy] = Cleaner(policy)
-    return known[policy]
+    cleaner = known.pop(policy, None) or Cleaner(policy)
+    kept = cleaner.clean(page)
+    known[policy] = cleaner
+    if len(known) > _MOST:
+        known.pop(next(iter(known)))
+    return kept
 
 
 def clean(page, policy: Optional[Policy] = None, **keywords) -> str:
@@ -178,4 +180,4 @@ def clean(page, policy: Optional[Policy] = None, **keywords) -> str:
         if policy is not None:
             raise TypeError("clean takes a policy or keywords, not both")
         policy = Policy(**keywords)
-    return _cleaner_of(policy).clean(page)
+    return _cleaned(page, policy)
