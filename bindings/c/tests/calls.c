@@ -115,15 +115,56 @@ static void says_why_there_is_no_token(void) {
     html5_free(&handle);
 }
 
+/* Whether the next token that was sent, past errors, is of this kind and has this text. */
+static bool is_next(html5_reader *reader, html5_handle *handle, enum html5_kind kind, const char *text) {
+    html5_token token;
+    if (!html5_fill(reader, handle)) return false;
+    do {
+        if (!html5_next_token(reader, &token)) return false;
+    } while (token.kind == HTML5_PARSE_ERROR);
+    return token.kind == kind && token.text.len == strlen(text) && memcmp(token.text.at, text, token.text.len) == 0;
+}
+
+static void lets_the_caller_reply(void) {
+    html5_handle handle = {0};
+    html5_reader reader = {0};
+    html5_options options = {.replies = HTML5_CALLER_REPLIES};
+    CHECK(open_after(&handle, "", options) == HTML5_DONE);
+    CHECK(feed(&handle, "<style><b></style><svg><![CDATA[c]]></svg><![CDATA[d]]>") == HTML5_TAG);
+    CHECK(is_next(&reader, &handle, HTML5_START_TAG, "style"));
+    CHECK(html5_reply(&handle, 6) == HTML5_BAD_OPTION);
+    CHECK(html5_reply(&handle, HTML5_RAWTEXT) == HTML5_DONE);
+    CHECK(html5_end(&handle) == HTML5_WAITING);
+    CHECK(feed(&handle, "") == HTML5_TAG);
+    CHECK(is_next(&reader, &handle, HTML5_TEXT, "<b>") && is_next(&reader, &handle, HTML5_END_TAG, "style"));
+    CHECK(feed(&handle, "") == HTML5_TAG);
+    CHECK(is_next(&reader, &handle, HTML5_START_TAG, "svg"));
+    CHECK(html5_set_foreign(&handle, true) == HTML5_DONE);
+    CHECK(feed(&handle, "") == HTML5_TAG);
+    CHECK(is_next(&reader, &handle, HTML5_TEXT, "c") && is_next(&reader, &handle, HTML5_END_TAG, "svg"));
+    CHECK(html5_set_foreign(&handle, false) == HTML5_DONE);
+    CHECK(feed(&handle, "<p") == HTML5_DONE);
+    CHECK(is_next(&reader, &handle, HTML5_COMMENT, "[CDATA[d]]"));
+    CHECK(html5_reply(&handle, HTML5_RAWTEXT) == HTML5_ITEM_OPEN);
+    CHECK(feed(&handle, ">") == HTML5_TAG);
+    CHECK(feed(&handle, "") == HTML5_DONE);
+    CHECK(html5_end(&handle) == HTML5_DONE);
+    CHECK(html5_reply(&handle, 6) == HTML5_OVER);
+    html5_reader_free(&reader);
+    html5_free(&handle);
+}
+
 static void is_closed_until_it_is_opened(void) {
     html5_handle handle = {0};
-    html5_options options = {0}, no_state = {.state = 6}, no_replies = {.replies = 3};
+    html5_options options = {0}, no_state = {.state = 6}, no_replies = {.replies = 4};
     CHECK(feed(&handle, "x") == HTML5_CLOSED);
     CHECK(insert(&handle, "x") == HTML5_CLOSED);
     CHECK(html5_end(&handle) == HTML5_CLOSED);
     CHECK(TAKES(&handle, 8, ""));
     CHECK(html5_error_at(&handle) == 0);
     CHECK(!html5_is_over(&handle));
+    CHECK(html5_reply(&handle, HTML5_RAWTEXT) == HTML5_CLOSED);
+    CHECK(html5_set_foreign(&handle, true) == HTML5_CLOSED);
     html5_free(&handle);
     CHECK(open_after(&handle, "", no_state) == HTML5_BAD_OPTION);
     CHECK(open_after(&handle, "", no_replies) == HTML5_BAD_OPTION);
@@ -143,6 +184,7 @@ int main(void) {
     pauses_and_lets_text_in();
     says_where_bytes_are_no_text();
     says_why_there_is_no_token();
+    lets_the_caller_reply();
     is_closed_until_it_is_opened();
     return failed;
 }

@@ -42,6 +42,21 @@ class Calls(unittest.TestCase):
             self.assertEqual(tokenizer.feed(b"<meta charset=latin1>x"), Fed.ENCODING)
             self.assertEqual(list(tokenizer.tokens())[-1].attributes, (("charset", "latin1"),))
 
+    def test_the_caller_replies(self):
+        with Tokenizer(replies=Replies.CALLER) as tokenizer:
+            self.assertEqual(tokenizer.feed(b"1<style><b></style>2"), Fed.TAG)
+            self.assertEqual(list(tokenizer.tokens()), [Text(1, "1"), StartTag(1, "style", (), False, False)])
+            tokenizer.reply(State.RAWTEXT)
+            self.assertEqual(tokenizer.feed(b""), Fed.TAG)
+            self.assertEqual(list(tokenizer.tokens()), [Text(1, "<b>"), EndTag(1, "style", (), False, False)])
+            self.assertEqual(tokenizer.feed(b"<svg>"), Fed.TAG)
+            tokenizer.set_foreign(True)
+            self.assertEqual(tokenizer.feed(b"<![CDATA[<i>]]><p"), Fed.DONE)
+            self.assertIn(Text(1, "<i>"), list(tokenizer.tokens()))
+            with self.assertRaises(TokenizerError) as refused:
+                tokenizer.reply(State.RAWTEXT)
+            self.assertEqual(refused.exception.status, Status.ITEM_OPEN)
+
     def test_bytes_that_are_no_text(self):
         with Tokenizer() as tokenizer:
             tokenizer.feed(b"<p>ab")

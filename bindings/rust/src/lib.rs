@@ -25,16 +25,18 @@ mod owned;
 mod pages;
 mod raw;
 mod record;
+mod sink;
 
 pub use cleaner::{clean, Cleaner, Policy, PolicyBuilder};
 pub use owned::{OwnedTag, OwnedToken};
 pub use pages::{links, read_tokens, text, Link};
 pub use record::{Attributes, Doctype, Tag, Token, Tokens};
+pub use sink::{RawKind, SinkTokenizer, TokenSink, TokenSinkResult, TokenizerResult};
 
 use raw::{Handle, RawOptions};
 use std::fmt;
 
-/// The state in which a reading starts.
+/// The state in which a reading starts, or goes on after a reply.
 #[derive(Clone, Copy, Debug, Default, PartialEq, Eq)]
 #[repr(u32)]
 pub enum State {
@@ -64,6 +66,8 @@ pub enum Replies {
     None = 1,
     /// As the standard's, and it pauses after `</script>` and `<meta charset=..>`.
     Pausing = 2,
+    /// It pauses after each tag, and all is markup unless [`Tokenizer::reply`] says otherwise.
+    Caller = 3,
 }
 
 /// How a page is read.
@@ -92,6 +96,8 @@ pub enum Fed {
     Script,
     /// It paused after a `meta` tag that names an encoding; what follows waits.
     Encoding,
+    /// It paused after a tag to which the caller replies; what follows waits.
+    Tag,
 }
 
 /// Why a call was refused.
@@ -108,6 +114,8 @@ pub enum Error {
     Cut,
     /// Text waits after a pause: feed first, if only no bytes.
     Waiting,
+    /// A tag or another item is open, so no state can be set.
+    ItemOpen,
     /// The page has ended, or an earlier call was refused for good.
     Over,
     /// A policy takes no such rule as the one on this line.
@@ -125,6 +133,7 @@ impl Error {
             4 => Error::NotUtf8 { at: at() },
             5 => Error::Cut,
             6 => Error::Waiting,
+            13 => Error::ItemOpen,
             _ => Error::Over,
         }
     }
@@ -137,6 +146,7 @@ impl fmt::Display for Error {
             Error::NotUtf8 { at } => write!(f, "byte {at} is no UTF-8"),
             Error::Cut => f.write_str("the input ends within a character"),
             Error::Waiting => f.write_str("text waits after a pause"),
+            Error::ItemOpen => f.write_str("a tag or another item is open"),
             Error::Over => f.write_str("the reading is over"),
             Error::BadPolicy { line } => write!(f, "line {line} is no rule that a policy takes"),
         }
@@ -198,6 +208,19 @@ impl Tokenizer {
         self.fed_or_error(status).map(|_| ())
     }
 
+    /// Reads what follows in a state, as a tree builder asks after a start tag. Raw text is read up to the end tag of the
+    /// last start tag. Within a tag or another item, which is never so after a pause, it is refused.
+    pub fn reply(&mut self, state: State) -> Result<(), Error> {
+        let status = unsafe { raw::html5_reply(&mut self.handle, state as u32) };
+        self.fed_or_error(status).map(|_| ())
+    }
+
+    /// Says whether the current node is outside the HTML namespace, so that `<![CDATA[` opens a section.
+    pub fn set_foreign(&mut self, foreign: bool) -> Result<(), Error> {
+        let status = unsafe { raw::html5_set_foreign(&mut self.handle, foreign) };
+        self.fed_or_error(status).map(|_| ())
+    }
+
     /// Tells the end of the page.
     pub fn end(&mut self) -> Result<(), Error> {
         let status = unsafe { raw::html5_end(&mut self.handle) };
@@ -228,6 +251,7 @@ impl Tokenizer {
             0 => Ok(Fed::Done),
             1 => Ok(Fed::Script),
             2 => Ok(Fed::Encoding),
+            12 => Ok(Fed::Tag),
             status => Err(Error::of_status(status, || unsafe { raw::html5_error_at(&mut self.handle) })),
         }
     }

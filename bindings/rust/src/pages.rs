@@ -83,7 +83,7 @@ impl From<Error> for io::Error {
         let kind = match error {
             Error::NoMemory => io::ErrorKind::OutOfMemory,
             Error::NotUtf8 { .. } | Error::Cut => io::ErrorKind::InvalidData,
-            Error::Waiting | Error::Over | Error::BadPolicy { .. } => io::ErrorKind::InvalidInput,
+            Error::Waiting | Error::ItemOpen | Error::Over | Error::BadPolicy { .. } => io::ErrorKind::InvalidInput,
         };
         io::Error::new(kind, error)
     }

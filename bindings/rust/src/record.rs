@@ -26,6 +26,22 @@ pub enum Token<'t> {
     End { line: u64 },
 }
 
+impl Token<'_> {
+    /// The line on which the token ends. A text has none.
+    pub fn line(&self) -> Option<u64> {
+        match self {
+            Token::StartTag(tag) | Token::EndTag(tag) => Some(tag.line),
+            Token::Text(_) => None,
+            Token::Doctype(doctype) => Some(doctype.line),
+            Token::Comment { line, .. }
+            | Token::Instruction { line, .. }
+            | Token::NullCharacter { line }
+            | Token::ParseError { line, .. }
+            | Token::End { line } => Some(*line),
+        }
+    }
+}
+
 /// A tag.
 #[derive(Clone, Debug, PartialEq, Eq)]
 pub struct Tag<'t> {

@@ -1,21 +1,24 @@
 -- What a call did, by the status that it answers.
-use Rattle.std.proofs.Common.{◌≡◌, ◌↔◌, ℕ, true, false, List, ◌++◌, Option, None, Some, refl, sym, ◌∙◌, inl, inr, arith}
+use Rattle.std.proofs.Common.{◌≡◌, ◌↔◌, ℕ, true, false, List, ◌++◌, Option, None, Some, refl, sym, ap, ◌∙◌, inl, inr, arith}
+use Rattle.std.specs.Prelude.{is_some}
 use Rattle.std.proofs.lemmas.Bool.{false≢true}
 use Rattle.std.specs.Str.{IsUtf8, chars}
 use Rattle.utf8_pieces.specs.Pieces.{IsNeverUtf8}
 use Rattle.html5c.proofs.Going.{over_is, refused_going}
-use Rattle.html5c.specs.Calls.{fed_status, error_status, open_status, OpenFails, IsStart, NewSays, FeedSays, InsertSays, EndSays}
+use Rattle.html5c.specs.Calls.{fed_status, error_status, open_status, OpenFails, IsStart, NewSays, FeedSays, InsertSays, ReplySays, EndSays}
 use Rattle.html5c.specs.declared.opening.OpenError.{OpenError}
 use Rattle.html5c.specs.declared.opening.OpenError.TheVariants as opening
+use Rattle.html5c.specs.Said.{state_said}
 use Rattle.html5c.specs.Slots.{session_of}
+use Rattle.html5ever_interface.specs.declared.states.State.{State}
 use Rattle.html5c.specs.declared.options.Options.{Options}
 use Rattle.html5c.specs.declared.slot.PageSlot.{PageSlot}
 use Rattle.html5c.specs.declared.slot.PageSlot.TheVariants.{Tokenizer, Cleaner, Lent}
-use Rattle.html5session.specs.Session.{SessionOf, is_over, FeedsPiece, FeedRefused, EndsSession, EndRefused, IsNotUtf8}
+use Rattle.html5session.specs.Session.{SessionOf, is_over, nothing_open_in, SetsState, FeedsPiece, FeedRefused, EndsSession, EndRefused, IsNotUtf8}
 use Rattle.html5session.specs.declared.error.SessionError.{SessionError}
-use Rattle.html5session.specs.declared.error.SessionError.TheVariants.{Memory, NotUtf8, Cut, Waiting, Over}
+use Rattle.html5session.specs.declared.error.SessionError.TheVariants.{Memory, NotUtf8, Cut, Waiting, ItemOpen, Over}
 use Rattle.html5session.specs.declared.fed.Fed.{Fed}
-use Rattle.html5session.specs.declared.fed.Fed.TheVariants.{Done, Script, Encoding}
+use Rattle.html5session.specs.declared.fed.Fed.TheVariants.{Done, Script, Encoding, Tag}
 
 -- ---- what each status says
 
@@ -26,34 +29,49 @@ feed_says-fed old new bytes Done feeds going possible = record {
   done = λ _. feeds;
   script = λ e. absurd (omega (arith, e));
   encoding = λ e. absurd (omega (arith, e));
+  tag = λ e. absurd (omega (arith, e));
   no_memory = λ e. absurd (omega (arith, e));
   not_utf8 = (λ e. absurd (omega (arith, e)), λ is. absurd (possible is.1));
   place = λ e. absurd (omega (arith, e));
   over = (λ e. absurd (omega (arith, e)), λ was. absurd (over_is (is_over old) going was));
   unchanged = λ was. absurd (over_is (is_over old) going was);
-  only = (λ e. omega (arith, e), λ e. omega (arith, e), λ e. omega (arith, e), λ e. omega (arith, e));
+  only = inl refl;
 }
 feed_says-fed old new bytes Script feeds going possible = record {
   done = λ e. absurd (omega (arith, e));
   script = λ _. feeds;
   encoding = λ e. absurd (omega (arith, e));
+  tag = λ e. absurd (omega (arith, e));
   no_memory = λ e. absurd (omega (arith, e));
   not_utf8 = (λ e. absurd (omega (arith, e)), λ is. absurd (possible is.1));
   place = λ e. absurd (omega (arith, e));
   over = (λ e. absurd (omega (arith, e)), λ was. absurd (over_is (is_over old) going was));
   unchanged = λ was. absurd (over_is (is_over old) going was);
-  only = (λ e. omega (arith, e), λ e. omega (arith, e), λ e. omega (arith, e), λ e. omega (arith, e));
+  only = inr (inl refl);
 }
 feed_says-fed old new bytes Encoding feeds going possible = record {
   done = λ e. absurd (omega (arith, e));
   script = λ e. absurd (omega (arith, e));
   encoding = λ _. feeds;
+  tag = λ e. absurd (omega (arith, e));
   no_memory = λ e. absurd (omega (arith, e));
   not_utf8 = (λ e. absurd (omega (arith, e)), λ is. absurd (possible is.1));
   place = λ e. absurd (omega (arith, e));
   over = (λ e. absurd (omega (arith, e)), λ was. absurd (over_is (is_over old) going was));
   unchanged = λ was. absurd (over_is (is_over old) going was);
-  only = (λ e. omega (arith, e), λ e. omega (arith, e), λ e. omega (arith, e), λ e. omega (arith, e));
+  only = inr (inr (inl refl));
+}
+feed_says-fed old new bytes Tag feeds going possible = record {
+  done = λ e. absurd (omega (arith, e));
+  script = λ e. absurd (omega (arith, e));
+  encoding = λ e. absurd (omega (arith, e));
+  tag = λ _. feeds;
+  no_memory = λ e. absurd (omega (arith, e));
+  not_utf8 = (λ e. absurd (omega (arith, e)), λ is. absurd (possible is.1));
+  place = λ e. absurd (omega (arith, e));
+  over = (λ e. absurd (omega (arith, e)), λ was. absurd (over_is (is_over old) going was));
+  unchanged = λ was. absurd (over_is (is_over old) going was);
+  only = inr (inr (inr (inr (inr (inr refl)))));
 }
 
 memory_no_over : ◌≡◌ {A = SessionError} Memory Over → ⊥
@@ -77,36 +95,40 @@ feed_says-error old new bytes Memory refused over never = record {
   done = λ e. absurd (omega (arith, e));
   script = λ e. absurd (omega (arith, e));
   encoding = λ e. absurd (omega (arith, e));
+  tag = λ e. absurd (omega (arith, e));
   no_memory = λ _. refused;
   not_utf8 = (λ e. absurd (omega (arith, e)), λ is. absurd (never is.0 is.1));
   place = λ e. absurd (omega (arith, e));
   over = (λ e. absurd (omega (arith, e)), λ was. absurd (memory_no_over (over.1 was)));
   unchanged = λ was. absurd (memory_no_over (over.1 was));
-  only = (λ e. omega (arith, e), λ e. omega (arith, e), λ e. omega (arith, e), λ e. omega (arith, e));
+  only = inr (inr (inr (inl refl)));
 }
 feed_says-error old new bytes (NotUtf8 place) refused over never = record {
   done = λ e. absurd (omega (arith, e));
   script = λ e. absurd (omega (arith, e));
   encoding = λ e. absurd (omega (arith, e));
+  tag = λ e. absurd (omega (arith, e));
   no_memory = λ e. absurd (omega (arith, e));
   not_utf8 = (λ _. (refused_going (NotUtf8 place) Over (is_over old) over (not_utf8_no_over place), refused.never), λ _. refl);
   place = λ _. (place, refused);
   over = (λ e. absurd (omega (arith, e)), λ was. absurd (not_utf8_no_over place (over.1 was)));
   unchanged = λ was. absurd (not_utf8_no_over place (over.1 was));
-  only = (λ e. omega (arith, e), λ e. omega (arith, e), λ e. omega (arith, e), λ e. omega (arith, e));
+  only = inr (inr (inr (inr (inl refl))));
 }
 feed_says-error old new bytes Cut refused over never = absurd refused
 feed_says-error old new bytes Waiting refused over never = absurd refused
+feed_says-error old new bytes ItemOpen refused over never = absurd refused
 feed_says-error old new bytes Over refused over never = record {
   done = λ e. absurd (omega (arith, e));
   script = λ e. absurd (omega (arith, e));
   encoding = λ e. absurd (omega (arith, e));
+  tag = λ e. absurd (omega (arith, e));
   no_memory = λ e. absurd (omega (arith, e));
   not_utf8 = (λ e. absurd (omega (arith, e)), λ is. absurd (never is.0 is.1));
   place = λ e. absurd (omega (arith, e));
   over = (λ _. over.0 refl, λ _. refl);
   unchanged = λ _. refused.unchanged;
-  only = (λ e. omega (arith, e), λ e. omega (arith, e), λ e. omega (arith, e), λ e. omega (arith, e));
+  only = inr (inr (inr (inr (inr (inl refl)))));
 }
 
 -- the status of an insert
@@ -147,6 +169,56 @@ insert_says-done old new text going utf8 is = record {
   over = (λ e. absurd (omega (arith, e)), λ was. absurd (over_is (is_over old) going was));
   only = inl refl;
 }
+
+-- the status of a reply
+
+pub reply_says-over : (old : SessionOf) (number : ℕ) → is_over old ≡ true → ReplySays old old number 7
+reply_says-over old number was = record {
+  done = λ e. absurd (omega (arith, e));
+  refused = λ _. refl;
+  over = (λ _. was, λ _. refl);
+  bad_option = (λ e. absurd (omega (arith, e)), λ is. absurd (over_is (is_over old) is.0 was));
+  item_open = (λ e. absurd (omega (arith, e)), λ is. absurd (over_is (is_over old) is.0 was));
+  only = inr (inl refl);
+}
+
+pub reply_says-bad_option : (old : SessionOf) (number : ℕ) → is_over old ≡ false → None ≡ state_said number → ReplySays old old number 9
+reply_says-bad_option old number going none =
+    let unnamed : is_some (state_said number) ≡ false = ap is_some (sym none) in
+    record {
+      done = λ e. absurd (omega (arith, e));
+      refused = λ _. refl;
+      over = (λ e. absurd (omega (arith, e)), λ was. absurd (over_is (is_over old) going was));
+      bad_option = (λ _. (going, unnamed), λ _. refl);
+      item_open = (λ e. absurd (omega (arith, e)), λ is. absurd (over_is (is_some (state_said number)) unnamed is.1));
+      only = inr (inr (inl refl));
+    }
+
+pub reply_says-item_open : (old : SessionOf) (number : ℕ) (state : State) → is_over old ≡ false → Some state ≡ state_said number → nothing_open_in old ≡ false
+    → ReplySays old old number 13
+reply_says-item_open old number state going named item_open =
+    let is_named : is_some (state_said number) ≡ true = ap is_some (sym named) in
+    record {
+      done = λ e. absurd (omega (arith, e));
+      refused = λ _. refl;
+      over = (λ e. absurd (omega (arith, e)), λ was. absurd (over_is (is_over old) going was));
+      bad_option = (λ e. absurd (omega (arith, e)), λ is. absurd (over_is (is_some (state_said number)) is.1 is_named));
+      item_open = (λ _. (going, is_named, item_open), λ _. refl);
+      only = inr (inr (inr refl));
+    }
+
+pub reply_says-done : (old new : SessionOf) (number : ℕ) (state : State) → is_over old ≡ false → Some state ≡ state_said number → nothing_open_in old ≡ true
+    → SetsState old new state → ReplySays old new number 0
+reply_says-done old new number state going named nothing_open sets =
+    let is_named : is_some (state_said number) ≡ true = ap is_some (sym named) in
+    record {
+      done = λ _. (state, sym named, sets);
+      refused = λ other. absurd (other refl);
+      over = (λ e. absurd (omega (arith, e)), λ was. absurd (over_is (is_over old) going was));
+      bad_option = (λ e. absurd (omega (arith, e)), λ is. absurd (over_is (is_some (state_said number)) is.1 is_named));
+      item_open = (λ e. absurd (omega (arith, e)), λ is. absurd (over_is (nothing_open_in old) is.2 nothing_open));
+      only = inl refl;
+    }
 
 -- the status of an end that was answered, or refused
 
@@ -191,6 +263,7 @@ end_says-error old new Waiting refused over = record {
   unchanged = λ _ _. refused.0;
   only = inr (inr (inr (inl refl)));
 }
+end_says-error old new ItemOpen refused over = absurd refused
 end_says-error old new Over refused over = record {
   done = λ e. absurd (omega (arith, e));
   no_memory = λ e. absurd (omega (arith, e));

@@ -11,13 +11,14 @@ use Rattle.html5c.specs.declared.slot.PageSlot.{PageSlot}
 use Rattle.html5records.specs.Recording.{recorded_means, none_recorded, nothing_recorded, waiting}
 use Rattle.html5records.specs.declared.record_sink.Replies.{Replies}
 use Rattle.html5ever.specs.Tokenizer.{StandsAt, rules_of}
+use Rattle.html5ever_interface.specs.declared.states.State.{State}
 use Rattle.html5reading.specs.Start.{start_of}
 use Rattle.html5entities.specs.Standard.{standard_list}
-use Rattle.html5session.specs.Session.{SessionOf, tokenizer_of, recorded_by, is_over, after_session_takes, StandsOn, FeedsPiece, LosesPiece, RefusesBytes, EndsSession, LosesEnd}
+use Rattle.html5session.specs.Session.{SessionOf, tokenizer_of, recorded_by, is_over, nothing_open_in, after_session_takes, after_foreign, StandsOn, ReadsOnBy, SetsState, FeedsPiece, LosesPiece, RefusesBytes, EndsSession, LosesEnd}
 use Rattle.html5session.specs.declared.error.SessionError.{SessionError}
-use Rattle.html5session.specs.declared.error.SessionError.TheVariants.{Memory, NotUtf8, Cut, Waiting, Over}
+use Rattle.html5session.specs.declared.error.SessionError.TheVariants.{Memory, NotUtf8, Cut, Waiting, ItemOpen, Over}
 use Rattle.html5session.specs.declared.fed.Fed.{Fed}
-use Rattle.html5session.specs.declared.fed.Fed.TheVariants.{Done, Script, Encoding}
+use Rattle.html5session.specs.declared.fed.Fed.TheVariants.{Done, Script, Encoding, Tag}
 use Rattle.html5table.specs.Listed.{entries_in}
 use Rattle.markup5ever.specs.NamedReferences.{table_of}
 
@@ -27,12 +28,14 @@ abbrev pub fed_status : Fed → ℕ
 fed_status Done = 0
 fed_status Script = 1
 fed_status Encoding = 2
+fed_status Tag = 12
 
 abbrev pub error_status : SessionError → ℕ
 error_status Memory = 3
 error_status (NotUtf8 place) = 4
 error_status Cut = 5
 error_status Waiting = 6
+error_status ItemOpen = 13
 error_status Over = 7
 
 -- ---- a new session
@@ -92,13 +95,14 @@ pub record FeedSays (old new : SessionOf) (bytes : List ℕ) (status : ℕ) : Ty
   pub done : status ≡ 0 → FeedsPiece old new bytes Done
   pub script : status ≡ 1 → FeedsPiece old new bytes Script
   pub encoding : status ≡ 2 → FeedsPiece old new bytes Encoding
+  pub tag : status ≡ 12 → FeedsPiece old new bytes Tag
   pub no_memory : status ≡ 3 → (new ≡ old) ⊎ LosesPiece old new bytes
   pub not_utf8 : (status ≡ 4) ↔ ((is_over old ≡ false) × IsNeverUtf8 (old.decoder.held ++ bytes))
   pub place : status ≡ 4 → (place : ℕ) × RefusesBytes old new bytes place
   pub over : (status ≡ 7) ↔ (is_over old ≡ true)
   -- where nothing more is read, nothing changes
   pub unchanged : is_over old ≡ true → new ≡ old
-  pub only : status ≢ 5 × status ≢ 6 × status ≢ 8 × status ≢ 9
+  pub only : (status ≡ 0) ⊎ (status ≡ 1) ⊎ (status ≡ 2) ⊎ (status ≡ 3) ⊎ (status ≡ 4) ⊎ (status ≡ 7) ⊎ (status ≡ 12)
 
 pub record InsertSays (old new : SessionOf) (text : List ℕ) (status : ℕ) : Type 0 where
   pub done : status ≡ 0 → IsUtf8 text × (new ≡ record old { text = chars text ++ old.text })
@@ -116,6 +120,21 @@ pub record EndSays (old new : SessionOf) (status : ℕ) : Type 0 where
   -- at those three nothing changes
   pub unchanged : status ≢ 0 → status ≢ 3 → new ≡ old
   pub only : (status ≡ 0) ⊎ (status ≡ 3) ⊎ (status ≡ 5) ⊎ (status ≡ 6) ⊎ (status ≡ 7)
+
+-- a reply of the caller: what follows is read in the state that the number names
+pub record ReplySays (old new : SessionOf) (number status : ℕ) : Type 0 where
+  pub done : status ≡ 0 → (state : State) × (state_said number ≡ Some state) × SetsState old new state
+  pub refused : status ≢ 0 → new ≡ old
+  pub over : (status ≡ 7) ↔ (is_over old ≡ true)
+  pub bad_option : (status ≡ 9) ↔ ((is_over old ≡ false) × (is_some (state_said number) ≡ false))
+  pub item_open : (status ≡ 13) ↔ ((is_over old ≡ false) × (is_some (state_said number) ≡ true) × (nothing_open_in old ≡ false))
+  pub only : (status ≡ 0) ⊎ (status ≡ 7) ⊎ (status ≡ 9) ⊎ (status ≡ 13)
+
+-- the answer about foreign content was set, and what follows is read by it
+pub record ForeignSays (old new : SessionOf) (foreign : Bool) (status : ℕ) : Type 0 where
+  pub done : status ≡ 0
+  pub set : new ≡ after_foreign old foreign
+  pub reads_on : ReadsOnBy old new
 
 -- the next bytes of the records that wait were copied, as many as there was room for, and let go; nothing else changed
 pub record TakeSays (old new : SessionOf) (room out : List ℕ) (n : ℕ) : Type 0 where
@@ -135,6 +154,12 @@ Inserts old new text status = WhereOpen (λ s t. InsertSays s t text status) (st
 
 abbrev pub Ends : Option SessionOf → Option SessionOf → ℕ → Type 0
 Ends old new status = WhereOpen (λ s t. EndSays s t status) (status ≡ 8) old new
+
+abbrev pub RepliesTo : Option SessionOf → Option SessionOf → ℕ → ℕ → Type 0
+RepliesTo old new number status = WhereOpen (λ s t. ReplySays s t number status) (status ≡ 8) old new
+
+abbrev pub SetsForeign : Option SessionOf → Option SessionOf → Bool → ℕ → Type 0
+SetsForeign old new foreign status = WhereOpen (λ s t. ForeignSays s t foreign status) (status ≡ 8) old new
 
 abbrev pub Takes : Option SessionOf → Option SessionOf → List ℕ → List ℕ → ℕ → Type 0
 Takes old new room out n = WhereOpen (λ s t. TakeSays s t room out n) ((n ≡ 0) × (out ≡ room)) old new

@@ -25,6 +25,7 @@ replies_said n =
     if n == 0 then Some reply.Standard
     else if n == 1 then Some reply.None
     else if n == 2 then Some reply.Pausing
+    else if n == 3 then Some reply.Caller
     else None
 
 -- the name of the last start tag: none where it has no bytes

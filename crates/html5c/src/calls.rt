@@ -1,6 +1,6 @@
 //! The calls of the tokenizer.
 ghost use Rattle.std.specs.Prelude.{◌≡◌, None};
-ghost use Rattle.html5c.specs.Calls.{NewSays, Feeds, Inserts, Ends, Takes, error_place, over_in};
+ghost use Rattle.html5c.specs.Calls.{NewSays, Feeds, Inserts, RepliesTo, SetsForeign, Ends, Takes, error_place, over_in};
 ghost use Rattle.html5c.specs.Slots.{cleaner_of, session_of};
 
 use crate::handle::Handle;
@@ -56,6 +56,36 @@ pub extern "C" fn html5_insert(alloc: Global, h: &mut Handle, text: &[u8]) -> u3
         return status::CLOSED;
     };
     let status = slot.insert(text);
+    h.put(slot);
+    status
+}
+
+/// Reads what follows in the state that the number names, as a tree builder asks after a start tag at which it paused: 0 data,
+/// 1 plain text, 2 RCDATA, 3 RAWTEXT, 4 script data, 5 a CDATA section. Where nothing more is read it answers `OVER`,
+/// whatever the number, and within a tag or another item `ITEM_OPEN`.
+#[unsafe(no_mangle)]
+pub extern "C" fn html5_reply(alloc: Global, h: &mut Handle, state: u32) -> u32
+    ensures replies { RepliesTo (session_of h.old.owned.value) (session_of h.new.owned.value) state result }
+    ensures other { cleaner_of h.new.owned.value ≡ cleaner_of h.old.owned.value }
+{
+    let Some(mut slot) = h.take(alloc) else {
+        return status::CLOSED;
+    };
+    let status = slot.reply(state);
+    h.put(slot);
+    status
+}
+
+/// Sets whether the current node is outside the HTML namespace, so that `<![CDATA[` begins a section in what follows.
+#[unsafe(no_mangle)]
+pub extern "C" fn html5_set_foreign(alloc: Global, h: &mut Handle, foreign: bool) -> u32
+    ensures sets { SetsForeign (session_of h.old.owned.value) (session_of h.new.owned.value) foreign result }
+    ensures other { cleaner_of h.new.owned.value ≡ cleaner_of h.old.owned.value }
+{
+    let Some(mut slot) = h.take(alloc) else {
+        return status::CLOSED;
+    };
+    let status = slot.set_foreign(foreign);
     h.put(slot);
     status
 }

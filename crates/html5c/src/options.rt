@@ -17,7 +17,7 @@ pub struct Options {
     /// section.
     pub state: u32,
     /// What is replied to tags: 0 what the standard asks for, 1 nothing, 2 what the standard asks for,
-    /// with pauses.
+    /// with pauses, 3 what the caller asks for by `html5_reply`, with a pause after each tag.
     pub replies: u32,
     /// Report every bad character, and name no state in error messages.
     pub exact_errors: bool,
@@ -35,6 +35,23 @@ fn replies_of(number: u32) -> Option<Replies>
         0 => Some(Replies::Standard),
         1 => Some(Replies::None),
         2 => Some(Replies::Pausing),
+        3 => Some(Replies::Caller),
+        _ => None,
+    }
+}
+
+// The state that a number names, if one does.
+pub(crate) fn state_of(number: u32) -> Option<State>
+    ensures said { result ≡ state_said number }
+    ensures start { IfSome result (λ state. CanStart (Some state)) }
+{
+    match number {
+        0 => Some(State::Data),
+        1 => Some(State::Plaintext),
+        2 => Some(State::RawData(RawKind::Rcdata)),
+        3 => Some(State::RawData(RawKind::Rawtext)),
+        4 => Some(State::RawData(RawKind::ScriptData)),
+        5 => Some(State::CdataSection),
         _ => None,
     }
 }
@@ -60,15 +77,7 @@ impl Options {
         ensures said { result ≡ state_said self.now.state }
         ensures start { IfSome result (λ state. CanStart (Some state)) }
     {
-        match self.state {
-            0 => Some(State::Data),
-            1 => Some(State::Plaintext),
-            2 => Some(State::RawData(RawKind::Rcdata)),
-            3 => Some(State::RawData(RawKind::Rawtext)),
-            4 => Some(State::RawData(RawKind::ScriptData)),
-            5 => Some(State::CdataSection),
-            _ => None,
-        }
+        state_of(self.state)
     }
 
     /// How the tokenizer reads from this state, after a last start tag, if there is one.

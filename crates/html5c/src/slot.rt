@@ -1,8 +1,9 @@
 //! What a handle is of, over C's memory, and what the tokenizer's calls make of it.
 ghost use Rattle.std.specs.Prelude.{◌≡◌, IsNone};
-ghost use Rattle.html5c.specs.Calls.{Feeds, Inserts, Ends, Takes, fed_status, error_status, error_place, over_in};
+ghost use Rattle.html5c.specs.Calls.{Feeds, Inserts, RepliesTo, SetsForeign, Ends, Takes, fed_status, error_status, error_place, over_in};
 ghost use Rattle.html5c.specs.Slots.{cleaner_in, session_in};
 
+use crate::options::state_of;
 use crate::status;
 use html5cleaning::CleaningSession;
 use html5session::{Fed, Session, SessionError};
@@ -28,6 +29,7 @@ fn status_of_fed(fed: Fed) -> u32
         Fed::Done => status::DONE,
         Fed::Script => status::SCRIPT,
         Fed::Encoding => status::ENCODING,
+        Fed::Tag => status::TAG,
     }
 }
 
@@ -40,6 +42,7 @@ fn status_of_error(error: SessionError) -> u32
         SessionError::NotUtf8 { .. } => status::NOT_UTF8,
         SessionError::Cut => status::CUT,
         SessionError::Waiting => status::WAITING,
+        SessionError::ItemOpen => status::ITEM_OPEN,
         SessionError::Over => status::OVER,
     }
 }
@@ -93,6 +96,36 @@ impl PageSlot {
             Ok(()) => status::DONE,
             Err(error) => status_of_error(error),
         }
+    }
+
+    /// Reads what follows in the state that the number names.
+    pub fn reply(&mut self, state: u32) -> u32
+        ensures replies { RepliesTo (session_in self.old) (session_in self.new) state result }
+        ensures other { cleaner_in self.new ≡ cleaner_in self.old }
+    {
+        let PageSlot::Tokenizer(session) = self else {
+            return status::CLOSED;
+        };
+        match state_of(state) {
+            _ if session.is_over() => status::OVER,
+            None => status::BAD_OPTION,
+            Some(state) => match session.set_state(state) {
+                Ok(()) => status::DONE,
+                Err(error) => status_of_error(error),
+            },
+        }
+    }
+
+    /// Sets whether the current node is outside the HTML namespace.
+    pub fn set_foreign(&mut self, foreign: bool) -> u32
+        ensures sets { SetsForeign (session_in self.old) (session_in self.new) foreign result }
+        ensures other { cleaner_in self.new ≡ cleaner_in self.old }
+    {
+        let PageSlot::Tokenizer(session) = self else {
+            return status::CLOSED;
+        };
+        session.set_foreign(foreign);
+        status::DONE
     }
 
     /// Ends the page.

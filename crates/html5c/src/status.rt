@@ -35,3 +35,9 @@ pub const BAD_POLICY: u32 = 10;
 
 /// The bytes of the policy are no UTF-8.
 pub const POLICY_NOT_UTF8: u32 = 11;
+
+/// The tokenizer pauses after a tag to which the caller replies: what follows waits.
+pub const TAG: u32 = 12;
+
+/// A tag or another item is open, so no state can be set.
+pub const ITEM_OPEN: u32 = 13;

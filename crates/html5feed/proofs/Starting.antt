@@ -1,5 +1,5 @@
 -- Where a stream starts.
-use Rattle.std.proofs.Common.{◌≡◌, string_bytes, [], refl, ap, ◌∙◌}
+use Rattle.std.proofs.Common.{◌≡◌, ℕ, List, string_bytes, [], refl, ap, ◌∙◌}
 use Rattle.std.specs.Prelude.{Option, None, Some}
 use Rattle.std.specs.Option.{unwrap_or}
 use Rattle.std.specs.Str.{chars}
@@ -7,11 +7,11 @@ use Rattle.std.proofs.lemmas.Str.{chars-nil}
 use Rattle.html5ever_interface.specs.declared.states.State.{State}
 use Rattle.html5ever_interface.specs.declared.states.State.TheVariants as state
 use Rattle.html5reading.specs.Cdata.{open_cdata}
-use Rattle.html5reading.specs.Start.{Start, initial_mode}
+use Rattle.html5reading.specs.Start.{Input, Start, initial_mode}
 use Rattle.html5reading.specs.Start.Open.{Between}
 use Rattle.html5partial.specs.CurrentTag.{open_of, opened_of, last_name_of}
 use Rattle.html5partial.specs.declared.opened.Opened.{Opened}
-use Rattle.html5feed.specs.Starting.{CanStart}
+use Rattle.html5feed.specs.Starting.{CanStart, in_state}
 
 -- the state in which a stream starts
 
@@ -30,3 +30,11 @@ starts-in chosen at is none can = ap (λ s. open_of s at) is ∙ starts-mode cho
 pub start-is : (K L : Start) → K.opened ≡ L.opened → K.last_start_tag ≡ L.last_start_tag → K.input.line ≡ L.input.line → K.input.after_carriage_return ≡ L.input.after_carriage_return
     → K.input.drops_byte_order_mark ≡ L.input.drops_byte_order_mark → K ≡ L
 start-is K L opened last line carriage_return mark = rw (← opened, ← last, ← line, ← carriage_return, ← mark) refl
+
+-- a stream that goes on in a state
+pub goes_on-in : {Z : Type 0} → (K : Start) (at : Opened Z) (input : Input) (chosen : State) → at.state ≡ chosen → string_bytes at.comment ≡ [] → CanStart (Some chosen)
+    → last_name_of at ≡ K.last_start_tag → input ≡ K.input
+    → record K { opened = opened_of at; last_start_tag = last_name_of at; input = input } ≡ in_state K chosen
+goes_on-in K at input chosen is none can last came =
+    let opened = starts-in (Some chosen) at is none can ∙ ap (λ (name : List ℕ). Between (initial_mode (Some chosen) name)) last in
+    rw (opened, last, came) refl

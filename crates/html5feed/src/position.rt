@@ -1,7 +1,7 @@
 //! Where a tokenizer stands in its stream.
 #![tactic(auto, unfolding(html5partial::specs::CharRef::with_reference))]
 
-ghost use Rattle.std.specs.Prelude.{◌≡◌, ◌^◌, ◌<◌, ◌+◌, true, false, drop, IfErr, OnOk, option_map, string_bytes};
+ghost use Rattle.std.specs.Prelude.{◌≡◌, ◌^◌, ◌<◌, ◌+◌, true, false, Some, drop, IfErr, OnOk, option_map, string_bytes};
 ghost use Rattle.html5ever_interface.specs.Options.{options_of};
 ghost use Rattle.html5ever_interface.specs.Sink.{on_line};
 ghost use Rattle.html5ever_interface.specs.Token.{tag_of};
@@ -15,7 +15,7 @@ ghost use Rattle.html5reading.specs.Start.Open.{Between};
 ghost use Rattle.html5partial.specs.CurrentTag.{is_between, opened_of, last_name_of};
 ghost use Rattle.std.specs.Str.{chars};
 ghost use Rattle.html5states.specs.Telling.{Emits, Tells, IsRefusal, faults_of};
-ghost use Rattle.html5feed.specs.Starting.{CanStart};
+ghost use Rattle.html5feed.specs.Starting.{CanStart, in_state};
 ghost use Rattle.html5feed.specs.Undecided.{rules_with};
 
 mod runs;
@@ -184,6 +184,16 @@ impl<A: Allocator + Copy> Position<A> {
         ensures input { self.new.input ≡ self.old.input }
     {
         self.opened.state = State::Plaintext;
+        self.in_reference = false;
+    }
+
+    /// Reads in the state from here on. Raw text is read up to the end tag of the last start tag.
+    pub fn set_state(&mut self, state: State)
+        requires { CanStart (Some state) }
+        ensures { self.new ≡ in_state self.old state }
+    {
+        self.opened.state = state;
+        self.opened.comment.clear();
         self.in_reference = false;
     }
 

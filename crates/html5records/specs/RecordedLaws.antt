@@ -6,7 +6,7 @@ use Rattle.html5ever_interface.specs.Token.{Told, is_tag}
 use Rattle.html5ever_interface.specs.Token.Told.{Text, Tag}
 use Rattle.html5ever_interface.specs.Token.Reply.{KeepOn}
 use Rattle.html5records.specs.declared.record_sink.Replies.{Replies}
-use Rattle.html5records.specs.declared.record_sink.Replies.TheVariants.{None, Standard, Pausing}
+use Rattle.html5records.specs.declared.record_sink.Replies.TheVariants.{None, Standard, Pausing, Caller}
 use Rattle.html5records.specs.Recording.{Recorded, text_opening, added_by_text, added_by, open_after, recorded_step, recorded_reply, reply_by}
 
 pub recorded_joins : (r : Recorded) (a b : List ℕ) (line : ℕ)
@@ -34,6 +34,8 @@ reply_by-other Standard (Tag tag) no_tag = absurd cc
 reply_by-other Standard other no_tag = refl
 reply_by-other Pausing (Tag tag) no_tag = absurd cc
 reply_by-other Pausing other no_tag = refl
+reply_by-other Caller (Tag tag) no_tag = absurd cc
+reply_by-other Caller other no_tag = refl
 
 pub recorded_keeps_on : (r : Recorded) (told : Told) (line : ℕ) → is_tag told ≡ false → recorded_reply r told line ≡ KeepOn
 recorded_keeps_on r told line no_tag = reply_by-other r.replies told no_tag

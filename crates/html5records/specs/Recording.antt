@@ -9,10 +9,12 @@ use Rattle.markup5ever.specs.Lists.{BeginsWith}
 use Rattle.html5ever_interface.specs.Collected.{with_told}
 use Rattle.html5ever_interface.specs.Sink.{Means, Message, stepped}
 use Rattle.html5ever_interface.specs.Token.{Told, Reply}
-use Rattle.html5ever_interface.specs.Token.Told.{Text}
-use Rattle.html5ever_interface.specs.Token.Reply.{KeepOn}
+use Rattle.html5ever_interface.specs.Token.Told.{Tag, Text}
+use Rattle.html5ever_interface.specs.Token.Reply.{KeepOn, ReadPlainText, ReadRawData, RunScript, SwitchEncoding}
+use Rattle.html5records.specs.declared.record_sink.PausedAt.{PausedAt}
+use Rattle.html5records.specs.declared.record_sink.PausedAt.TheVariants as paused
 use Rattle.html5records.specs.declared.record_sink.Replies.{Replies}
-use Rattle.html5records.specs.declared.record_sink.Replies.TheVariants.{None, Standard, Pausing}
+use Rattle.html5records.specs.declared.record_sink.Replies.TheVariants.{None, Standard, Pausing, Caller}
 use Rattle.html5sinks.specs.Pausing.{pausing_reply}
 use Rattle.html5sinks.specs.Replies.{standard_reply}
 use Rattle.html5sinks.specs.Runs.{reply_where_tag}
@@ -79,13 +81,27 @@ unfoldable pub recorded_step : Recorded → Told → ℕ → Recorded
 recorded_step r told line =
     record r { bytes = r.bytes ++ added_by r.in_text told line; in_text = open_after r.in_text told }
 
--- the reply to what the sink is sent: where none is wanted it is to read on
-abbrev pub reply_by : Replies → Told → Reply (Unit {0})
-reply_by None told = KeepOn
-reply_by Standard told = reply_where_tag standard_reply told
-reply_by Pausing told = pausing_reply told
+-- a reply that pauses for a script says so
+abbrev pub at_script : Reply (Unit {0}) → Reply PausedAt
+at_script KeepOn = KeepOn
+at_script ReadPlainText = ReadPlainText
+at_script (ReadRawData kind) = ReadRawData kind
+at_script (RunScript handle) = RunScript paused.Script
+at_script (SwitchEncoding text) = SwitchEncoding text
 
-abbrev pub recorded_reply : Recorded → Told → ℕ → Reply (Unit {0})
+-- a pause after each tag
+abbrev pub pause_after_tag : Told → Reply PausedAt
+pause_after_tag (Tag tag) = RunScript paused.Tag
+pause_after_tag other = KeepOn
+
+-- the reply to what the sink is sent: where none is wanted it is to read on
+abbrev pub reply_by : Replies → Told → Reply PausedAt
+reply_by None told = KeepOn
+reply_by Standard told = at_script (reply_where_tag standard_reply told)
+reply_by Pausing told = at_script (pausing_reply told)
+reply_by Caller told = pause_after_tag told
+
+abbrev pub recorded_reply : Recorded → Told → ℕ → Reply PausedAt
 recorded_reply r told line = reply_by r.replies told
 
 -- the answer about foreign content
@@ -97,7 +113,7 @@ abbrev pub recorded_faulted : Recorded → Told → ℕ → Recorded
 recorded_faulted r told line = r
 
 -- what a sink of records makes of what it is sent
-abbrev pub recorded_means : Means Recording Recorded (Unit {0})
+abbrev pub recorded_means : Means Recording Recorded PausedAt
 recorded_means = record {
   state = λ s. s.recorded;
   step = recorded_step;
@@ -111,6 +127,10 @@ recorded_means = record {
 -- the sink once so many bytes more were taken
 abbrev pub after_taking : Recording → ℕ → Recording
 after_taking e count = record e { recorded = taking e.recorded count }
+
+-- the sink with another answer about foreign content
+abbrev pub with_foreign : Recording → Bool → Recording
+with_foreign e foreign = record e { recorded = record e.recorded { foreign = foreign } }
 
 -- no byte more was taken, and what was written stays, with more after it: so what is taken next is what it was, and goes on
 pub record WritesOn (old new : Recorded) : Type 0 where

@@ -1,6 +1,6 @@
 //! A sink that writes what it is sent as records of bytes.
 ghost use Rattle.std.specs.Prelude.{◌≡◌, ◌≢◌, ℕ, Err, false, List, [], ◌∷◌, ◌+◌, ◌≤◌, ◌++◌, length, take, drop, min, string_bytes, IfOk, OnOk, OnErr};
-ghost use Rattle.html5records.specs.Recording.{Recorded, waiting, nothing_recorded, reply_by, added_by, added_by_text, recorded_step, WritesOn, closed_bytes, joined, after_taking};
+ghost use Rattle.html5records.specs.Recording.{Recorded, waiting, nothing_recorded, at_script, pause_after_tag, reply_by, with_foreign, added_by, added_by_text, recorded_step, WritesOn, closed_bytes, joined, after_taking};
 ghost use Rattle.html5records.specs.Records.{records_of};
 ghost use Rattle.html5ever_interface.specs.Sink.{Message, stepped};
 ghost use Rattle.html5ever_interface.specs.Token.Told.{End, Text};
@@ -28,6 +28,17 @@ pub enum Replies {
     /// As the standard asks, with pauses: after an end tag `script`, and after a start tag `meta` with an
     /// attribute `charset`.
     Pausing,
+    /// The caller's: it pauses after each tag, and reads on as markup where the caller sets no other state.
+    Caller,
+}
+
+/// After what it pauses.
+#[derive(Clone, Copy, Debug, PartialEq, Eq)]
+pub enum PausedAt {
+    /// An end tag `script`, by the standard's replies with pauses.
+    Script,
+    /// A tag to which the caller replies.
+    Tag,
 }
 
 /// What a sink of records answers to the tokenizer.
@@ -39,12 +50,35 @@ pub struct RecordOptions {
     pub foreign: bool,
 }
 
+// A reply by the standard, where a pause for a script says so.
+fn at_script<A: Allocator>(reply: TokenSinkResult<(), String<A>>) -> TokenSinkResult<PausedAt, String<A>>
+    ensures { reply_of string_bytes result ≡ at_script (reply_of string_bytes reply) }
+{
+    match reply {
+        TokenSinkResult::Continue => TokenSinkResult::Continue,
+        TokenSinkResult::Plaintext => TokenSinkResult::Plaintext,
+        TokenSinkResult::RawData(kind) => TokenSinkResult::RawData(kind),
+        TokenSinkResult::Script(()) => TokenSinkResult::Script(PausedAt::Script),
+        TokenSinkResult::EncodingIndicator(text) => TokenSinkResult::EncodingIndicator(text),
+    }
+}
+
 // The reply to a token by the standard, without pauses.
-fn standard_reply_to<A: Allocator>(token: &Token<A>) -> TokenSinkResult<(), String<A>>
+fn standard_reply_to<A: Allocator>(token: &Token<A>) -> TokenSinkResult<PausedAt, String<A>>
     ensures { reply_of string_bytes result ≡ reply_by Replies.Standard (told_by token.now) }
 {
     match token {
-        Token::TagToken(tag) => standard_reply(tag),
+        Token::TagToken(tag) => at_script(standard_reply(tag)),
+        _ => TokenSinkResult::Continue,
+    }
+}
+
+// A pause after each tag.
+fn pause_after_tag<A: Allocator>(token: &Token<A>) -> TokenSinkResult<PausedAt, String<A>>
+    ensures { reply_of string_bytes result ≡ pause_after_tag (told_by token.now) }
+{
+    match token {
+        Token::TagToken(_) => TokenSinkResult::Script(PausedAt::Tag),
         _ => TokenSinkResult::Continue,
     }
 }
@@ -53,13 +87,14 @@ fn standard_reply_to<A: Allocator>(token: &Token<A>) -> TokenSinkResult<(), Stri
 fn reply_to<A: Allocator + Copy>(
     replies: Replies,
     token: &Token<A>,
-) -> Result<TokenSinkResult<(), String<A>>, AllocError>
+) -> Result<TokenSinkResult<PausedAt, String<A>>, AllocError>
     ensures { IfOk result (λ reply. reply_of string_bytes reply ≡ reply_by replies (told_by token.now)) }
 {
     match replies {
         Replies::None => Ok(TokenSinkResult::Continue),
         Replies::Standard => Ok(standard_reply_to(token)),
-        Replies::Pausing => pausing_reply(token),
+        Replies::Pausing => Ok(at_script(pausing_reply(token)?)),
+        Replies::Caller => Ok(pause_after_tag(token)),
     }
 }
 
@@ -110,7 +145,7 @@ fn push_and_reply<A: Allocator + Copy>(
     replies: Replies,
     token: &Token<A>,
     line: u64,
-) -> Result<TokenSinkResult<(), String<A>>, AllocError>
+) -> Result<TokenSinkResult<PausedAt, String<A>>, AllocError>
     ensures ok { OnOk result
         (written.new.items ≡ written.old.items ++ added_by in_text (told_by token.now) line) }
     ensures replies { IfOk result
@@ -192,6 +227,13 @@ impl<A: Allocator> RecordSink<A> {
         rest_of(&self.written, self.skipped)
     }
 
+    /// Sets the answer about the current node.
+    pub fn set_foreign(&mut self, foreign: bool)
+        ensures { self.new ≡ with_foreign self.old foreign }
+    {
+        self.foreign = foreign;
+    }
+
     /// Takes so many bytes of what waits.
     pub fn skip(&mut self, count: usize)
         requires { count ≤ length (waiting self.old.recorded) }
@@ -221,7 +263,7 @@ impl<A: Allocator + Copy> TokenSink<Token<A>> for RecordSink<A> {
     ghost use Rattle.html5records.specs.Recording.{Recorded, recorded_means};
     ghost use Rattle.html5records.specs.RecordedLaws.{recorded_joins, recorded_empty, recorded_any_line, recorded_keeps_on};
 
-    type Handle = ();
+    type Handle = PausedAt;
 
     ghost State = { Recorded };
 
@@ -241,7 +283,7 @@ impl<A: Allocator + Copy> TokenSink<Token<A>> for RecordSink<A> {
         &mut self,
         token: Token<A>,
         line_number: u64,
-    ) -> Result<TokenSinkResult<(), String<A>>, SinkFault> {
+    ) -> Result<TokenSinkResult<PausedAt, String<A>>, SinkFault> {
         match push_and_reply(
             &mut self.written,
             self.in_text,

@@ -9,15 +9,18 @@ use Rattle.utf8_pieces.specs.declared.error.DecodeError.TheVariants as decoder
 use Rattle.html5ever_interface.specs.Token.{Reply}
 use Rattle.html5reading.specs.Start.{Rules}
 use Rattle.html5partial.specs.declared.error.TokenizerError.{TokenizerError}
+use Rattle.html5records.specs.declared.record_sink.PausedAt.{PausedAt}
 use Rattle.html5records.specs.Recording.{Recording, Recorded, recorded_means, WritesOn}
 use Rattle.html5ever.specs.Detached.{DetachedOf, tokenizing}
-use Rattle.html5ever.specs.Tokenizer.{Tokenizing, Feeds, FeedsItems, StopsFeeding, Finishes, FinishesItems, StopsEnding}
-use Rattle.html5session.specs.Session.{SessionOf, tokenizer_of, recorded_by, is_over, Completes, TakesPiece, RefusesBytes, FeedsText, fed_by, StopsText, FeedsPiece, LosesPiece, FeedRefused, EndsText, StopsTextEnd, EndRefused}
+use Rattle.html5ever_interface.specs.declared.states.State.{State}
+use Rattle.html5ever.specs.Tokenizer.{Tokenizing, StandsAt, Feeds, FeedsItems, StopsFeeding, Finishes, FinishesItems, StopsEnding}
+use Rattle.html5feed.specs.Starting.{in_state}
+use Rattle.html5session.specs.Session.{SessionOf, tokenizer_of, recorded_by, is_over, after_foreign, ReadsOnBy, SetsState, Completes, TakesPiece, RefusesBytes, FeedsText, fed_by, StopsText, FeedsPiece, LosesPiece, FeedRefused, EndsText, StopsTextEnd, EndRefused}
 use Rattle.html5session.specs.declared.error.SessionError.{SessionError}
-use Rattle.html5session.specs.declared.error.SessionError.TheVariants.{Memory, NotUtf8, Cut, Waiting, Over}
+use Rattle.html5session.specs.declared.error.SessionError.TheVariants.{Memory, NotUtf8, Cut, Waiting, ItemOpen, Over}
 use Rattle.html5session.specs.declared.fed.Fed.{Fed}
 use Rattle.html5session.specs.declared.fed.Fed.TheVariants.{Done}
-use Rattle.html5session.proofs.Writing.{writes_on-feed, writes_on-stopped, writes_on-end, writes_on-ending}
+use Rattle.html5session.proofs.Writing.{stands_here, writes_on-feed, writes_on-stopped, writes_on-end, writes_on-ending}
 use Rattle.markup5ever.specs.NamedReferences.{NamedReference}
 
 -- ---- sessions that are not over
@@ -40,20 +43,20 @@ rests r out references t u begins rules rested =
     subst (λ (n : List NamedReference). tokenizing out n ≡ u) (ap (λ (w : Rules). w.references) rules ∙ ap (λ (w : Tokenizing Recording). w.rules.references) begins) rested
 
 -- what was fed between `attach` and `detach`
-feeds_between : (s t u v : Tokenizing Recording) (text left : List ℕ) (reply : Reply (Unit {0})) → t ≡ s → v ≡ u
+feeds_between : (s t u v : Tokenizing Recording) (text left : List ℕ) (reply : Reply PausedAt) → t ≡ s → v ≡ u
     → Feeds recorded_means t u text left reply → Feeds recorded_means s v text left reply
 feeds_between s t u v text left reply begins ends feeds =
     subst (λ (w : Tokenizing Recording). Feeds recorded_means w v text left reply) begins
     (subst (λ (w : Tokenizing Recording). Feeds recorded_means t w text left reply) (sym ends) feeds)
 
-items_between : (s t u v : Tokenizing Recording) (text left : List ℕ) (reply : Reply (Unit {0})) → t ≡ s → v ≡ u
+items_between : (s t u v : Tokenizing Recording) (text left : List ℕ) (reply : Reply PausedAt) → t ≡ s → v ≡ u
     → FeedsItems recorded_means t u text left reply → FeedsItems recorded_means s v text left reply
 items_between s t u v text left reply begins ends items =
     subst (λ (w : Tokenizing Recording). FeedsItems recorded_means w v text left reply) begins
     (subst (λ (w : Tokenizing Recording). FeedsItems recorded_means t w text left reply) (sym ends) items)
 
 -- a feed of the tokenizer is a feed of the session
-pub feeds_text : (r out : DetachedOf Recording) (references : List NamedReference) (t u : Tokenizing Recording) (text left : List ℕ) (fed : Fed) (reply : Reply (Unit {0}))
+pub feeds_text : (r out : DetachedOf Recording) (references : List NamedReference) (t u : Tokenizing Recording) (text left : List ℕ) (fed : Fed) (reply : Reply PausedAt)
     → r.failed ≡ false → r.ended ≡ false
     → t ≡ tokenizing r references → u.rules ≡ t.rules → tokenizing out u.rules.references ≡ u
     → Feeds recorded_means t u text left reply → FeedsItems recorded_means t u text left reply
@@ -205,6 +208,7 @@ feed_refused (Err Memory) s mid t bytes going takes kept stops memory =
 feed_refused (Err (NotUtf8 place)) s mid t bytes going takes kept stops memory = absurd cc
 feed_refused (Err Cut) s mid t bytes going takes kept stops memory = absurd cc
 feed_refused (Err Waiting) s mid t bytes going takes kept stops memory = absurd cc
+feed_refused (Err ItemOpen) s mid t bytes going takes kept stops memory = absurd cc
 feed_refused (Err Over) s mid t bytes going takes kept stops memory = absurd cc
 
 -- all else but the tokenizer is as it was
@@ -233,4 +237,25 @@ end_refused (Err Memory) s t out lost going read whole same is stops memory =
 end_refused (Err (NotUtf8 place)) s t out lost going read whole same is stops memory = absurd cc
 end_refused (Err Cut) s t out lost going read whole same is stops memory = absurd cc
 end_refused (Err Waiting) s t out lost going read whole same is stops memory = absurd cc
+end_refused (Err ItemOpen) s t out lost going read whole same is stops memory = absurd cc
 end_refused (Err Over) s t out lost going read whole same is stops memory = absurd cc
+
+-- ---- replies of the caller
+
+-- what follows is read from where the session stands
+pub reads_on_by : (s t : SessionOf) (foreign : Bool) → t ≡ after_foreign s foreign → ReadsOnBy s t
+reads_on_by s t foreign is going =
+    let goes = goes_on s.lost s.detached.failed s.detached.ended going in
+    subst (λ (w : SessionOf). StandsAt recorded_means (tokenizer_of w) s.detached.position (recorded_by w) []) (sym is)
+    (stands_here (tokenizer_of (after_foreign s foreign)) goes.1 goes.2)
+
+-- a session with another state
+pub sets_state : (s t : SessionOf) (state : State) → is_over s ≡ false
+    → t ≡ record s { detached = record s.detached { position = in_state s.detached.position state } } → SetsState s t state
+sets_state s t state going is =
+    let goes = goes_on s.lost s.detached.failed s.detached.ended going in
+    record {
+      stands = subst (λ (w : SessionOf). StandsAt recorded_means (tokenizer_of w) (in_state s.detached.position state) (recorded_by s) []) (sym is)
+          (stands_here (tokenizer_of (record s { detached = record s.detached { position = in_state s.detached.position state } })) goes.1 goes.2);
+      kept = is;
+    }

@@ -4,6 +4,7 @@ use Rattle.html5ever_interface.specs.Sink.{Message}
 use Rattle.html5ever_interface.specs.Token.{Reply}
 use Rattle.html5ever.proofs.Standing.{StandsAt-start}
 use Rattle.html5ever.specs.Tokenizer.{Tokenizing, StandsAt, EndStops, Feeds, StopsFeeding, Finishes, StopsEnding}
+use Rattle.html5records.specs.declared.record_sink.PausedAt.{PausedAt}
 use Rattle.html5records.specs.Recording.{Recording, Recorded, recorded_faulted, recorded_means, recorded_step, WritesOn}
 use Rattle.html5records.proofs.Recordings.{writes_on}
 use Rattle.html5partial.specs.declared.error.TokenizerError.{TokenizerError}
@@ -25,10 +26,10 @@ writes_on-end_stops Sink r t M (inr is) = subst (WritesOn r) (sym is) (writes_on
 writes_on-end_stops Failed r t M stops = absurd stops
 
 -- it stands where it is
-stands_here : (t : Tokenizing Recording) → t.failed ≡ false → t.ended ≡ false → StandsAt recorded_means t t.position t.sink.recorded []
+pub stands_here : (t : Tokenizing Recording) → t.failed ≡ false → t.ended ≡ false → StandsAt recorded_means t t.position t.sink.recorded []
 stands_here t not_failed going_on = StandsAt-start recorded_means t t.position refl not_failed going_on
 
-pub writes_on-feed : (old new : Tokenizing Recording) (text left : List ℕ) (reply : Reply (Unit {0})) → old.failed ≡ false → old.ended ≡ false
+pub writes_on-feed : (old new : Tokenizing Recording) (text left : List ℕ) (reply : Reply PausedAt) → old.failed ≡ false → old.ended ≡ false
     → Feeds recorded_means old new text left reply → WritesOn old.sink.recorded new.sink.recorded
 writes_on-feed old new text left reply not_failed going_on feeds =
     let fed = feeds old.position old.sink.recorded [] (stands_here old not_failed going_on) in

@@ -7,14 +7,18 @@ use Rattle.markup5ever.specs.NamedReferences.{NamedReference}
 use Rattle.html5ever_interface.specs.Token.{Reply}
 use Rattle.html5ever_interface.specs.Token.Reply.{RunScript, SwitchEncoding}
 use Rattle.html5partial.specs.declared.error.TokenizerError.{TokenizerError}
-use Rattle.html5records.specs.Recording.{Recording, Recorded, recorded_means, taking, after_taking, WritesOn}
+use Rattle.html5feed.specs.Starting.{in_state}
+use Rattle.html5records.specs.Recording.{Recording, Recorded, recorded_means, taking, after_taking, with_foreign, WritesOn}
+use Rattle.html5records.specs.declared.record_sink.PausedAt.{PausedAt}
+use Rattle.html5records.specs.declared.record_sink.PausedAt.TheVariants as paused
 use Rattle.html5ever.specs.Detached.{DetachedOf, tokenizing}
 use Rattle.html5ever.specs.Tokenizer.{Tokenizing, StandsAt, Feeds, FeedsItems, StopsFeeding, Finishes, FinishesItems, StopsEnding}
-use Rattle.html5reading.specs.Start.{Start}
+use Rattle.html5ever_interface.specs.declared.states.State.{State}
+use Rattle.html5reading.specs.Start.{Start, nothing_open}
 use Rattle.html5session.specs.declared.error.SessionError.{SessionError}
-use Rattle.html5session.specs.declared.error.SessionError.TheVariants.{Memory, NotUtf8, Cut, Waiting, Over}
+use Rattle.html5session.specs.declared.error.SessionError.TheVariants.{Memory, NotUtf8, Cut, Waiting, ItemOpen, Over}
 use Rattle.html5session.specs.declared.fed.Fed.{Fed}
-use Rattle.html5session.specs.declared.fed.Fed.TheVariants.{Done, Script, Encoding}
+use Rattle.html5session.specs.declared.fed.Fed.TheVariants.{Done, Script, Encoding, Tag}
 
 -- what contracts see of a session
 pub record SessionOf : Type 0 where
@@ -89,14 +93,15 @@ IsNotUtf8 other = ⊥
 -- ---- what one feed of the text that waits does
 
 -- the pause that a reply asks for
-abbrev pub fed_by : Reply (Unit {0}) → Fed
-fed_by (RunScript handle) = Script
+abbrev pub fed_by : Reply PausedAt → Fed
+fed_by (RunScript paused.Script) = Script
+fed_by (RunScript paused.Tag) = Tag
 fed_by (SwitchEncoding text) = Encoding
 fed_by other = Done
 
 -- from wherever the tokenizer stood, a beginning of the text was read, up to a pause or all of it, and the rest waits
 pub record FeedsText (old new : Tokenizing Recording) (text left : List ℕ) (fed : Fed) : Type 0 where
-  pub reply : Reply (Unit {0})
+  pub reply : Reply PausedAt
   pub feeds : Feeds recorded_means old new text left reply
   pub items : FeedsItems recorded_means old new text left reply
   pub pause : fed ≡ fed_by reply
@@ -135,6 +140,7 @@ FeedRefused old new bytes Memory = (new ≡ old) ⊎ LosesPiece old new bytes
 FeedRefused old new bytes (NotUtf8 place) = RefusesBytes old new bytes place
 FeedRefused old new bytes Cut = ⊥
 FeedRefused old new bytes Waiting = ⊥
+FeedRefused old new bytes ItemOpen = ⊥
 FeedRefused old new bytes Over = StaysOver old new
 
 -- from wherever the tokenizer stood, the whole reading was sent
@@ -170,4 +176,24 @@ EndRefused old new Memory = LosesEnd old new
 EndRefused old new (NotUtf8 place) = ⊥
 EndRefused old new Cut = (new ≡ old) × (old.text ≡ []) × (old.decoder.held ≢ [])
 EndRefused old new Waiting = (new ≡ old) × (old.text ≢ [])
+EndRefused old new ItemOpen = ⊥
 EndRefused old new Over = StaysOver old new
+
+-- ---- replies of the caller
+
+-- no item is open: so what follows can be read in any state
+abbrev pub nothing_open_in : SessionOf → Bool
+nothing_open_in s = nothing_open s.detached.position.opened
+
+-- what follows is read in this state, and all else is as it was
+pub record SetsState (old new : SessionOf) (state : State) : Type 0 where
+  pub stands : StandsAt recorded_means (tokenizer_of new) (in_state old.detached.position state) (recorded_by old) []
+  pub kept : new ≡ record old { detached = record old.detached { position = in_state old.detached.position state } }
+
+-- the answer about foreign content is this one from here on, and all else is as it was
+abbrev pub after_foreign : SessionOf → Bool → SessionOf
+after_foreign s foreign = record s { detached = record s.detached { sink = with_foreign s.detached.sink foreign } }
+
+-- where more is read, it is read from the place that was reached, by that answer
+abbrev pub ReadsOnBy : SessionOf → SessionOf → Type 0
+ReadsOnBy old new = is_over old ≡ false → StandsAt recorded_means (tokenizer_of new) old.detached.position (recorded_by new) []

@@ -16,6 +16,9 @@ pub enum SessionError {
     /// The page ends while text waits after a pause.
     #[error("text waits to be fed")]
     Waiting,
+    /// No state can be set within a tag or another item.
+    #[error("a tag or another item is open")]
+    ItemOpen,
     /// The page has ended, or an earlier call failed.
     #[error("the session is over")]
     Over,

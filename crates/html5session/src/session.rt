@@ -1,5 +1,5 @@
 //! A tokenizer with its table, its sink of records, and the bytes and the text that wait.
-ghost use Rattle.std.specs.Prelude.{◌≡◌, ◌≢◌, ◌↔◌, ◌⊎◌, ◌++◌, [], true, false, length, take, drop, min, is_err, OnOk, OnErr, IfOk, IfErr, IsErrAnd};
+ghost use Rattle.std.specs.Prelude.{◌≡◌, ◌≢◌, ◌↔◌, ◌⊎◌, ◌++◌, [], true, false, Some, length, take, drop, min, is_err, OnOk, OnErr, IfOk, IfErr, IsErrAnd};
 ghost use Rattle.std.specs.Str.{chars};
 ghost use Rattle.utf8_pieces.specs.Pieces.{IsNeverUtf8};
 ghost use Rattle.html5ever.specs.Detached.{tokenizing};
@@ -8,7 +8,7 @@ ghost use Rattle.html5ever_interface.specs.Options.{options_of};
 ghost use Rattle.html5records.specs.Recording.{recorded_means, none_recorded, nothing_recorded, waiting};
 ghost use Rattle.html5feed.specs.Starting.{CanStart};
 ghost use Rattle.html5reading.specs.Start.{start_of};
-ghost use Rattle.html5session.specs.Session.{is_over, tokenizer_of, recorded_by, after_session_takes, StandsOn, FeedsText, StopsText, EndsText, StopsTextEnd};
+ghost use Rattle.html5session.specs.Session.{is_over, tokenizer_of, recorded_by, after_session_takes, nothing_open_in, after_foreign, StandsOn, ReadsOnBy, SetsState, FeedsText, StopsText, EndsText, StopsTextEnd};
 ghost use Rattle.html5session.specs.Session.{TakesPiece, FeedsPiece, FeedRefused, EndsSession, EndRefused, IsNotUtf8};
 
 use crate::error::SessionError;
@@ -16,6 +16,7 @@ use crate::fed::{Fed, fed_of};
 use html5ever::tokenizer::{
     BufferQueue, DetachedTokenizer, NamedReferences, Tokenizer, TokenizerOpts,
 };
+use html5ever_interface::states::State;
 use html5records::record_sink::{RecordOptions, RecordSink};
 use std::alloc::{Allocator, Global};
 use std::marker::Model;
@@ -127,6 +128,15 @@ impl<A: Allocator> Session<A> {
         ensures stands { StandsOn self.old self.new result }
     {
         self.detached.sink.take(into)
+    }
+
+    /// Sets whether the current node is outside the HTML namespace, so that `<![CDATA[` begins a section in what
+    /// follows. A tree builder that replies to each tag sets it before it goes on, where its answer changes.
+    pub fn set_foreign(&mut self, foreign: bool)
+        ensures set { self.new ≡ after_foreign self.old foreign }
+        ensures reads_on { ReadsOnBy self.old self.new }
+    {
+        self.detached.sink.set_foreign(foreign);
     }
 }
 
@@ -255,6 +265,27 @@ impl<A: Allocator + Copy> Session<A> {
         match self.queue.push_front(text) {
             Ok(()) => Ok(()),
             Err(_) => Err(SessionError::Memory),
+        }
+    }
+
+    /// Reads what follows in the state, as a tree builder asks after a start tag at which it paused. Raw text is read
+    /// up to the end tag of the last start tag. It is refused, and changes nothing, while a tag or another item is open.
+    pub fn set_state(&mut self, state: State) -> Result<(), SessionError>
+        requires { CanStart (Some state) }
+        ensures sets { OnOk result (SetsState self.old self.new state) }
+        ensures err { OnErr result (self.new ≡ self.old) }
+        ensures over { (result ≡ Err SessionError.Over) ↔ (is_over self.old ≡ true) }
+        ensures item_open { (result ≡ Err SessionError.ItemOpen)
+            ↔ ((is_over self.old ≡ false) × (nothing_open_in self.old ≡ false)) }
+        ensures errors { IfErr result (λ error. (error ≡ SessionError.ItemOpen) ⊎ (error ≡ SessionError.Over)) }
+    {
+        if self.is_over() {
+            Err(SessionError::Over)
+        } else if !self.detached.nothing_open() {
+            Err(SessionError::ItemOpen)
+        } else {
+            self.detached.set_state(state);
+            Ok(())
         }
     }
 

@@ -1,5 +1,6 @@
 use crate::{Fed, Session, SessionError};
 use html5ever::tokenizer::{NamedReferences, TokenizerOpts};
+use html5ever_interface::states::{RawKind, State};
 use html5records::reading::{TokenRecord, read_record};
 use html5records::record_sink::{RecordOptions, Replies};
 use std::alloc::{AllocError, Global};
@@ -109,4 +110,32 @@ fn bytes_that_are_no_text_change_nothing_else(rt: HostRuntime) {
     assert!(rt; ended == Ok(()));
     let (_, fed) = session.feed(b"d");
     assert!(rt; fed == Err(SessionError::Over));
+}
+
+#[test]
+fn the_caller_replies_to_each_tag(rt: HostRuntime) {
+    let mut records = Vec::new(rt.alloc());
+    let session = session(&rt, rt.alloc(), Replies::Caller);
+    let (mut session, fed) = session.feed(b"<style><b></style><svg><![CDATA[<c>]]><p");
+    assert!(rt; fed == Ok(Fed::Tag));
+    assert!(rt; session.set_state(State::RawData(RawKind::Rawtext)) == Ok(()));
+    let (session, fed) = session.feed(b"");
+    assert!(rt; fed == Ok(Fed::Tag));
+    let (mut session, fed) = session.feed(b"");
+    assert!(rt; fed == Ok(Fed::Tag));
+    session.set_foreign(true);
+    let (mut session, fed) = session.feed(b"");
+    assert!(rt; fed == Ok(Fed::Done));
+    assert!(rt; session.set_state(State::Plaintext) == Err(SessionError::ItemOpen));
+    let (session, fed) = session.feed(b">");
+    assert!(rt; fed == Ok(Fed::Tag));
+    let (mut session, ended) = session.end();
+    assert!(rt; ended == Ok(()));
+    assert!(rt; session.set_state(State::Data) == Err(SessionError::Over));
+    take_all(&mut session, &mut records).expect(&rt, "memory");
+    let names = names_in(rt.alloc(), &records).expect(&rt, "memory");
+    assert_eq!(rt;
+        names.as_slice(),
+        b"style <b> style svg <c> p end ".as_slice()
+    );
 }

@@ -79,6 +79,7 @@ fn of_bytes_that_come_in(rt: HostRuntime) -> Result<(), Fail> {
         (SessionError::NotUtf8 { valid_up_to: 7 }, NO_UTF8),
         (SessionError::Cut, "the bytes end within a character"),
         (SessionError::Waiting, "text waits to be fed"),
+        (SessionError::ItemOpen, "a tag or another item is open"),
         (SessionError::Over, "the session is over"),
     ];
     check_texts(&rt, rt.alloc(), &session)?;

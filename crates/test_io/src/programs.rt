@@ -275,7 +275,7 @@ fn goes_by_its_words(rt: HostRuntime) -> Result<(), Fail> {
         LINKS,
         &["--version", "no-such-file"],
         0,
-        "prog 0.2.0\n",
+        "prog 0.3.0\n",
         "",
     )?;
     check_words(&rt, LINKS, &["--version", "--help"], 0, PROGRAM.help, "")?;

@@ -2,7 +2,7 @@ use crate::made::{RECORDS, TOKENS, bare_tag, token_at};
 use html5ever_interface::interface::sink::TokenSink;
 use html5ever_interface::interface::token::{TagKind, TokenSinkResult};
 use html5ever_interface::states::RawKind;
-use html5records::record_sink::{RecordOptions, RecordSink, Replies};
+use html5records::record_sink::{PausedAt, RecordOptions, RecordSink, Replies};
 use std::alloc::Global;
 use std::process::Abort;
 use testing_alloc::Refusing;
@@ -85,7 +85,19 @@ fn replies_where_it_is_asked_to(rt: HostRuntime) {
             Replies::Pausing,
             TagKind::EndTag,
             "script",
-            TokenSinkResult::Script(()),
+            TokenSinkResult::Script(PausedAt::Script),
+        ),
+        (
+            Replies::Caller,
+            start,
+            "title",
+            TokenSinkResult::Script(PausedAt::Tag),
+        ),
+        (
+            Replies::Caller,
+            TagKind::EndTag,
+            "p",
+            TokenSinkResult::Script(PausedAt::Tag),
         ),
     ];
     for (replies, kind, name, reply) in cases {

@@ -15,6 +15,7 @@ class Status(enum.IntEnum):
     BAD_OPTION = 9
     BAD_POLICY = 10
     POLICY_NOT_UTF8 = 11
+    ITEM_OPEN = 13
 
 
 _SAID = {
@@ -25,6 +26,7 @@ _SAID = {
     Status.OVER: "the page has ended, or an earlier call was refused for good",
     Status.CLOSED: "it is closed",
     Status.BAD_OPTION: "an option has no such value",
+    Status.ITEM_OPEN: "a tag or another item is open, so no state can be set",
 }
 
 

@@ -35,6 +35,8 @@ _CALLS = {
     "html5_new": ([_HANDLE, *_BYTES, ctypes.POINTER(Options)], _STATUS),
     "html5_feed": ([_HANDLE, *_BYTES], _STATUS),
     "html5_insert": ([_HANDLE, *_BYTES], _STATUS),
+    "html5_reply": ([_HANDLE, _STATUS], _STATUS),
+    "html5_set_foreign": ([_HANDLE, ctypes.c_bool], _STATUS),
     "html5_end": ([_HANDLE], _STATUS),
     "html5_take": ([_HANDLE, *_BYTES], ctypes.c_size_t),
     "html5_error_at": ([_HANDLE], ctypes.c_uint64),
@@ -77,9 +79,13 @@ ROOM = 1 << 16
 
 def taken(take, handle, room):
     """All the bytes that wait in a handle."""
-    parts = []
-    while count := take(handle, room, ROOM):
-        parts.append(ctypes.string_at(room, count))
+    count = take(handle, room, ROOM)
+    if count < ROOM:
+        return room[:count]
+    parts = [room[:count]]
+    while count == ROOM:
+        count = take(handle, room, ROOM)
+        parts.append(room[:count])
     return b"".join(parts)
 
 

@@ -10,7 +10,7 @@ from ._records import EndTag, Reader, StartTag, Text, Token
 
 
 class State(enum.IntEnum):
-    """The state in which a reading starts."""
+    """The state in which a reading starts, or goes on after a reply."""
 
     DATA = 0
     PLAINTEXT = 1
@@ -26,6 +26,7 @@ class Replies(enum.IntEnum):
     STANDARD = 0  # scripts, styles, titles and their like are no markup
     NONE = 1  # all is markup
     PAUSING = 2  # as the standard's, and it pauses after </script> and <meta charset=..>
+    CALLER = 3  # it pauses after each tag, and all is markup unless `reply` says otherwise
 
 
 class Fed(enum.IntEnum):
@@ -34,6 +35,10 @@ class Fed(enum.IntEnum):
     DONE = 0
     SCRIPT = 1
     ENCODING = 2
+    TAG = 12
+
+
+_PAUSES = frozenset(Fed)
 
 
 class Tokenizer:
@@ -90,6 +95,15 @@ class Tokenizer:
         text = bytes_of(text)
         self._checked(library.html5_insert(self._handle, text, len(text)))
 
+    def reply(self, state: State) -> None:
+        """Reads what follows in a state, as a tree builder asks after a start tag. Raw text is read up to the end tag of
+        the last start tag. Within a tag or another item, which is never so after a pause, it is refused."""
+        self._checked(library.html5_reply(self._handle, state))
+
+    def set_foreign(self, foreign: bool) -> None:
+        """Says whether the current node is outside the HTML namespace, so that <![CDATA[ opens a section."""
+        self._checked(library.html5_set_foreign(self._handle, foreign))
+
     def end(self) -> None:
         """Ends the page."""
         self._checked(library.html5_end(self._handle))
@@ -103,7 +117,7 @@ class Tokenizer:
         return iter(self._reader.read(taken(library.html5_take, self._handle, self._room)))
 
     def _checked(self, status):
-        if status < Status.NO_MEMORY:
+        if status in _PAUSES:
             return status
         at = library.html5_error_at(self._handle) if status == Status.NOT_UTF8 else None
         raise TokenizerError(Status(status), at)

@@ -1,8 +1,11 @@
 //! A tokenizer between two calls, which borrows no table.
-ghost use Rattle.std.specs.Prelude.{◌≡◌};
+ghost use Rattle.std.specs.Prelude.{◌≡◌, true, Some};
 ghost use Rattle.html5ever.specs.Detached.{tokenizing};
+ghost use Rattle.html5feed.specs.Starting.{CanStart, in_state};
+ghost use Rattle.html5reading.specs.Start.{nothing_open};
 
 use crate::tokenizer::Tokenizer;
+use html5ever_interface::states::State;
 use html5feed::position::Position;
 use html5feed::rules::Rules;
 use markup5ever::data::NamedReferences;
@@ -85,5 +88,24 @@ impl<Sink, A: Allocator> DetachedTokenizer<Sink, A> {
         ensures { result ≡ self.now.failed }
     {
         self.failed
+    }
+}
+
+impl<Sink, A: Allocator + Copy> DetachedTokenizer<Sink, A> {
+    /// Whether no item is open, so that a state can be set: at the start, and after a tag at which it paused.
+    pub fn nothing_open(&self) -> bool
+        ensures { result ≡ nothing_open self.now.position.opened }
+    {
+        self.position.nothing_open()
+    }
+
+    /// Reads what follows in the state, as a tree builder asks after a start tag. Raw text is read up to the
+    /// end tag of the last start tag.
+    pub fn set_state(&mut self, state: State)
+        requires can_start { CanStart (Some state) }
+        requires nothing_open { nothing_open self.old.position.opened ≡ true }
+        ensures { self.new ≡ record self.old { position = in_state self.old.position state } }
+    {
+        self.position.set_state(state);
     }
 }

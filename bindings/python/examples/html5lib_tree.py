@@ -1,0 +1,157 @@
+"""Trees by html5lib's tree construction, of tokens that firnuubal reads.
+
+    python3 html5lib_tree.py [FILE]
+
+`Parser` is html5lib's HTMLParser over a tokenizer of its interface, which takes its tokens from firnuubal: it pauses after
+each tag, and the tree construction says in which state it goes on, and whether the content is foreign. Encodings stay
+html5lib's. A parse error has firnuubal's message in place of html5lib's code, and a line without a column.
+
+html5lib is Debian's python3-html5lib.
+"""
+
+import sys
+
+import html5lib
+from html5lib._inputstream import HTMLInputStream
+from html5lib.constants import _ReparseException, spaceCharacters, tokenTypes
+
+import firnuubal
+from firnuubal import Comment, Doctype, EndTag, Fed, Instruction, NullCharacter, ParseError, Replies, StartTag, State, Text
+
+_PIECE = 1 << 16
+_SPACES = "".join(spaceCharacters)
+_CHARACTERS, _SPACE_CHARACTERS = tokenTypes["Characters"], tokenTypes["SpaceCharacters"]
+
+
+def _texts(text):
+    """A text as html5lib has it: the white space that it begins with is a token of its own."""
+    rest = text.lstrip(_SPACES)
+    if len(rest) < len(text):
+        yield {"type": _SPACE_CHARACTERS, "data": text[: len(text) - len(rest)]}
+    if rest:
+        yield {"type": _CHARACTERS, "data": rest}
+
+
+def _tag(kind, tag, attributes):
+    return {
+        "type": tokenTypes[kind],
+        "name": tag.name,
+        "data": attributes,
+        "selfClosing": tag.self_closing,
+        "selfClosingAcknowledged": False,
+    }
+
+
+def _doctype(token):
+    return {
+        "type": tokenTypes["Doctype"],
+        "name": token.name or "",
+        "publicId": token.public_id,
+        "systemId": token.system_id,
+        "correct": not token.force_quirks,
+    }
+
+
+def _tokens_of(token):
+    """The tokens of html5lib that a token is. That of the end is none."""
+    kind = type(token)
+    if kind is Text:
+        yield from _texts(token.text)
+    elif kind is StartTag:
+        yield _tag("StartTag", token, dict(token.attributes))
+    elif kind is EndTag:
+        yield _tag("EndTag", token, [])
+    elif kind is Comment:
+        yield {"type": tokenTypes["Comment"], "data": token.text}
+    elif kind is Instruction:
+        yield {"type": tokenTypes["Comment"], "data": "?" + token.content}
+    elif kind is Doctype:
+        yield _doctype(token)
+    elif kind is NullCharacter:
+        yield {"type": _CHARACTERS, "data": "\0"}
+    elif kind is ParseError:
+        yield {"type": tokenTypes["ParseError"], "data": token.message}
+
+
+class HTMLTokenizer:
+    """What html5lib's tree construction asks of its tokenizer: tokens, `stream`, and a `state` that it may set."""
+
+    dataState = State.DATA
+    rcdataState = State.RCDATA
+    rawtextState = State.RAWTEXT
+    scriptDataState = State.SCRIPT_DATA
+    plaintextState = State.PLAINTEXT
+
+    def __init__(self, stream, parser, **kwargs):
+        self.stream = HTMLInputStream(stream, **kwargs)
+        self.stream.position = lambda: (self._line, 0)
+        self._parser = parser
+        self._line = 1
+        self._state = State.DATA
+        self._foreign = False
+        self._tokenizer = None
+
+    @property
+    def state(self):
+        return self._state
+
+    @state.setter
+    def state(self, state):
+        self._state = state
+        if self._tokenizer:
+            self._tokenizer.reply(state)
+
+    def __iter__(self):
+        options = {"replies": Replies.CALLER, "state": self._state, "keep_bom": True}
+        with firnuubal.Tokenizer(**options) as self._tokenizer:
+            self._foreign = False
+            while piece := self.stream.dataStream.read(_PIECE):
+                fed = self._tokenizer.feed(piece.encode(errors="replace"))
+                yield from self._told()
+                while fed == Fed.TAG:
+                    fed = self._go_on()
+                    yield from self._told()
+            self._tokenizer.end()
+            yield from self._told()
+        self._tokenizer = None
+
+    def _told(self):
+        for token in self._tokenizer.tokens():
+            self._line = token.line
+            yield from _tokens_of(token)
+
+    def _go_on(self):
+        """Reads on after a tag that the tree construction has taken."""
+        tree = self._parser.tree
+        foreign = bool(tree.openElements) and tree.openElements[-1].namespace != tree.defaultNamespace
+        if foreign != self._foreign:
+            self._foreign = foreign
+            self._tokenizer.set_foreign(foreign)
+        return self._tokenizer.feed(b"")
+
+
+class Parser(html5lib.HTMLParser):
+    """html5lib's parser over this tokenizer."""
+
+    def _parse(self, stream, innerHTML=False, container="div", scripting=False, **kwargs):
+        self.innerHTMLMode = innerHTML
+        self.container = container
+        self.scripting = scripting
+        self.tokenizer = HTMLTokenizer(stream, self, **kwargs)
+        self.reset()
+        try:
+            self.mainLoop()
+        except _ReparseException:
+            self.reset()
+            self.mainLoop()
+
+
+def main():
+    page = open(sys.argv[1], "rb") if len(sys.argv) > 1 else sys.stdin.buffer
+    with page:
+        tree = Parser().parse(page)
+    sys.stdout.write(html5lib.serialize(tree, omit_optional_tags=False, quote_attr_values="always"))
+
+
+if __name__ == "__main__":
+    main()
