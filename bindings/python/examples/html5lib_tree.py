@@ -16,7 +16,7 @@ from html5lib._inputstream import HTMLInputStream
 from html5lib.constants import _ReparseException, spaceCharacters, tokenTypes
 
 import firnuubal
-from firnuubal import Comment, Doctype, EndTag, Fed, Instruction, NullCharacter, ParseError, Replies, StartTag, State, Text
+from firnuubal import Comment, Doctype, End, EndTag, Fed, Instruction, NullCharacter, ParseError, Replies, StartTag, State, Text
 
 _PIECE = 1 << 16
 _SPACES = "".join(spaceCharacters)
@@ -26,10 +26,12 @@ _CHARACTERS, _SPACE_CHARACTERS = tokenTypes["Characters"], tokenTypes["SpaceChar
 def _texts(text):
     """A text as html5lib has it: the white space that it begins with is a token of its own."""
     rest = text.lstrip(_SPACES)
+    made = []
     if len(rest) < len(text):
-        yield {"type": _SPACE_CHARACTERS, "data": text[: len(text) - len(rest)]}
+        made.append({"type": _SPACE_CHARACTERS, "data": text[: len(text) - len(rest)]})
     if rest:
-        yield {"type": _CHARACTERS, "data": rest}
+        made.append({"type": _CHARACTERS, "data": rest})
+    return made
 
 
 def _tag(kind, tag, attributes):
@@ -52,25 +54,18 @@ def _doctype(token):
     }
 
 
-def _tokens_of(token):
-    """The tokens of html5lib that a token is. That of the end is none."""
-    kind = type(token)
-    if kind is Text:
-        yield from _texts(token.text)
-    elif kind is StartTag:
-        yield _tag("StartTag", token, dict(token.attributes))
-    elif kind is EndTag:
-        yield _tag("EndTag", token, [])
-    elif kind is Comment:
-        yield {"type": tokenTypes["Comment"], "data": token.text}
-    elif kind is Instruction:
-        yield {"type": tokenTypes["Comment"], "data": "?" + token.content}
-    elif kind is Doctype:
-        yield _doctype(token)
-    elif kind is NullCharacter:
-        yield {"type": _CHARACTERS, "data": "\0"}
-    elif kind is ParseError:
-        yield {"type": tokenTypes["ParseError"], "data": token.message}
+# The tokens of html5lib that a token is, by its kind.
+_MADE = {
+    Text: lambda token: _texts(token.text),
+    StartTag: lambda token: [_tag("StartTag", token, dict(token.attributes))],
+    EndTag: lambda token: [_tag("EndTag", token, [])],
+    Comment: lambda token: [{"type": tokenTypes["Comment"], "data": token.text}],
+    Instruction: lambda token: [{"type": tokenTypes["Comment"], "data": "?" + token.content}],
+    Doctype: lambda token: [_doctype(token)],
+    NullCharacter: lambda token: [{"type": _CHARACTERS, "data": "\0"}],
+    ParseError: lambda token: [{"type": tokenTypes["ParseError"], "data": token.message}],
+    End: lambda token: [],
+}
 
 
 class HTMLTokenizer:
@@ -103,14 +98,18 @@ class HTMLTokenizer:
 
     def __iter__(self):
         options = {"replies": Replies.CALLER, "state": self._state, "keep_bom": True}
+        self._foreign = False
         with firnuubal.Tokenizer(**options) as self._tokenizer:
-            self._foreign = False
+            feed = self._tokenizer.feed
             while piece := self.stream.dataStream.read(_PIECE):
-                fed = self._tokenizer.feed(piece.encode(errors="replace"))
+                fed = feed(piece.encode(errors="replace"))
                 yield from self._told()
-                while fed == Fed.TAG:
-                    fed = self._go_on()
-                    yield from self._told()
+                while fed is Fed.TAG:
+                    self._follow_foreign()
+                    fed = feed(b"")
+                    for token in self._tokenizer.tokens():
+                        self._line = token.line
+                        yield from _MADE[type(token)](token)
             self._tokenizer.end()
             yield from self._told()
         self._tokenizer = None
@@ -118,16 +117,15 @@ class HTMLTokenizer:
     def _told(self):
         for token in self._tokenizer.tokens():
             self._line = token.line
-            yield from _tokens_of(token)
+            yield from _MADE[type(token)](token)
 
-    def _go_on(self):
-        """Reads on after a tag that the tree construction has taken."""
+    def _follow_foreign(self):
+        """Says whether content is foreign, by the tree that the tags so far have made."""
         tree = self._parser.tree
         foreign = bool(tree.openElements) and tree.openElements[-1].namespace != tree.defaultNamespace
         if foreign != self._foreign:
             self._foreign = foreign
             self._tokenizer.set_foreign(foreign)
-        return self._tokenizer.feed(b"")
 
 
 class Parser(html5lib.HTMLParser):

@@ -78,7 +78,7 @@ fn print_waiting(out: &mut impl Write, tokenizer: &mut Tokenizer, fed: Fed) -> i
         }
     }
     match fed {
-        Fed::Done => Ok(()),
+        Fed::Done | Fed::Tag => Ok(()),
         Fed::Script => writeln!(out, "pause script"),
         Fed::Encoding => writeln!(out, "pause encoding {}", Quoted(charset)),
     }

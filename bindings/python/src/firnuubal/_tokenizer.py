@@ -38,7 +38,7 @@ class Fed(enum.IntEnum):
     TAG = 12
 
 
-_PAUSES = frozenset(Fed)
+_FED = {fed.value: fed for fed in Fed}
 
 
 class Tokenizer:
@@ -65,6 +65,7 @@ class Tokenizer:
         tags: Optional[Iterable[str]] = None,
     ):
         self._handle = Handle()
+        self._at = ctypes.byref(self._handle)
         self._reader = Reader(errors, texts, tags)
         self._room = ctypes.create_string_buffer(ROOM)
         options = Options(state, replies, exact_errors, keep_bom, foreign)
@@ -87,8 +88,10 @@ class Tokenizer:
 
     def feed(self, piece) -> Fed:
         """Reads the next piece, a text or bytes. After a pause it goes on, with what waits and this piece."""
-        piece = bytes_of(piece)
-        return Fed(self._checked(library.html5_feed(self._handle, piece, len(piece))))
+        if type(piece) is not bytes:
+            piece = bytes_of(piece)
+        status = library.html5_feed(self._at, piece, len(piece))
+        return _FED.get(status) or self._checked(status)
 
     def insert(self, text: str) -> None:
         """Puts a text in front of what waits, as document.write does."""
@@ -114,11 +117,11 @@ class Tokenizer:
 
     def tokens(self) -> Iterator[Token]:
         """The tokens that were sent and not read yet. A text comes when its end is known."""
-        return iter(self._reader.read(taken(library.html5_take, self._handle, self._room)))
+        return iter(self._reader.read(taken(library.html5_take, self._at, self._room)))
 
     def _checked(self, status):
-        if status in _PAUSES:
-            return status
+        if status == Fed.DONE:
+            return Fed.DONE
         at = library.html5_error_at(self._handle) if status == Status.NOT_UTF8 else None
         raise TokenizerError(Status(status), at)
 
