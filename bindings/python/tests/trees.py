@@ -4,7 +4,8 @@
 
 The cases are random texts; the pages are the .html files below the folders. Left out is what html5lib's tokenizer reads
 otherwise than the standard: texts with a NUL directly after `<!--`, where a `>` that follows ends its comment, and with
-one in a CDATA section, which it makes U+FFFD.
+one in a CDATA section, which it makes U+FFFD. So are framesets: of a text in one html5lib keeps white space or doesn't,
+as its tokenizer happens to cut it.
 """
 
 import argparse
@@ -24,10 +25,10 @@ import html5lib_tree
 NOT_COMPARED = re.compile(r"<!---?\0|<!\[CDATA\[[^>]*\0")
 NAMES = """p b i a div span table tr td th tbody thead caption colgroup col select option optgroup ul li dl dt dd h1 h2 form
 button input br hr pre textarea title style script xmp iframe noembed noframes plaintext svg math mi mo mtext annotation-xml
-foreignobject desc image nobr ruby rt rp head body html frameset frame meta link base applet object font listing""".split()
+foreignobject desc image nobr ruby rt rp head body html meta link base applet object font listing""".split()
 TEXTS = [
     "x", " ", "\n", "&amp;", "&lt", "&#0;", "\0", "]]>", "--", "-->", "<", "</", "<!", "<!doctype html>", "<!--c-->", "<!-->",
-    "<![CDATA[y<b>]]>", "<![CDATA[\0]]>", "é", "'", '"', "=", ">", "/", "</script", "<!--<script>", "&notit;",
+    "<![CDATA[y<b>]]>", "é", "'", '"', "=", ">", "/", "</script", "<!--<script>", "&notit;",
 ]  # fmt: skip
 ATTRIBUTES = ["", "", "", " a=1", " type=hidden", " encoding='text/html'", " href", " color=red", " /"]
 
