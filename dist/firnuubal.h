@@ -8,10 +8,10 @@
 #define FIRNUUBAL_H
 
 /* The version of the library, of this header and of the readers. */
-#define FIRNUUBAL_VERSION "0.2.0"
+#define FIRNUUBAL_VERSION "0.3.0"
 
 /* The same as a number, its three numbers a byte each. `html5_version` says it of the library that is linked. */
-#define FIRNUUBAL_VERSION_NUMBER 0x000200
+#define FIRNUUBAL_VERSION_NUMBER 0x000300
 
 #include <stdbool.h>
 #include <stddef.h>
@@ -50,7 +50,9 @@ enum html5_status {
     HTML5_CLOSED = 8,     /* the handle is closed */
     HTML5_BAD_OPTION = 9, /* an option has no such value */
     HTML5_BAD_POLICY = 10,     /* a line of the policy is no rule that it takes */
-    HTML5_POLICY_NOT_UTF8 = 11 /* the policy is no UTF-8 */
+    HTML5_POLICY_NOT_UTF8 = 11, /* the policy is no UTF-8 */
+    HTML5_TAG = 12,             /* a pause: a tag to which the caller replies; what follows it waits */
+    HTML5_ITEM_OPEN = 13        /* a tag or another item is open, so no state can be set */
 };
 
 typedef enum html5_status html5_status;
@@ -61,11 +63,12 @@ static inline const char *html5_status_text(html5_status status) {
         "done", "paused after a script", "paused after a meta tag that names an encoding", "out of memory",
         "the page is no UTF-8", "the page ends within a character", "text waits after a pause",
         "the page has ended, or an earlier call was refused for good", "the handle is closed",
-        "an option has no such value", "a line of the policy is no rule that it takes", "the policy is no UTF-8"};
+        "an option has no such value", "a line of the policy is no rule that it takes", "the policy is no UTF-8",
+        "paused after a tag to which the caller replies", "a tag or another item is open"};
     return (size_t)status < sizeof texts / sizeof *texts ? texts[status] : "no such status";
 }
 
-/* The state in which the reading starts. */
+/* The state in which the reading starts, or goes on after `html5_reply`. */
 enum html5_state {
     HTML5_DATA = 0,
     HTML5_PLAINTEXT = 1,
@@ -79,7 +82,8 @@ enum html5_state {
 enum html5_replies {
     HTML5_STANDARD_REPLIES = 0, /* scripts, styles, titles and their like are no markup */
     HTML5_NO_REPLIES = 1,       /* all is markup */
-    HTML5_PAUSING_REPLIES = 2   /* as the standard's, and it pauses after </script> and <meta charset=..> */
+    HTML5_PAUSING_REPLIES = 2,  /* as the standard's, and it pauses after </script> and <meta charset=..> */
+    HTML5_CALLER_REPLIES = 3    /* it pauses after each tag, and reads markup unless `html5_reply` says otherwise */
 };
 
 /* How a page is read. Zeros are the usual way. */
@@ -88,7 +92,7 @@ typedef struct {
     uint32_t replies;  /* one of enum html5_replies */
     bool exact_errors; /* tell every bad character as a parse error; it is slower */
     bool keep_bom;     /* keep a byte order mark at the start */
-    bool foreign;      /* all content is foreign: <![CDATA[ opens a section */
+    bool foreign;      /* the content is foreign, as `html5_set_foreign` says it later: <![CDATA[ opens a section */
 } html5_options;
 
 /*
@@ -114,6 +118,17 @@ html5_status html5_feed(html5_handle *handle, const uint8_t *bytes, size_t len);
  * more is read it answers HTML5_OVER, whatever the bytes.
  */
 html5_status html5_insert(html5_handle *handle, const uint8_t *text, size_t len);
+
+/*
+ * Reads what follows in a state (one of enum html5_state), as a tree builder asks after a start tag. Raw text is read up to
+ * the end tag of the last start tag. It answers HTML5_ITEM_OPEN, and changes nothing, within a tag or another item, which
+ * is never so after a pause; HTML5_OVER where nothing more is read, whatever the state; and else HTML5_BAD_OPTION where
+ * the state is none.
+ */
+html5_status html5_reply(html5_handle *handle, uint32_t state);
+
+/* Says whether the current node is outside the HTML namespace, so that <![CDATA[ opens a section in what follows. */
+html5_status html5_set_foreign(html5_handle *handle, bool foreign);
 
 /* Tells the end of the page. */
 html5_status html5_end(html5_handle *handle);

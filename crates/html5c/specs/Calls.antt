@@ -14,7 +14,7 @@ use Rattle.html5ever.specs.Tokenizer.{StandsAt, rules_of}
 use Rattle.html5ever_interface.specs.declared.states.State.{State}
 use Rattle.html5reading.specs.Start.{start_of}
 use Rattle.html5entities.specs.Standard.{standard_list}
-use Rattle.html5session.specs.Session.{SessionOf, tokenizer_of, recorded_by, is_over, nothing_open_in, after_session_takes, after_foreign, StandsOn, ReadsOnBy, SetsState, FeedsPiece, LosesPiece, RefusesBytes, EndsSession, LosesEnd}
+use Rattle.html5session.specs.Session.{SessionOf, tokenizer_of, recorded_by, is_over, nothing_open_in, after_session_takes, StandsOn, SetsForeign, SetsState, FeedsPiece, LosesPiece, RefusesBytes, EndsSession, LosesEnd}
 use Rattle.html5session.specs.declared.error.SessionError.{SessionError}
 use Rattle.html5session.specs.declared.error.SessionError.TheVariants.{Memory, NotUtf8, Cut, Waiting, ItemOpen, Over}
 use Rattle.html5session.specs.declared.fed.Fed.{Fed}
@@ -133,8 +133,7 @@ pub record ReplySays (old new : SessionOf) (number status : ℕ) : Type 0 where
 -- the answer about foreign content was set, and what follows is read by it
 pub record ForeignSays (old new : SessionOf) (foreign : Bool) (status : ℕ) : Type 0 where
   pub done : status ≡ 0
-  pub set : new ≡ after_foreign old foreign
-  pub reads_on : ReadsOnBy old new
+  pub sets : SetsForeign old new foreign
 
 -- the next bytes of the records that wait were copied, as many as there was room for, and let go; nothing else changed
 pub record TakeSays (old new : SessionOf) (room out : List ℕ) (n : ℕ) : Type 0 where
@@ -158,8 +157,8 @@ Ends old new status = WhereOpen (λ s t. EndSays s t status) (status ≡ 8) old 
 abbrev pub RepliesTo : Option SessionOf → Option SessionOf → ℕ → ℕ → Type 0
 RepliesTo old new number status = WhereOpen (λ s t. ReplySays s t number status) (status ≡ 8) old new
 
-abbrev pub SetsForeign : Option SessionOf → Option SessionOf → Bool → ℕ → Type 0
-SetsForeign old new foreign status = WhereOpen (λ s t. ForeignSays s t foreign status) (status ≡ 8) old new
+abbrev pub TellsForeign : Option SessionOf → Option SessionOf → Bool → ℕ → Type 0
+TellsForeign old new foreign status = WhereOpen (λ s t. ForeignSays s t foreign status) (status ≡ 8) old new
 
 abbrev pub Takes : Option SessionOf → Option SessionOf → List ℕ → List ℕ → ℕ → Type 0
 Takes old new room out n = WhereOpen (λ s t. TakeSays s t room out n) ((n ≡ 0) × (out ≡ room)) old new

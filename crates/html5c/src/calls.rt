@@ -1,6 +1,6 @@
 //! The calls of the tokenizer.
 ghost use Rattle.std.specs.Prelude.{◌≡◌, None};
-ghost use Rattle.html5c.specs.Calls.{NewSays, Feeds, Inserts, RepliesTo, SetsForeign, Ends, Takes, error_place, over_in};
+ghost use Rattle.html5c.specs.Calls.{NewSays, Feeds, Inserts, RepliesTo, TellsForeign, Ends, Takes, error_place, over_in};
 ghost use Rattle.html5c.specs.Slots.{cleaner_of, session_of};
 
 use crate::handle::Handle;
@@ -79,7 +79,7 @@ pub extern "C" fn html5_reply(alloc: Global, h: &mut Handle, state: u32) -> u32
 /// Sets whether the current node is outside the HTML namespace, so that `<![CDATA[` begins a section in what follows.
 #[unsafe(no_mangle)]
 pub extern "C" fn html5_set_foreign(alloc: Global, h: &mut Handle, foreign: bool) -> u32
-    ensures sets { SetsForeign (session_of h.old.owned.value) (session_of h.new.owned.value) foreign result }
+    ensures sets { TellsForeign (session_of h.old.owned.value) (session_of h.new.owned.value) foreign result }
     ensures other { cleaner_of h.new.owned.value ≡ cleaner_of h.old.owned.value }
 {
     let Some(mut slot) = h.take(alloc) else {

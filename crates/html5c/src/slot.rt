@@ -1,6 +1,6 @@
 //! What a handle is of, over C's memory, and what the tokenizer's calls make of it.
 ghost use Rattle.std.specs.Prelude.{◌≡◌, IsNone};
-ghost use Rattle.html5c.specs.Calls.{Feeds, Inserts, RepliesTo, SetsForeign, Ends, Takes, fed_status, error_status, error_place, over_in};
+ghost use Rattle.html5c.specs.Calls.{Feeds, Inserts, RepliesTo, TellsForeign, Ends, Takes, fed_status, error_status, error_place, over_in};
 ghost use Rattle.html5c.specs.Slots.{cleaner_in, session_in};
 
 use crate::options::state_of;
@@ -118,7 +118,7 @@ impl PageSlot {
 
     /// Sets whether the current node is outside the HTML namespace.
     pub fn set_foreign(&mut self, foreign: bool) -> u32
-        ensures sets { SetsForeign (session_in self.old) (session_in self.new) foreign result }
+        ensures sets { TellsForeign (session_in self.old) (session_in self.new) foreign result }
         ensures other { cleaner_in self.new ≡ cleaner_in self.old }
     {
         let PageSlot::Tokenizer(session) = self else {

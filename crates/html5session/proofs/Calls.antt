@@ -15,7 +15,7 @@ use Rattle.html5ever.specs.Detached.{DetachedOf, tokenizing}
 use Rattle.html5ever_interface.specs.declared.states.State.{State}
 use Rattle.html5ever.specs.Tokenizer.{Tokenizing, StandsAt, Feeds, FeedsItems, StopsFeeding, Finishes, FinishesItems, StopsEnding}
 use Rattle.html5feed.specs.Starting.{in_state}
-use Rattle.html5session.specs.Session.{SessionOf, tokenizer_of, recorded_by, is_over, after_foreign, ReadsOnBy, SetsState, Completes, TakesPiece, RefusesBytes, FeedsText, fed_by, StopsText, FeedsPiece, LosesPiece, FeedRefused, EndsText, StopsTextEnd, EndRefused}
+use Rattle.html5session.specs.Session.{SessionOf, tokenizer_of, recorded_by, is_over, after_foreign, SetsForeign, SetsState, Completes, TakesPiece, RefusesBytes, FeedsText, fed_by, StopsText, FeedsPiece, LosesPiece, FeedRefused, EndsText, StopsTextEnd, EndRefused}
 use Rattle.html5session.specs.declared.error.SessionError.{SessionError}
 use Rattle.html5session.specs.declared.error.SessionError.TheVariants.{Memory, NotUtf8, Cut, Waiting, ItemOpen, Over}
 use Rattle.html5session.specs.declared.fed.Fed.{Fed}
@@ -242,12 +242,15 @@ end_refused (Err Over) s t out lost going read whole same is stops memory = absu
 
 -- ---- replies of the caller
 
--- what follows is read from where the session stands
-pub reads_on_by : (s t : SessionOf) (foreign : Bool) → t ≡ after_foreign s foreign → ReadsOnBy s t
-reads_on_by s t foreign is going =
-    let goes = goes_on s.lost s.detached.failed s.detached.ended going in
-    subst (λ (w : SessionOf). StandsAt recorded_means (tokenizer_of w) s.detached.position (recorded_by w) []) (sym is)
-    (stands_here (tokenizer_of (after_foreign s foreign)) goes.1 goes.2)
+-- a session with another answer about foreign content
+pub sets_foreign : (s t : SessionOf) (foreign : Bool) → t ≡ after_foreign s foreign → SetsForeign s t foreign
+sets_foreign s t foreign is = record {
+  stands = λ going.
+      let goes = goes_on s.lost s.detached.failed s.detached.ended going in
+      subst (λ (w : SessionOf). StandsAt recorded_means (tokenizer_of w) s.detached.position (recorded_by w) []) (sym is)
+      (stands_here (tokenizer_of (after_foreign s foreign)) goes.1 goes.2);
+  kept = is;
+}
 
 -- a session with another state
 pub sets_state : (s t : SessionOf) (state : State) → is_over s ≡ false

@@ -190,10 +190,12 @@ pub record SetsState (old new : SessionOf) (state : State) : Type 0 where
   pub stands : StandsAt recorded_means (tokenizer_of new) (in_state old.detached.position state) (recorded_by old) []
   pub kept : new ≡ record old { detached = record old.detached { position = in_state old.detached.position state } }
 
--- the answer about foreign content is this one from here on, and all else is as it was
+-- the session with another answer about foreign content
 abbrev pub after_foreign : SessionOf → Bool → SessionOf
 after_foreign s foreign = record s { detached = record s.detached { sink = with_foreign s.detached.sink foreign } }
 
--- where more is read, it is read from the place that was reached, by that answer
-abbrev pub ReadsOnBy : SessionOf → SessionOf → Type 0
-ReadsOnBy old new = is_over old ≡ false → StandsAt recorded_means (tokenizer_of new) old.detached.position (recorded_by new) []
+-- the answer about foreign content is this one from here on, and all else is as it was
+pub record SetsForeign (old new : SessionOf) (foreign : Bool) : Type 0 where
+  -- where more is read, it is read from the place that was reached, by that answer
+  pub stands : is_over old ≡ false → StandsAt recorded_means (tokenizer_of new) old.detached.position (recorded_by new) []
+  pub kept : new ≡ after_foreign old foreign

@@ -8,7 +8,7 @@ ghost use Rattle.html5ever_interface.specs.Options.{options_of};
 ghost use Rattle.html5records.specs.Recording.{recorded_means, none_recorded, nothing_recorded, waiting};
 ghost use Rattle.html5feed.specs.Starting.{CanStart};
 ghost use Rattle.html5reading.specs.Start.{start_of};
-ghost use Rattle.html5session.specs.Session.{is_over, tokenizer_of, recorded_by, after_session_takes, nothing_open_in, after_foreign, StandsOn, ReadsOnBy, SetsState, FeedsText, StopsText, EndsText, StopsTextEnd};
+ghost use Rattle.html5session.specs.Session.{is_over, tokenizer_of, recorded_by, after_session_takes, nothing_open_in, StandsOn, SetsForeign, SetsState, FeedsText, StopsText, EndsText, StopsTextEnd};
 ghost use Rattle.html5session.specs.Session.{TakesPiece, FeedsPiece, FeedRefused, EndsSession, EndRefused, IsNotUtf8};
 
 use crate::error::SessionError;
@@ -133,8 +133,7 @@ impl<A: Allocator> Session<A> {
     /// Sets whether the current node is outside the HTML namespace, so that `<![CDATA[` begins a section in what
     /// follows. A tree builder that replies to each tag sets it before it goes on, where its answer changes.
     pub fn set_foreign(&mut self, foreign: bool)
-        ensures set { self.new ≡ after_foreign self.old foreign }
-        ensures reads_on { ReadsOnBy self.old self.new }
+        ensures { SetsForeign self.old self.new foreign }
     {
         self.detached.sink.set_foreign(foreign);
     }
