@@ -51,7 +51,9 @@ pub struct RecordOptions {
 }
 
 // A reply by the standard, where a pause for a script says so.
-fn at_script<A: Allocator>(reply: TokenSinkResult<(), String<A>>) -> TokenSinkResult<PausedAt, String<A>>
+fn at_script<A: Allocator>(
+    reply: TokenSinkResult<(), String<A>>,
+) -> TokenSinkResult<PausedAt, String<A>>
     ensures { reply_of string_bytes result ≡ at_script (reply_of string_bytes reply) }
 {
     match reply {
