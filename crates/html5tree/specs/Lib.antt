@@ -9,6 +9,7 @@ pub mod Parser
 pub mod Adoption
 pub mod InBody
 pub mod Tables
+pub mod Normal
 pub mod Construction
 pub mod Lockstep
 pub mod Shown
