@@ -40,13 +40,13 @@ dropped = closing 0
 -- ---- how many elements are closed
 
 -- those in the innermost that passes
-unfoldable pub inside : (List ℕ → Bool) → List (List ℕ) → ℕ
-inside test [] = 0
-inside test (name ∷ stack) = if test name then 0 else suc (inside test stack)
+unfoldable pub count_inside : (List ℕ → Bool) → List (List ℕ) → ℕ
+count_inside test [] = 0
+count_inside test (name ∷ stack) = if test name then 0 else suc (count_inside test stack)
 
 -- and it, too, where it is near
 abbrev pub through : (List ℕ → Bool) → (Kind → Bool) → List (List ℕ) → ℕ
-through test ends stack = if near test ends stack then suc (inside test stack) else 0
+through test ends stack = if near test ends stack then suc (count_inside test stack) else 0
 
 -- the innermost ones that all pass
 unfoldable pub run_of : (Kind → Bool) → List (List ℕ) → ℕ
@@ -73,7 +73,7 @@ parents TableBody Cell = codes "tr" ∷ []
 parents top part = []
 
 abbrev pub inside_context : Kind → List (List ℕ) → ℕ
-inside_context part stack = inside (of_kind (is_context part)) stack
+inside_context part stack = count_inside (of_kind (is_context part)) stack
 
 abbrev pub parents_in : List (List ℕ) → Kind → List (List ℕ)
 parents_in stack part = parents (kind_on_top (drop (inside_context part stack) stack)) part
@@ -91,7 +91,7 @@ cell_plan stack = kept (inside_context Cell stack) (parents_in stack Cell ++ cod
 abbrev pub table_plan : Kind → List (List ℕ) → Plan
 table_plan Unknown stack = dropped
 table_plan Form stack = dropped
-table_plan Table stack = kept (suc (inside (of_kind is_table) stack)) []
+table_plan Table stack = kept (suc (count_inside (of_kind is_table) stack)) []
 table_plan kind stack = cell_plan stack
 
 -- ---- where text can stand
@@ -102,7 +102,7 @@ paragraph_closes stack = through (of_kind is_paragraph) bounds_paragraph stack
 -- a `li` closes the near one, and if there is none the near `p`
 abbrev pub item_closes : (Kind → Bool) → List (List ℕ) → ℕ
 item_closes test stack =
-    if near (of_kind test) bounds_item stack then suc (inside (of_kind test) stack) else paragraph_closes stack
+    if near (of_kind test) bounds_item stack then suc (count_inside (of_kind test) stack) else paragraph_closes stack
 
 -- a heading closes the near `p`, and then the heading that it would stand in
 abbrev pub heading_closes : List (List ℕ) → ℕ
@@ -196,7 +196,7 @@ lone_end_plan limit kind stack = dropped
 abbrev pub end_plan : ℕ → Kind → List (List ℕ) → List ℕ → Plan
 end_plan limit kind stack name =
     if named (codes "br") name then limited limit stack (EndTag name) (record (start_plan Void stack) { writes = LineBreak })
-    else if near (is_ended kind name) (bounds_end kind) stack then closing (suc (inside (is_ended kind name) stack))
+    else if near (is_ended kind name) (bounds_end kind) stack then closing (suc (count_inside (is_ended kind name) stack))
     else lone_end_plan limit kind stack
 
 -- A text is put in a cell from its first character on that is no white space. Where that would be too deep only its white space is written, so that
