@@ -1,5 +1,6 @@
 pub mod Lists
 pub mod Steps
+pub mod Plans
 pub mod Documents
 pub mod Texts
 pub mod Built
