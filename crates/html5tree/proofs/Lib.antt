@@ -1,6 +1,7 @@
 pub mod Lists
 pub mod Steps
 pub mod Plans
+pub mod Normalising
 pub mod Documents
 pub mod Texts
 pub mod Built

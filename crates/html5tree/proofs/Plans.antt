@@ -99,7 +99,7 @@ pub record IsReady (limit : ℕ) (s : Stack) : Type 0 where
 
 -- ---- elements that are closed
 
-bytes-itself : (a : List ℕ) → bytes_eq a a ≡ true
+pub bytes-itself : (a : List ℕ) → bytes_eq a a ≡ true
 bytes-itself a = (bytes_eq-Decides a a).1 refl
 
 pub stand-drop : (closes : ℕ) (s : Stack) → all_stand s ≡ true → all_stand (drop closes s) ≡ true
@@ -108,7 +108,7 @@ stand-drop zero s a = a
 stand-drop (suc closes) [] a = refl
 stand-drop (suc closes) (name ∷ s) a = stand-drop closes s (and_parts (stands name s) (all_stand s) a).1
 
-end-fits : (name : List ℕ) (s : Stack) → can_open (kind_of name) ≡ true → fits (name ∷ s) (EndTag name) ≡ true
+pub end-fits : (name : List ℕ) (s : Stack) → can_open (kind_of name) ≡ true → fits (name ∷ s) (EndTag name) ≡ true
 unfolding fits
 end-fits name s o = and_from (can_open (kind_of name)) (named name name) o (bytes-itself name)
 
@@ -125,7 +125,7 @@ closes-fitting limit (suc closes) (name ∷ s) a short =
 -- ---- elements that are opened
 
 -- parents that can be opened, each in the one before
-pub OpensFit : Stack → List (List ℕ) → Type 0
+unfoldable pub OpensFit : Stack → List (List ℕ) → Type 0
 OpensFit s [] = ⊤
 OpensFit s (name ∷ names) = (stands name s ≡ true) × OpensFit (name ∷ s) names
 
@@ -141,7 +141,7 @@ unfolding opened
 longer [] s = omega arith
 longer (name ∷ names) s = let l : length (name ∷ s) ≤ length (opened names (name ∷ s)) = longer names (name ∷ s) in omega arith
 
-start-next : (limit : ℕ) (name : List ℕ) (attributes : List Attribute) (s t : Stack) (items : List Item) → stands name s ≡ true → length (name ∷ s) ≤ limit
+pub start-next : (limit : ℕ) (name : List ℕ) (attributes : List Attribute) (s t : Stack) (items : List Item) → stands name s ≡ true → length (name ∷ s) ≤ limit
     → IsFitting limit (name ∷ s) items t → IsFitting limit s (StartTag name attributes ∷ items) t
 unfolding fits open_after
 start-next limit name attributes s t items h l r =
@@ -149,7 +149,7 @@ start-next limit name attributes s t items h l r =
     let v : is_void (kind_of name) ≡ false = no-void (kind_of name) p.0 in
     Next (StartTag name attributes) p.1 (rw v l) (rw v r)
 
-opens-fitting : (limit : ℕ) (names : List (List ℕ)) (s t : Stack) (items : List Item) → OpensFit s names → length (opened names s) ≤ limit
+pub opens-fitting : (limit : ℕ) (names : List (List ℕ)) (s t : Stack) (items : List Item) → OpensFit s names → length (opened names s) ≤ limit
     → IsFitting limit (opened names s) items t → IsFitting limit s (start_tags names ++ items) t
 unfolding OpensFit opened
 opens-fitting limit [] s t items o l r = r
@@ -173,7 +173,7 @@ pub data IsRight (s : Stack) (item : Item) : Plan → Type 0 where
   Kept : (closes : ℕ) (opens : List (List ℕ)) → OpensFit (drop closes s) opens → fits (opened opens (drop closes s)) item ≡ true
       → IsRight s item (kept closes opens)
 
-kept-fitting : (limit : ℕ) (s : Stack) (name : List ℕ) (attributes : List Attribute) (closes : ℕ) (opens : List (List ℕ)) → IsReady limit s
+pub kept-fitting : (limit : ℕ) (s : Stack) (name : List ℕ) (attributes : List Attribute) (closes : ℕ) (opens : List (List ℕ)) → IsReady limit s
     → OpensFit (drop closes s) opens → fits (opened opens (drop closes s)) (StartTag name attributes) ≡ true
     → length (open_after (opened opens (drop closes s)) (StartTag name attributes)) ≤ limit
     → IsFitting limit s (written (kept closes opens) s (StartTag name attributes)) (stack_after (kept closes opens) s (StartTag name attributes))
@@ -185,7 +185,7 @@ kept-fitting limit s name attributes closes opens ready o f l =
     (closes-fitting limit closes s ready.stand ready.short)
     (opens-fitting limit opens (drop closes s) after (StartTag name attributes ∷ []) o n (Next (StartTag name attributes) f l Done))
 
-limited-fitting : (limit : ℕ) (s : Stack) (name : List ℕ) (attributes : List Attribute) (plan : Plan) → IsReady limit s → IsRight s (StartTag name attributes) plan
+pub limited-fitting : (limit : ℕ) (s : Stack) (name : List ℕ) (attributes : List Attribute) (plan : Plan) → IsReady limit s → IsRight s (StartTag name attributes) plan
     → IsFitting limit s (written (limited limit s (StartTag name attributes) plan) s (StartTag name attributes))
     (stack_after (limited limit s (StartTag name attributes) plan) s (StartTag name attributes))
 unfolding opened
@@ -218,7 +218,7 @@ kind-tr : kind_of (codes "tr") ≡ TableRow
 unfolding kind_of kind_in all_names is_among
 kind-tr = refl
 
-kind-td : kind_of (codes "td") ≡ Cell
+pub kind-td : kind_of (codes "td") ≡ Cell
 unfolding kind_of kind_in all_names is_among
 kind-td = refl
 
@@ -327,7 +327,7 @@ in-flow k s f part = at (holds_parts (kind_on_top s)) refl f
     at true e h = absurd (false≢true (sym part ∙ held-part (kind_on_top s) k h))
     at false e h = record { holder = e; flow = (and_parts (not (is_part k)) (fits_flow k s) h).1 }
 
-flow-in : (k : Kind) (s : Stack) → is_part k ≡ false → holds_parts (kind_on_top s) ≡ false → fits_flow k s ≡ true → fits_in (kind_on_top s) k s ≡ true
+pub flow-in : (k : Kind) (s : Stack) → is_part k ≡ false → holds_parts (kind_on_top s) ≡ false → fits_flow k s ≡ true → fits_in (kind_on_top s) k s ≡ true
 flow-in k s part holder flow = rw (holder, part, flow) refl
 
 -- what stands in an element stands in what the table is in, or in the table
@@ -359,7 +359,7 @@ near-table test (name ∷ s) t a h =
     at other is h f again = absurd (false≢true h)
 
 -- in a new cell all that is no part fits, but a form
-in-cell : (k : Kind) (name cell : List ℕ) (attributes : List Attribute) (outer : Stack) → kind_of name ≡ k → kind_of cell ≡ Cell → is_part k ≡ false
+pub in-cell : (k : Kind) (name cell : List ℕ) (attributes : List Attribute) (outer : Stack) → kind_of name ≡ k → kind_of cell ≡ Cell → is_part k ≡ false
     → is_form k ≡ false → can_open k || is_void k ≡ true → fits (cell ∷ outer) (StartTag name attributes) ≡ true
 unfolding fits near
 in-cell Form name cell attributes outer is at_cell part form known = absurd (false≢true (sym form))
@@ -372,7 +372,7 @@ in-cell TableRow name cell attributes outer is at_cell part form known = absurd 
 in-cell Cell name cell attributes outer is at_cell part form known = absurd (false≢true (sym part))
 in-cell other name cell attributes outer is at_cell part form known = simp (is, at_cell)
 
-pub record OpensCell (s : Stack) (names : List (List ℕ)) : Type 0 where
+record OpensCell (s : Stack) (names : List (List ℕ)) : Type 0 where
   fit : OpensFit s names
   outer : Stack
   is : opened names s ≡ codes "td" ∷ outer
@@ -392,11 +392,11 @@ opens-cell other n outer at_top c = absurd (false≢true c)
 
 -- where parts are held, the plan for a cell opens one
 pub record PlansCell (s : Stack) : Type 0 where
-  opens : OpensFit (drop (inside_context Cell s) s) (parents_in s Cell ++ codes "td" ∷ [])
-  outer : Stack
-  is : opened (parents_in s Cell ++ codes "td" ∷ []) (drop (inside_context Cell s) s) ≡ codes "td" ∷ outer
+  pub opens : OpensFit (drop (inside_context Cell s) s) (parents_in s Cell ++ codes "td" ∷ [])
+  pub outer : Stack
+  pub is : opened (parents_in s Cell ++ codes "td" ∷ []) (drop (inside_context Cell s) s) ≡ codes "td" ∷ outer
 
-plans-cell : (s : Stack) → all_stand s ≡ true → holds_parts (kind_on_top s) ≡ true → PlansCell s
+pub plans-cell : (s : Stack) → all_stand s ≡ true → holds_parts (kind_on_top s) ≡ true → PlansCell s
 plans-cell s a h =
     let r = found (of_kind (is_context Cell)) no_kind s a (near-table (is_context Cell) s refl a h) in
     let o = opens-cell (kind_of r.name) r.name r.outer refl r.passes in
@@ -410,7 +410,7 @@ right-cell name attributes s c part form known =
 
 -- ---- where an element of the same kind is closed
 
-fits-start : (name : List ℕ) (attributes : List Attribute) (s : Stack) → fits_in (kind_on_top s) (kind_of name) s ≡ true
+pub fits-start : (name : List ℕ) (attributes : List Attribute) (s : Stack) → fits_in (kind_on_top s) (kind_of name) s ≡ true
     → fits s (StartTag name attributes) ≡ true
 unfolding fits
 fits-start name attributes s f = f

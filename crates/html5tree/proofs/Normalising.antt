@@ -1,0 +1,227 @@
+-- What the normaliser makes fits, and what fits is not changed.
+use Rattle.std.proofs.Common.{◌≡◌, ℕ, zero, suc, ◌+◌, ◌*◌, ◌≤◌, ◌<◌, Bool, true, false, List, [], ◌∷◌, ◌++◌, length, take, drop, refl, ap, sym, ◌∙◌, subst, arith, ◌⊎◌, inl, inr}
+use Rattle.std.specs.Prelude.{codes, filter, not, ◌&&◌, nat_le, nat_lt, if◌then◌else◌}
+use Rattle.std.specs.List.{list_all}
+use Rattle.std.specs.Str.{bytes_eq}
+use Rattle.std.proofs.lemmas.Slice.Eq.{bytes_eq-Decides}
+use Rattle.std.proofs.lemmas.Bool.{false≢true, not-true, not-false, not_from_false, and_parts, and_from, and_cases, cases_Bool, leb-true, le-leb, ltb-true}
+use Rattle.html5tree.specs.Fitting.{all_fit, all_open_after, bounds_item, bounds_paragraph, can_open, each_fits, fits, fits_flow, fits_in, holds, holds_parts, is_space, no_paragraph, none_open, open_after}
+use Rattle.html5tree.specs.Items.{Attribute, Item, text_before}
+use Rattle.html5tree.specs.Items.Item.{EndTag, StartTag, Text}
+use Rattle.html5tree.specs.Names.{Kind, all_names, is_among, is_heading, is_paragraph, is_part, is_void, kind_in, kind_of, named, no_kind, of_kind}
+use Rattle.html5tree.specs.Names.Kind.{Anchor, Button, Caption, Cell, Column, ColumnGroup, Description, Form, Formatting, Heading, ListItem, NoBreak, Ordinary, Paragraph, Ruby, RubyBase, RubyContainer, RubyText, Table, TableBody, TableRow, Unknown, Void}
+use Rattle.html5tree.specs.Normal.Written.{EmptyParagraph, Itself, LineBreak, Nothing, Parted, WhiteSpace}
+use Rattle.html5tree.specs.Normal.{Plan, all_stand, bounds_end, cell_plan, closing, count_inside, dropped, end_plan, end_tags, fitted, flow_plan, inside_context, is_ended, kept, limited, lone_end_plan, moved, normal, normal_above, open_after_fitted, opened, parents_in, plan_of, stack_after, stands, start_plan, start_tags, stays_within, text_plan, written, written_first, written_last}
+use Rattle.html5tree.specs.Scopes.{kind_on_top, near, top_is}
+use Rattle.html5tree.specs.Tables.{after_space, leading_space}
+use Rattle.html5tree.proofs.Plans.{IsFitting, IsReady, IsRight, OpensFit, PlansCell, Stack, bytes-itself, closes-fitting, each-fits, end-fits, fits-start, fitting-append, flow-in, in-cell, kept-fitting, kind-td, limited-fitting, open-fitting, opens-fitting, plans-cell, right-start, short-fitting, stand-fitting, start-next, within-fitting}
+use Rattle.html5tree.proofs.Plans.IsFitting.{Done, Next}
+
+-- ---- an end tag
+
+kind-br : kind_of (codes "br") ≡ Void
+unfolding kind_of kind_in all_names is_among
+kind-br = refl
+
+kind-p : kind_of (codes "p") ≡ Paragraph
+unfolding kind_of kind_in all_names is_among
+kind-p = refl
+
+abbrev breaking : ℕ → List (List ℕ) → Plan
+breaking closes opens = record (kept closes opens) { writes = LineBreak }
+
+-- a `br` that opens nothing
+break-fitting : (limit : ℕ) (s : Stack) (name : List ℕ) (closes : ℕ) (opens : List (List ℕ)) → IsReady limit s
+    → OpensFit (drop closes s) opens → fits (opened opens (drop closes s)) (StartTag (codes "br") []) ≡ true
+    → IsFitting limit s (written (limited limit s (EndTag name) (breaking closes opens)) s (EndTag name))
+    (stack_after (limited limit s (EndTag name) (breaking closes opens)) s (EndTag name))
+unfolding open_after opened
+break-fitting limit s name closes opens ready o f = at (nat_le (length (opened opens (drop closes s))) limit) refl
+  where
+    made : length (opened opens (drop closes s)) ≤ limit → IsFitting limit s (written (breaking closes opens) s (EndTag name)) (opened opens (drop closes s))
+    made l =
+        rw kind-br at (kept-fitting limit s (codes "br") [] closes opens ready o f (rw kind-br l))
+    at : (b : Bool) → nat_le (length (opened opens (drop closes s))) limit ≡ b
+        → IsFitting limit s (written (if b then breaking closes opens else dropped) s (EndTag name))
+        (stack_after (if b then breaking closes opens else dropped) s (EndTag name))
+    at true e = made (leb-true (length (opened opens (drop closes s))) limit e)
+    at false e = Done
+
+break-plan : (limit : ℕ) (s : Stack) (name : List ℕ) → IsReady limit s
+    → IsFitting limit s (written (limited limit s (EndTag name) (record (start_plan Void s) { writes = LineBreak })) s (EndTag name))
+    (stack_after (limited limit s (EndTag name) (record (start_plan Void s) { writes = LineBreak })) s (EndTag name))
+unfolding OpensFit opened
+break-plan limit s name ready = at (holds_parts (kind_on_top s)) refl
+  where
+    at : (b : Bool) → holds_parts (kind_on_top s) ≡ b
+        → IsFitting limit s (written (limited limit s (EndTag name) (record (if b then cell_plan s else kept 0 []) { writes = LineBreak })) s (EndTag name))
+        (stack_after (limited limit s (EndTag name) (record (if b then cell_plan s else kept 0 []) { writes = LineBreak })) s (EndTag name))
+    at true h =
+        let c = plans-cell s ready.stand h in
+        break-fitting limit s name (inside_context Cell s) (parents_in s Cell ++ codes "td" ∷ []) ready c.opens
+        (rw c.is (in-cell Void (codes "br") (codes "td") [] c.outer kind-br kind-td refl refl refl))
+    at false h = break-fitting limit s name 0 [] ready tt (fits-start (codes "br") [] s (rw kind-br (flow-in Void s refl h refl)))
+
+empty-paragraph : (limit : ℕ) (s : Stack) → holds_parts (kind_on_top s) ≡ false → near (of_kind is_paragraph) bounds_paragraph s ≡ false → length s < limit
+    → IsFitting limit s (StartTag (codes "p") [] ∷ EndTag (codes "p") ∷ []) s
+unfolding open_after
+empty-paragraph limit s holder none short =
+    let fit : fits_in (kind_on_top s) Paragraph s ≡ true = flow-in Paragraph s refl holder (not_from_false (near (of_kind is_paragraph) bounds_paragraph s) none) in
+    let l : length s ≤ limit = omega arith in
+    let m : length (codes "p" ∷ s) ≤ limit = omega arith in
+    start-next limit (codes "p") [] s s (EndTag (codes "p") ∷ []) (rw kind-p fit) m
+    (Next (EndTag (codes "p")) (end-fits (codes "p") s (rw kind-p refl)) l Done)
+
+lone-fitting : (limit : ℕ) (k : Kind) (s : Stack) (name : List ℕ) → near (is_ended k name) (bounds_end k) s ≡ false
+    → IsFitting limit s (written (lone_end_plan limit k s) s (EndTag name)) (stack_after (lone_end_plan limit k s) s (EndTag name))
+unfolding opened
+lone-fitting limit Paragraph s name none = at (holds_parts (kind_on_top s)) (nat_lt (length s) limit) refl refl
+  where
+    at : (b c : Bool) → holds_parts (kind_on_top s) ≡ b → nat_lt (length s) limit ≡ c
+        → IsFitting limit s (written (if not b && c then record dropped { writes = EmptyParagraph } else dropped) s (EndTag name))
+        (stack_after (if not b && c then record dropped { writes = EmptyParagraph } else dropped) s (EndTag name))
+    at true c h l = Done
+    at false false h l = Done
+    at false true h l = empty-paragraph limit s h none (ltb-true (length s) limit l)
+lone-fitting limit other s name none = Done
+
+closing-fitting : (limit : ℕ) (s : Stack) (name : List ℕ) (closes : ℕ) → IsReady limit s
+    → IsFitting limit s (written (closing closes) s (EndTag name)) (stack_after (closing closes) s (EndTag name))
+unfolding opened
+closing-fitting limit s name closes ready =
+    fitting-append limit s (drop closes s) (drop closes s) (end_tags (take closes s)) [] (closes-fitting limit closes s ready.stand ready.short) Done
+
+end-fitting : (limit : ℕ) (k : Kind) (s : Stack) (name : List ℕ) → IsReady limit s
+    → IsFitting limit s (written (end_plan limit k s name) s (EndTag name)) (stack_after (end_plan limit k s name) s (EndTag name))
+end-fitting limit k s name ready = at (named (codes "br") name) (near (is_ended k name) (bounds_end k) s) refl
+  where
+    at : (b c : Bool) → near (is_ended k name) (bounds_end k) s ≡ c
+        → IsFitting limit s
+        (written
+        (if b then limited limit s (EndTag name) (record (start_plan Void s) { writes = LineBreak })
+        else if c then closing (suc (count_inside (is_ended k name) s)) else lone_end_plan limit k s) s (EndTag name))
+        (stack_after
+        (if b then limited limit s (EndTag name) (record (start_plan Void s) { writes = LineBreak })
+        else if c then closing (suc (count_inside (is_ended k name) s)) else lone_end_plan limit k s) s (EndTag name))
+    at true c e = break-plan limit s name ready
+    at false true e = closing-fitting limit s name (suc (count_inside (is_ended k name) s)) ready
+    at false false e = lone-fitting limit k s name e
+
+-- ---- a text
+
+text-fits : (s : Stack) (text : List ℕ) → (if holds_parts (kind_on_top s) then list_all is_space text else true) ≡ true → fits s (Text text) ≡ true
+unfolding fits
+text-fits s text h = h
+
+space-fits : (s : Stack) (text : List ℕ) → list_all is_space text ≡ true → fits s (Text text) ≡ true
+space-fits s text h = text-fits s text (at (holds_parts (kind_on_top s)))
+  where
+    at : (b : Bool) → (if b then list_all is_space text else true) ≡ true
+    at true = h
+    at false = refl
+
+text-next : (limit : ℕ) (s t : Stack) (text : List ℕ) (items : List Item) → fits s (Text text) ≡ true → length s ≤ limit → IsFitting limit s items t
+    → IsFitting limit s (Text text ∷ items) t
+unfolding open_after
+text-next limit s t text items f l r = Next (Text text) f l r
+
+all-leading : (text : List ℕ) → list_all is_space (leading_space text) ≡ true
+unfolding leading_space
+all-leading [] = refl
+all-leading (c ∷ text) = at (is_space c) refl (all-leading text)
+  where
+    at : (b : Bool) → is_space c ≡ b → list_all is_space (leading_space text) ≡ true → list_all is_space (if b then c ∷ leading_space text else []) ≡ true
+    at true e again = and_from (is_space c) (list_all is_space (leading_space text)) e again
+    at false e again = refl
+
+pub all-filtered : (text : List ℕ) → list_all is_space (filter is_space text) ≡ true
+all-filtered [] = refl
+all-filtered (c ∷ text) = at (is_space c) refl (all-filtered text)
+  where
+    at : (b : Bool) → is_space c ≡ b → list_all is_space (filter is_space text) ≡ true
+        → list_all is_space (if b then c ∷ filter is_space text else filter is_space text) ≡ true
+    at true e again = and_from (is_space c) (list_all is_space (filter is_space text)) e again
+    at false e again = again
+
+before-fitting : (limit : ℕ) (s : Stack) (text : List ℕ) → list_all is_space text ≡ true → length s ≤ limit → IsFitting limit s (text_before text []) s
+before-fitting limit s [] h l = Done
+before-fitting limit s (c ∷ text) h l = text-next limit s s (c ∷ text) [] (space-fits s (c ∷ text) h) l Done
+
+abbrev pub parted : Plan → Plan
+parted plan = record plan { writes = Parted }
+
+-- in a cell
+pub parted-fitting : (limit : ℕ) (s : Stack) (text : List ℕ) → IsReady limit s → PlansCell s → length (moved (cell_plan s) s) ≤ limit
+    → IsFitting limit s (written (parted (cell_plan s)) s (Text text)) (moved (cell_plan s) s)
+parted-fitting limit s text ready c l =
+    let rest : Stack = drop (inside_context Cell s) s in
+    let names : List (List ℕ) = parents_in s Cell ++ codes "td" ∷ [] in
+    let cell : fits (opened names rest) (Text (after_space text)) ≡ true = rw c.is (text-fits (codes "td" ∷ c.outer) (after_space text) (rw kind-td refl)) in
+    fitting-append limit s s (opened names rest) (written_first Parted (Text text))
+    (end_tags (take (inside_context Cell s) s) ++ (start_tags names ++ Text (after_space text) ∷ []))
+    (before-fitting limit s (leading_space text) (all-leading text) ready.short)
+    (fitting-append limit s rest (opened names rest) (end_tags (take (inside_context Cell s) s)) (start_tags names ++ Text (after_space text) ∷ [])
+    (closes-fitting limit (inside_context Cell s) s ready.stand ready.short)
+    (opens-fitting limit names rest (opened names rest) (Text (after_space text) ∷ []) c.opens l
+    (text-next limit (opened names rest) (opened names rest) (after_space text) [] cell l Done)))
+
+text-fitting : (limit : ℕ) (s : Stack) (text : List ℕ) → IsReady limit s
+    → IsFitting limit s (written (text_plan limit s text) s (Text text)) (stack_after (text_plan limit s text) s (Text text))
+unfolding opened open_after
+text-fitting limit s text ready = at (holds_parts (kind_on_top s)) (list_all is_space text) (nat_le (length (moved (cell_plan s) s)) limit) refl refl refl
+  where
+    at : (b c d : Bool) → holds_parts (kind_on_top s) ≡ b → list_all is_space text ≡ c → nat_le (length (moved (cell_plan s) s)) limit ≡ d
+        → IsFitting limit s
+        (written (if b && not c then (if d then parted (cell_plan s) else record dropped { writes = WhiteSpace }) else kept 0 []) s (Text text))
+        (stack_after (if b && not c then (if d then parted (cell_plan s) else record dropped { writes = WhiteSpace }) else kept 0 []) s (Text text))
+    at true false true h e l = parted-fitting limit s text ready (plans-cell s ready.stand h) (leb-true (length (moved (cell_plan s) s)) limit l)
+    at true false false h e l = text-next limit s s (filter is_space text) [] (space-fits s (filter is_space text) (all-filtered text)) ready.short Done
+    at true true d h e l = text-next limit s s text [] (space-fits s text e) ready.short Done
+    at false c d h e l = text-next limit s s text [] (text-fits s text (rw h refl)) ready.short Done
+
+-- ---- an item, and all
+
+pub item-fitting : (limit : ℕ) (s : Stack) (item : Item) → IsReady limit s → IsFitting limit s (fitted limit s item) (open_after_fitted limit s item)
+unfolding plan_of
+item-fitting limit s (StartTag name attributes) ready =
+    limited-fitting limit s name attributes (start_plan (kind_of name) s) ready (right-start name attributes s ready.stand)
+item-fitting limit s (EndTag name) ready = end-fitting limit (kind_of name) s name ready
+item-fitting limit s (Text text) ready = text-fitting limit s text ready
+
+pub ready-after : (limit : ℕ) (s : Stack) (item : Item) → IsReady limit s → IsReady limit (open_after_fitted limit s item)
+ready-after limit s item ready =
+    let f = item-fitting limit s item ready in
+    record {
+      stand = stand-fitting limit s (open_after_fitted limit s item) (fitted limit s item) ready.stand f;
+      short = short-fitting limit s (open_after_fitted limit s item) (fitted limit s item) ready.short f;
+    }
+
+closed-fitting : (limit : ℕ) (s : Stack) → all_stand s ≡ true → length s ≤ limit → IsFitting limit s (end_tags s) []
+unfolding all_stand open_after
+closed-fitting limit [] a l = Done
+closed-fitting limit (name ∷ s) a l =
+    let p = and_parts (stands name s) (all_stand s) a in
+    let q = and_parts (can_open (kind_of name)) (fits_in (kind_on_top s) (kind_of name) s) p.0 in
+    let m : length s ≤ limit = omega arith in
+    Next (EndTag name) (end-fits name s q.0) m (closed-fitting limit s p.1 m)
+
+pub all-fitting : (limit : ℕ) (items : List Item) (s : Stack) → IsReady limit s → IsFitting limit s (normal_above limit s items) []
+unfolding normal_above
+all-fitting limit [] s ready = closed-fitting limit s ready.stand ready.short
+all-fitting limit (item ∷ items) s ready =
+    fitting-append limit s (open_after_fitted limit s item) [] (fitted limit s item) (normal_above limit (open_after_fitted limit s item) items)
+    (item-fitting limit s item ready) (all-fitting limit items (open_after_fitted limit s item) (ready-after limit s item ready))
+
+pub none-ready : (limit : ℕ) → IsReady limit []
+unfolding all_stand
+none-ready limit = record { stand = refl; short = omega arith }
+
+pub normal-fits : (limit : ℕ) (items : List Item) → all_fit [] (normal limit items) ≡ true
+normal-fits limit items =
+    let f = all-fitting limit items [] (none-ready limit) in
+    and_from (each_fits [] (normal limit items)) (none_open (all_open_after [] (normal limit items)))
+    (each-fits limit [] [] (normal limit items) f) (ap none_open (open-fitting limit [] [] (normal limit items) f))
+
+pub normal-within : (limit : ℕ) (items : List Item) → stays_within limit [] (normal limit items) ≡ true
+normal-within limit items =
+    within-fitting limit [] [] (normal limit items) (none-ready limit).short (all-fitting limit items [] (none-ready limit))
