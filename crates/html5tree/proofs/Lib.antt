@@ -1,10 +1,10 @@
 pub mod Lists
 pub mod Steps
 pub mod Plans
-pub mod Normalising
 pub mod Documents
 pub mod Texts
 pub mod Built
+pub mod Normalising
 pub mod InPlace
 pub mod Hosted
 pub mod FlowHosts

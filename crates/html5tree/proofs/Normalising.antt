@@ -5,16 +5,19 @@ use Rattle.std.specs.List.{list_all}
 use Rattle.std.specs.Str.{bytes_eq}
 use Rattle.std.proofs.lemmas.Slice.Eq.{bytes_eq-Decides}
 use Rattle.std.proofs.lemmas.Bool.{false≢true, not-true, not-false, not_from_false, and_parts, and_from, and_cases, cases_Bool, leb-true, le-leb, ltb-true}
-use Rattle.html5tree.specs.Fitting.{all_fit, all_open_after, bounds_item, bounds_paragraph, can_open, each_fits, fits, fits_flow, fits_in, holds, holds_parts, is_space, no_paragraph, none_open, open_after}
-use Rattle.html5tree.specs.Items.{Attribute, Item, text_before}
+use Rattle.html5tree.specs.Construction.{tree_of}
+use Rattle.html5tree.specs.Fitting.{all_fit, all_open_after, bounds_item, bounds_paragraph, can_open, each_fits, fits, fits_flow, fits_in, holds, holds_parts, is_implied_before_text, is_space, no_paragraph, none_near, none_open, open_after}
+use Rattle.html5tree.specs.Items.{Attribute, Item, read_items, text_before}
 use Rattle.html5tree.specs.Items.Item.{EndTag, StartTag, Text}
-use Rattle.html5tree.specs.Names.{Kind, all_names, is_among, is_heading, is_paragraph, is_part, is_void, kind_in, kind_of, named, no_kind, of_kind}
+use Rattle.html5tree.specs.Names.{Kind, all_names, has_marker, is_among, is_anchor, is_button, is_description, is_form, is_heading, is_implied, is_list_item, is_no_break, is_paragraph, is_ruby, is_part, is_void, kind_in, kind_of, named, no_kind, of_kind}
 use Rattle.html5tree.specs.Names.Kind.{Anchor, Button, Caption, Cell, Column, ColumnGroup, Description, Form, Formatting, Heading, ListItem, NoBreak, Ordinary, Paragraph, Ruby, RubyBase, RubyContainer, RubyText, Table, TableBody, TableRow, Unknown, Void}
 use Rattle.html5tree.specs.Normal.Written.{EmptyParagraph, Itself, LineBreak, Nothing, Parted, WhiteSpace}
-use Rattle.html5tree.specs.Normal.{Plan, all_stand, bounds_end, cell_plan, closing, count_inside, dropped, end_plan, end_tags, fitted, flow_plan, inside_context, is_ended, kept, limited, lone_end_plan, moved, normal, normal_above, open_after_fitted, opened, parents_in, plan_of, stack_after, stands, start_plan, start_tags, stays_within, text_plan, written, written_first, written_last}
-use Rattle.html5tree.specs.Scopes.{kind_on_top, near, top_is}
+use Rattle.html5tree.specs.Normal.{Plan, all_stand, bounds_end, cell_plan, cell_text_plan, closing, count_inside, dropped, end_plan, end_tags, fitted, flow_plan, implied_closes, inside_context, is_context, is_ended, kept, limited, lone_end_plan, moved, normal, normal_above, open_after_fitted, opened, parents, parents_in, part_plan, plan_of, run_of, stack_after, stands, start_plan, start_tags, stays_within, table_plan, text_plan, written, written_first, written_last}
+use Rattle.html5tree.specs.Scopes.{kind_on_top, near, top_is, top_of_kind}
 use Rattle.html5tree.specs.Tables.{after_space, leading_space}
-use Rattle.html5tree.proofs.Plans.{IsFitting, IsReady, IsRight, OpensFit, PlansCell, Stack, bytes-itself, closes-fitting, each-fits, end-fits, fits-start, fitting-append, flow-in, in-cell, kept-fitting, kind-td, limited-fitting, open-fitting, opens-fitting, plans-cell, right-start, short-fitting, stand-fitting, start-next, within-fitting}
+use Rattle.html5tree.specs.Tree.{nesting}
+use Rattle.html5tree.proofs.Built.{tree-of-read}
+use Rattle.html5tree.proofs.Plans.{IsFitting, IsReady, IsRight, OpensFit, PlansCell, Stack, bytes-itself, closes-fitting, each-fits, end-fits, fits-start, fitting-append, flow-in, held-part, in-cell, kept-fitting, kind-td, limited-fitting, open-fitting, opens-fitting, plans-cell, right-start, short-fitting, stand-fitting, start-next, within-fitting}
 use Rattle.html5tree.proofs.Plans.IsFitting.{Done, Next}
 
 -- ---- an end tag
@@ -225,3 +228,157 @@ normal-fits limit items =
 pub normal-within : (limit : ℕ) (items : List Item) → stays_within limit [] (normal limit items) ≡ true
 normal-within limit items =
     within-fitting limit [] [] (normal limit items) (none-ready limit).short (all-fitting limit items [] (none-ready limit))
+
+-- ---- what fits is not changed
+
+same-context : (top k : Kind) → holds top k ≡ true → (is_context k top ≡ true) × (parents top k ≡ [])
+same-context Table Caption h = (refl, refl)
+same-context Table ColumnGroup h = (refl, refl)
+same-context Table TableBody h = (refl, refl)
+same-context ColumnGroup Column h = (refl, refl)
+same-context TableBody TableRow h = (refl, refl)
+same-context TableRow Cell h = (refl, refl)
+same-context top k h = absurd (false≢true h)
+
+same-part : (k : Kind) (s : Stack) → holds (kind_on_top s) k ≡ true → part_plan k s ≡ kept 0 []
+unfolding near count_inside
+same-part k [] h = absurd (false≢true h)
+same-part k (name ∷ s) h = let p = same-context (kind_of name) k h in rw (p.0, p.1) refl
+
+same-ruby : (test : Kind → Bool) (s : Stack) → (near (of_kind is_ruby) has_marker s && top_of_kind test s) ≡ false → implied_closes test s ≡ 0
+unfolding near run_of
+same-ruby test [] h = refl
+same-ruby test (name ∷ s) h = at (near (of_kind is_ruby) has_marker (name ∷ s)) (test (kind_of name)) h
+  where
+    at : (b c : Bool) → (b && c) ≡ false → ◌≡◌ {A = ℕ} (if b then (if c then suc (run_of test s) else 0) else 0) 0
+    at true true h = absurd (false≢true (sym h))
+    at true false h = refl
+    at false c h = refl
+
+same-flow : (k : Kind) (s : Stack) → is_part k ≡ false → fits_flow k s ≡ true → flow_plan k s ≡ kept 0 []
+same-flow Unknown s part f = absurd (false≢true f)
+same-flow Caption s part f = absurd (false≢true (sym part))
+same-flow ColumnGroup s part f = absurd (false≢true (sym part))
+same-flow Column s part f = absurd (false≢true (sym part))
+same-flow TableBody s part f = absurd (false≢true (sym part))
+same-flow TableRow s part f = absurd (false≢true (sym part))
+same-flow Cell s part f = absurd (false≢true (sym part))
+same-flow Ordinary s part f = refl
+same-flow Ruby s part f = refl
+same-flow Formatting s part f = refl
+same-flow Void s part f = refl
+same-flow Anchor s part f = rw (not-true (near (of_kind is_anchor) has_marker s) f) refl
+same-flow NoBreak s part f = rw (not-true (near (of_kind is_no_break) has_marker s) f) refl
+same-flow Button s part f = rw (not-true (near (of_kind is_button) has_marker s) f) refl
+same-flow Heading s part f =
+    let p = and_parts (no_paragraph s) (not (top_of_kind is_heading s)) f in
+    rw (not-true (near (of_kind is_paragraph) bounds_paragraph s) p.0, not-true (top_of_kind is_heading s) p.1) refl
+same-flow ListItem s part f =
+    let p = and_parts (no_paragraph s) (none_near is_list_item bounds_item s) f in
+    rw (not-true (near (of_kind is_list_item) bounds_item s) p.1, not-true (near (of_kind is_paragraph) bounds_paragraph s) p.0) refl
+same-flow Description s part f =
+    let p = and_parts (no_paragraph s) (none_near is_description bounds_item s) f in
+    rw (not-true (near (of_kind is_description) bounds_item s) p.1, not-true (near (of_kind is_paragraph) bounds_paragraph s) p.0) refl
+same-flow Form s part f =
+    let p = and_parts (no_paragraph s) (none_near is_form no_kind s) f in
+    rw (not-true (near (of_kind is_form) no_kind s) p.1, not-true (near (of_kind is_paragraph) bounds_paragraph s) p.0) refl
+same-flow RubyBase s part f = ap (λ n. kept n []) (same-ruby is_implied s (not-true _ f))
+same-flow RubyContainer s part f = ap (λ n. kept n []) (same-ruby is_implied s (not-true _ f))
+same-flow RubyText s part f = ap (λ n. kept n []) (same-ruby is_implied_before_text s (not-true _ f))
+same-flow other s part f = rw (not-true (near (of_kind is_paragraph) bounds_paragraph s) f) refl
+
+same-start : (k : Kind) (s : Stack) → fits_in (kind_on_top s) k s ≡ true → start_plan k s ≡ kept 0 []
+same-start k s f = at (holds_parts (kind_on_top s)) refl f
+  where
+    at : (b : Bool) → holds_parts (kind_on_top s) ≡ b → (if b then holds (kind_on_top s) k else not (is_part k) && fits_flow k s) ≡ true
+        → (if is_part k then part_plan k s else if b then table_plan k s else flow_plan k s) ≡ kept 0 []
+    at true e h = rw (held-part (kind_on_top s) k h) (same-part k s h)
+    at false e h =
+        let p = and_parts (not (is_part k)) (fits_flow k s) h in
+        let part : is_part k ≡ false = not-true (is_part k) p.0 in
+        rw part (same-flow k s part p.1)
+
+record IsUnchanged (limit : ℕ) (s : Stack) (item : Item) : Type 0 where
+  fitted_is : fitted limit s item ≡ item ∷ []
+  after_is : open_after_fitted limit s item ≡ open_after s item
+
+from-plan : (limit : ℕ) (s : Stack) (item : Item) → plan_of limit s item ≡ kept 0 [] → IsUnchanged limit s item
+unfolding opened
+from-plan limit s item e = record { fitted_is = rw e refl; after_is = rw e refl }
+
+limited-kept : (limit : ℕ) (s : Stack) (item : Item) (plan : Plan) → plan ≡ kept 0 [] → length (open_after s item) ≤ limit
+    → limited limit s item plan ≡ kept 0 []
+unfolding opened
+limited-kept limit s item plan e l = rw (e, le-leb (length (open_after s item)) limit l) refl
+
+same-text : (limit : ℕ) (s : Stack) (text : List ℕ) → fits s (Text text) ≡ true → text_plan limit s text ≡ kept 0 []
+unfolding fits
+same-text limit s text f = at (holds_parts (kind_on_top s)) f
+  where
+    at : (b : Bool) → (if b then list_all is_space text else true) ≡ true
+        → (if b && not (list_all is_space text) then cell_text_plan limit s (cell_plan s) else kept 0 []) ≡ kept 0 []
+    at true h = rw h refl
+    at false h = refl
+
+ended-itself : (k : Kind) (name : List ℕ) → kind_of name ≡ k → is_ended k name name ≡ true
+ended-itself Heading name is = rw is refl
+ended-itself Paragraph name is = rw is refl
+ended-itself other name is = bytes-itself name
+
+no-br : (name : List ℕ) → can_open (kind_of name) ≡ true → named (codes "br") name ≡ false
+no-br name o = at (named (codes "br") name) refl
+  where
+    at : (b : Bool) → named (codes "br") name ≡ b → b ≡ false
+    at true e = absurd (false≢true (sym (ap can_open (ap kind_of ((bytes_eq-Decides name (codes "br")).0 e) ∙ kind-br)) ∙ o))
+    at false e = refl
+
+closed-plan : (limit : ℕ) (s : Stack) (name : List ℕ) → can_open (kind_of name) ≡ true → end_plan limit (kind_of name) (name ∷ s) name ≡ closing 1
+unfolding near count_inside
+closed-plan limit s name o = rw (no-br name o, ended-itself (kind_of name) name refl) refl
+
+closed-top : (limit : ℕ) (s : Stack) (name : List ℕ) → can_open (kind_of name) ≡ true → IsUnchanged limit (name ∷ s) (EndTag name)
+unfolding opened open_after plan_of
+closed-top limit s name o = record { fitted_is = rw (closed-plan limit s name o) refl; after_is = rw (closed-plan limit s name o) refl }
+
+same-end : (limit : ℕ) (s : Stack) (name : List ℕ) → can_open (kind_of name) ≡ true → top_is (named name) s ≡ true → IsUnchanged limit s (EndTag name)
+same-end limit [] name o t = absurd (false≢true t)
+same-end limit (top ∷ s) name o t =
+    subst (λ x. IsUnchanged limit (x ∷ s) (EndTag name)) (sym ((bytes_eq-Decides top name).0 t)) (closed-top limit s name o)
+
+unchanged-item : (limit : ℕ) (s : Stack) (item : Item) → fits s item ≡ true → length (open_after s item) ≤ limit → IsUnchanged limit s item
+unfolding plan_of fits
+unchanged-item limit s (StartTag name attributes) f l =
+    from-plan limit s (StartTag name attributes)
+    (limited-kept limit s (StartTag name attributes) (start_plan (kind_of name) s) (same-start (kind_of name) s f) l)
+unchanged-item limit s (EndTag name) f l =
+    let p = and_parts (can_open (kind_of name)) (top_is (named name) s) f in
+    same-end limit s name p.0 p.1
+unchanged-item limit s (Text text) f l = from-plan limit s (Text text) (same-text limit s text f)
+
+within-first : (limit : ℕ) (items : List Item) (s : Stack) → stays_within limit s items ≡ true → length s ≤ limit
+unfolding stays_within
+within-first limit [] s w = leb-true (length s) limit w
+within-first limit (item ∷ items) s w =
+    leb-true (length s) limit (and_parts (nat_le (length s) limit) (stays_within limit (open_after s item) items) w).0
+
+pub unchanged : (limit : ℕ) (items : List Item) (s : Stack) → each_fits s items ≡ true → none_open (all_open_after s items) ≡ true → stays_within limit s items ≡ true
+    → normal_above limit s items ≡ items
+unfolding each_fits all_open_after stays_within normal_above
+unchanged limit [] [] f n w = refl
+unchanged limit [] (name ∷ s) f n w = absurd (false≢true n)
+unchanged limit (item ∷ items) s f n w =
+    let p = and_parts (fits s item) (each_fits (open_after s item) items) f in
+    let q = and_parts (nat_le (length s) limit) (stays_within limit (open_after s item) items) w in
+    let u = unchanged-item limit s item p.0 (within-first limit items (open_after s item) q.1) in
+    rw (u.fitted_is, u.after_is) (ap (λ more. item ∷ more) (unchanged limit items (open_after s item) p.1 n q.1))
+
+pub normal-unchanged : (limit : ℕ) (items : List Item) → all_fit [] items ≡ true → stays_within limit [] items ≡ true → normal limit items ≡ items
+normal-unchanged limit items f w =
+    let p = and_parts (each_fits [] items) (none_open (all_open_after [] items)) f in
+    unchanged limit items [] p.0 p.1 w
+
+pub normal-twice : (limit : ℕ) (items : List Item) → normal limit (normal limit items) ≡ normal limit items
+normal-twice limit items = normal-unchanged limit (normal limit items) (normal-fits limit items) (normal-within limit items)
+
+pub normal-tree : (limit : ℕ) (items : List Item) → tree_of (normal limit items) ≡ nesting (read_items false (normal limit items))
+normal-tree limit items = tree-of-read (normal limit items) (normal-fits limit items)

@@ -307,7 +307,7 @@ part-parent top k s f part = at (holds_parts top) f
     at true h = refl
     at false h = rw part at h
 
-held-part : (top k : Kind) → holds top k ≡ true → is_part k ≡ true
+pub held-part : (top k : Kind) → holds top k ≡ true → is_part k ≡ true
 held-part Table Caption h = refl
 held-part Table ColumnGroup h = refl
 held-part Table TableBody h = refl
