@@ -5,6 +5,7 @@ pub mod Documents
 pub mod Texts
 pub mod Built
 pub mod Normalising
+pub mod Bounds
 pub mod InPlace
 pub mod Hosted
 pub mod FlowHosts

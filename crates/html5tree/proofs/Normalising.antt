@@ -1,23 +1,22 @@
 -- What the normaliser makes fits, and what fits is not changed.
-use Rattle.std.proofs.Common.{◌≡◌, ℕ, zero, suc, ◌+◌, ◌*◌, ◌≤◌, ◌<◌, Bool, true, false, List, [], ◌∷◌, ◌++◌, length, take, drop, refl, ap, sym, ◌∙◌, subst, arith, ◌⊎◌, inl, inr}
+use Rattle.std.proofs.Common.{◌≡◌, ℕ, suc, ◌≤◌, ◌<◌, Bool, true, false, List, [], ◌∷◌, ◌++◌, length, take, drop, refl, ap, sym, ◌∙◌, subst, arith}
 use Rattle.std.specs.Prelude.{codes, filter, not, ◌&&◌, nat_le, nat_lt, if◌then◌else◌}
 use Rattle.std.specs.List.{list_all}
-use Rattle.std.specs.Str.{bytes_eq}
 use Rattle.std.proofs.lemmas.Slice.Eq.{bytes_eq-Decides}
-use Rattle.std.proofs.lemmas.Bool.{false≢true, not-true, not-false, not_from_false, and_parts, and_from, and_cases, cases_Bool, leb-true, le-leb, ltb-true}
+use Rattle.std.proofs.lemmas.Bool.{false≢true, not-true, not_from_false, and_parts, and_from, leb-true, le-leb, ltb-true}
 use Rattle.html5tree.specs.Construction.{tree_of}
 use Rattle.html5tree.specs.Fitting.{all_fit, all_open_after, bounds_item, bounds_paragraph, can_open, each_fits, fits, fits_flow, fits_in, holds, holds_parts, is_implied_before_text, is_space, no_paragraph, none_near, none_open, open_after}
-use Rattle.html5tree.specs.Items.{Attribute, Item, read_items, text_before}
+use Rattle.html5tree.specs.Items.{Item, read_items, text_before}
 use Rattle.html5tree.specs.Items.Item.{EndTag, StartTag, Text}
-use Rattle.html5tree.specs.Names.{Kind, all_names, has_marker, is_among, is_anchor, is_button, is_description, is_form, is_heading, is_implied, is_list_item, is_no_break, is_paragraph, is_ruby, is_part, is_void, kind_in, kind_of, named, no_kind, of_kind}
+use Rattle.html5tree.specs.Names.{Kind, all_names, has_marker, is_among, is_anchor, is_button, is_description, is_form, is_heading, is_implied, is_list_item, is_no_break, is_paragraph, is_ruby, is_part, kind_in, kind_of, named, no_kind, of_kind}
 use Rattle.html5tree.specs.Names.Kind.{Anchor, Button, Caption, Cell, Column, ColumnGroup, Description, Form, Formatting, Heading, ListItem, NoBreak, Ordinary, Paragraph, Ruby, RubyBase, RubyContainer, RubyText, Table, TableBody, TableRow, Unknown, Void}
-use Rattle.html5tree.specs.Normal.Written.{EmptyParagraph, Itself, LineBreak, Nothing, Parted, WhiteSpace}
-use Rattle.html5tree.specs.Normal.{Plan, all_stand, bounds_end, cell_plan, cell_text_plan, closing, count_inside, dropped, end_plan, end_tags, fitted, flow_plan, implied_closes, inside_context, is_context, is_ended, kept, limited, lone_end_plan, moved, normal, normal_above, open_after_fitted, opened, parents, parents_in, part_plan, plan_of, run_of, stack_after, stands, start_plan, start_tags, stays_within, table_plan, text_plan, written, written_first, written_last}
+use Rattle.html5tree.specs.Normal.Written.{EmptyParagraph, LineBreak, Parted, WhiteSpace}
+use Rattle.html5tree.specs.Normal.{Plan, all_stand, bounds_end, cell_plan, cell_text_plan, closing, count_inside, dropped, end_plan, end_tags, fitted, flow_plan, implied_closes, inside_context, is_context, is_ended, kept, limited, lone_end_plan, moved, normal, normal_above, open_after_fitted, opened, parents, parents_in, part_plan, plan_of, run_of, stack_after, stands, start_plan, start_tags, stays_within, table_plan, text_plan, written, written_first}
 use Rattle.html5tree.specs.Scopes.{kind_on_top, near, top_is, top_of_kind}
 use Rattle.html5tree.specs.Tables.{after_space, leading_space}
 use Rattle.html5tree.specs.Tree.{nesting}
 use Rattle.html5tree.proofs.Built.{tree-of-read}
-use Rattle.html5tree.proofs.Plans.{IsFitting, IsReady, IsRight, OpensFit, PlansCell, Stack, bytes-itself, closes-fitting, each-fits, end-fits, fits-start, fitting-append, flow-in, held-part, in-cell, kept-fitting, kind-td, limited-fitting, open-fitting, opens-fitting, plans-cell, right-start, short-fitting, stand-fitting, start-next, within-fitting}
+use Rattle.html5tree.proofs.Plans.{IsFitting, IsReady, OpensFit, PlansCell, Stack, bytes-itself, closes-fitting, each-fits, end-fits, fits-start, fitting-append, flow-in, held-part, in-cell, kept-fitting, kind-td, limited-fitting, open-fitting, opens-fitting, plans-cell, right-start, short-fitting, stand-fitting, start-next, within-fitting}
 use Rattle.html5tree.proofs.Plans.IsFitting.{Done, Next}
 
 -- ---- an end tag
