@@ -6,6 +6,7 @@ pub mod Texts
 pub mod Built
 pub mod Normalising
 pub mod Bounds
+pub mod Cuts
 pub mod InPlace
 pub mod Hosted
 pub mod FlowHosts
