@@ -32,6 +32,7 @@ few-part k s = at (near (of_kind (is_context k)) no_kind s)
   where
     few : length (parents_in s k) ≤ 2
     few = few-parents (kind_on_top (drop (inside_context k s) s)) k
+
     at : (b : Bool) → length (if b then kept (inside_context k s) (parents_in s k) else dropped).opens ≤ 3
     at true = omega (arith, few)
     at false = omega arith
@@ -90,6 +91,7 @@ few-end limit k s name = at (named (codes "br") name) (near (is_ended k name) (b
   where
     breaking : Plan
     breaking = record (start_plan Void s) { writes = LineBreak }
+
     at : (b c : Bool) → OpensFew
         (if b then limited limit s (EndTag name) breaking
         else if c then closing (suc (count_inside (is_ended k name) s)) else lone_end_plan limit k s)

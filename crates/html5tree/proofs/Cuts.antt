@@ -9,11 +9,11 @@ use Rattle.html5tree.specs.Fitting.{holds_parts, is_space, open_after}
 use Rattle.html5tree.specs.Items.{Item, in_front, text_before, whole_texts}
 use Rattle.html5tree.specs.Items.Item.{EndTag, StartTag, Text}
 use Rattle.html5tree.specs.Names.Kind.{Cell}
-use Rattle.html5tree.specs.Normal.{cell_plan, end_tags, fitted, inside_context, moved, normal, normal_above, open_after_fitted, opened, parents_in, plan_of, start_tags, written}
+use Rattle.html5tree.specs.Normal.{IsReady, cell_plan, end_tags, fitted, inside_context, moved, normal, normal_above, open_after_fitted, opened, parents_in, plan_of, start_tags, written}
 use Rattle.html5tree.specs.Scopes.{kind_on_top}
 use Rattle.html5tree.specs.Tables.{after_space, leading_space}
 use Rattle.html5tree.proofs.Normalising.{none-ready, parted, ready-after}
-use Rattle.html5tree.proofs.Plans.{IsReady, PlansCell, Stack, kind-td, plans-cell}
+use Rattle.html5tree.proofs.Plans.{PlansCell, Stack, kind-td, plans-cell}
 
 -- ---- whole texts
 
@@ -149,6 +149,7 @@ two-texts limit s a b ready =
   where
     all : (c d : Bool) → list_all is_space a ≡ c → list_all is_space b ≡ d → list_all is_space (a ++ b) ≡ (c && d)
     all c d e f = list_all-append is_space a b ∙ rw (e, f) refl
+
     at : (h c d l : Bool) → holds_parts (kind_on_top s) ≡ h → list_all is_space a ≡ c → list_all is_space b ≡ d
         → nat_le (length (moved (cell_plan s) s)) limit ≡ l → JoinsTexts limit s a b
     at false c d l holder e f g =

@@ -11,12 +11,12 @@ use Rattle.html5tree.specs.Items.Item.{EndTag, StartTag, Text}
 use Rattle.html5tree.specs.Names.{Kind, all_names, has_marker, is_among, is_anchor, is_button, is_description, is_form, is_heading, is_implied, is_list_item, is_no_break, is_paragraph, is_ruby, is_part, kind_in, kind_of, named, no_kind, of_kind}
 use Rattle.html5tree.specs.Names.Kind.{Anchor, Button, Caption, Cell, Column, ColumnGroup, Description, Form, Formatting, Heading, ListItem, NoBreak, Ordinary, Paragraph, Ruby, RubyBase, RubyContainer, RubyText, Table, TableBody, TableRow, Unknown, Void}
 use Rattle.html5tree.specs.Normal.Written.{EmptyParagraph, LineBreak, Parted, WhiteSpace}
-use Rattle.html5tree.specs.Normal.{Plan, all_stand, bounds_end, cell_plan, cell_text_plan, closing, count_inside, dropped, end_plan, end_tags, fitted, flow_plan, implied_closes, inside_context, is_context, is_ended, kept, limited, lone_end_plan, moved, normal, normal_above, open_after_fitted, opened, parents, parents_in, part_plan, plan_of, run_of, stack_after, stands, start_plan, start_tags, stays_within, table_plan, text_plan, written, written_first}
+use Rattle.html5tree.specs.Normal.{IsReady, Plan, all_stand, bounds_end, cell_plan, cell_text_plan, closing, count_inside, dropped, end_plan, end_tags, fitted, flow_plan, implied_closes, inside_context, is_context, is_ended, kept, limited, lone_end_plan, moved, normal, normal_above, open_after_fitted, opened, parents, parents_in, part_plan, plan_of, run_of, stack_after, stands, start_plan, start_tags, stays_within, table_plan, text_plan, written, written_first}
 use Rattle.html5tree.specs.Scopes.{kind_on_top, near, top_is, top_of_kind}
 use Rattle.html5tree.specs.Tables.{after_space, leading_space}
 use Rattle.html5tree.specs.Tree.{nesting}
 use Rattle.html5tree.proofs.Built.{tree-of-read}
-use Rattle.html5tree.proofs.Plans.{IsFitting, IsReady, OpensFit, PlansCell, Stack, bytes-itself, closes-fitting, each-fits, end-fits, fits-start, fitting-append, flow-in, held-part, in-cell, kept-fitting, kind-td, limited-fitting, open-fitting, opens-fitting, plans-cell, right-start, short-fitting, stand-fitting, start-next, within-fitting}
+use Rattle.html5tree.proofs.Plans.{IsFitting, OpensFit, PlansCell, Stack, bytes-itself, closes-fitting, each-fits, end-fits, fits-start, fitting-append, flow-in, held-part, in-cell, kept-fitting, kind-td, limited-fitting, open-fitting, opens-fitting, plans-cell, right-start, short-fitting, stand-fitting, start-next, within-fitting}
 use Rattle.html5tree.proofs.Plans.IsFitting.{Done, Next}
 
 -- ---- an end tag
@@ -43,6 +43,7 @@ break-fitting limit s name closes opens ready o f = at (nat_le (length (opened o
     made : length (opened opens (drop closes s)) ≤ limit → IsFitting limit s (written (breaking closes opens) s (EndTag name)) (opened opens (drop closes s))
     made l =
         rw kind-br at (kept-fitting limit s (codes "br") [] closes opens ready o f (rw kind-br l))
+
     at : (b : Bool) → nat_le (length (opened opens (drop closes s))) limit ≡ b
         → IsFitting limit s (written (if b then breaking closes opens else dropped) s (EndTag name))
         (stack_after (if b then breaking closes opens else dropped) s (EndTag name))
@@ -381,3 +382,18 @@ normal-twice limit items = normal-unchanged limit (normal limit items) (normal-f
 
 pub normal-tree : (limit : ℕ) (items : List Item) → tree_of (normal limit items) ≡ nesting (read_items false (normal limit items))
 normal-tree limit items = tree-of-read (normal limit items) (normal-fits limit items)
+
+-- ---- one item
+
+pub item-fits : (limit : ℕ) (s : Stack) (item : Item) → IsReady limit s → each_fits s (fitted limit s item) ≡ true
+item-fits limit s item ready = each-fits limit s (open_after_fitted limit s item) (fitted limit s item) (item-fitting limit s item ready)
+
+pub item-within : (limit : ℕ) (s : Stack) (item : Item) → IsReady limit s → stays_within limit s (fitted limit s item) ≡ true
+item-within limit s item ready =
+    within-fitting limit s (open_after_fitted limit s item) (fitted limit s item) ready.short (item-fitting limit s item ready)
+
+pub item-after : (limit : ℕ) (s : Stack) (item : Item) → IsReady limit s → all_open_after s (fitted limit s item) ≡ open_after_fitted limit s item
+item-after limit s item ready = open-fitting limit s (open_after_fitted limit s item) (fitted limit s item) (item-fitting limit s item ready)
+
+pub item-unchanged : (limit : ℕ) (s : Stack) (item : Item) → fits s item ≡ true → length (open_after s item) ≤ limit → fitted limit s item ≡ item ∷ []
+item-unchanged limit s item f l = (unchanged-item limit s item f l).fitted_is

@@ -9,7 +9,7 @@ use Rattle.html5tree.specs.Items.{Attribute, Item}
 use Rattle.html5tree.specs.Items.Item.{EndTag, StartTag, Text}
 use Rattle.html5tree.specs.Names.{Kind, all_names, has_marker, is_among, is_anchor, is_button, is_description, is_form, is_heading, is_implied, is_list_item, is_no_break, is_paragraph, is_part, is_ruby, is_table, is_void, kind_in, kind_of, named, no_kind, of_kind}
 use Rattle.html5tree.specs.Names.Kind.{Anchor, Button, Caption, Cell, Column, ColumnGroup, Description, Form, Formatting, Heading, ListItem, NoBreak, Ordinary, Paragraph, Ruby, RubyBase, RubyContainer, RubyText, Rule, Table, TableBody, TableRow, Unknown, Void}
-use Rattle.html5tree.specs.Normal.{all_stand, cell_plan, count_inside, dropped, end_tags, flow_plan, heading_closes, implied_closes, inside_context, is_context, item_closes, kept, limited, opened, paragraph_closes, parents, parents_in, part_plan, run_of, stack_after, stands, start_plan, start_tags, stays_within, table_plan, through, written, Plan}
+use Rattle.html5tree.specs.Normal.{IsReady, all_stand, cell_plan, count_inside, dropped, end_tags, flow_plan, heading_closes, implied_closes, inside_context, is_context, item_closes, kept, limited, opened, paragraph_closes, parents, parents_in, part_plan, run_of, stack_after, stands, start_plan, start_tags, stays_within, table_plan, through, written, Plan}
 use Rattle.html5tree.specs.Scopes.{kind_on_top, near, top_of_kind}
 
 -- the open elements
@@ -91,11 +91,6 @@ stands-after s (Text text) a f = a
 pub stand-fitting : (limit : ℕ) (s t : Stack) (items : List Item) → all_stand s ≡ true → IsFitting limit s items t → all_stand t ≡ true
 stand-fitting limit s t [] a Done = a
 stand-fitting limit s t (item ∷ items) a (Next i f l r) = stand-fitting limit (open_after s item) t items (stands-after s item a f) r
-
--- what a normaliser's stack is between two items
-pub record IsReady (limit : ℕ) (s : Stack) : Type 0 where
-  pub stand : all_stand s ≡ true
-  pub short : length s ≤ limit
 
 -- ---- elements that are closed
 
@@ -285,6 +280,7 @@ right-part name attributes s a part = at (near (of_kind (is_context (kind_of nam
     kept_in r =
         let p = part-in (kind_of name) (kind_of r.name) r.name r.outer name attributes refl refl r.passes part in
         Kept (inside_context (kind_of name) s) (parents_in s (kind_of name)) (rw r.is p.0) (rw r.is p.1)
+
     at : (b : Bool) → near (of_kind (is_context (kind_of name))) no_kind s ≡ b
         → IsRight s (StartTag name attributes) (if b then kept (inside_context (kind_of name) s) (parents_in s (kind_of name)) else dropped)
     at true e = kept_in (found (of_kind (is_context (kind_of name))) no_kind s a e)
@@ -350,6 +346,7 @@ near-table test (name ∷ s) t a h =
     past : {x : Bool} (b : Bool) → x ≡ true → (if b then true else x) ≡ true
     past true e = refl
     past false e = e
+
     at : (k : Kind) → kind_of name ≡ k → holds_parts k ≡ true → fits_in (kind_on_top s) k s ≡ true
         → (holds_parts (kind_on_top s) ≡ true → near (of_kind test) no_kind s ≡ true) → (if test k then true else near (of_kind test) no_kind s) ≡ true
     at Table is h f again = rw t refl
@@ -508,7 +505,7 @@ clear-found : (s : Stack) → IsFound (of_kind is_paragraph) (count_inside (of_k
     → IsClear (drop (suc (count_inside (of_kind is_paragraph) s)) s)
 clear-found s r =
     let f = in-flow Paragraph r.outer
-        (subst (λ x. fits_in (kind_on_top r.outer) x r.outer ≡ true) (only-paragraph (kind_of r.name) r.passes) (stands-in r.name r.outer r.stand)) refl in
+    (subst (λ x. fits_in (kind_on_top r.outer) x r.outer ≡ true) (only-paragraph (kind_of r.name) r.passes) (stands-in r.name r.outer r.stand)) refl in
     rw (drop-suc (count_inside (of_kind is_paragraph) s) s r.outer r.name r.is)
     (record { holder = f.holder; paragraph = f.flow; stand = stand-outer r.name r.outer r.stand })
 
@@ -559,6 +556,7 @@ light-in name s a b n =
   where
     opens : can_open (kind_of name) ≡ true
     opens = (and_parts (can_open (kind_of name)) (fits_in (kind_on_top s) (kind_of name) s) (and_parts (stands name s) (all_stand s) a).0).0
+
     at : (is_part (kind_of name) ≡ true) ⊎ (is_part (kind_of name) ≡ false) → IsLight (kind_of name)
     at (inl part) =
         absurd (false≢true (sym (no-paragraph-held s (stand-outer name s a) (part-parent (kind_on_top s) (kind_of name) s (stands-in name s a) part)) ∙ n))
@@ -575,10 +573,11 @@ items-outside test t light (name ∷ s) a n h =
   where
     past : (k : Kind) → kind_of name ≡ k → test k ≡ false → bounds_item k ≡ false → near (of_kind test) bounds_item s ≡ false
     past k is u v = rw (is, u, v) at h
+
     at : (b c : Bool) → is_paragraph (kind_of name) ≡ b → bounds_paragraph (kind_of name) ≡ c
         → (if b then true else if c then false else near (of_kind is_paragraph) bounds_paragraph s) ≡ true
         → (near (of_kind is_paragraph) bounds_paragraph s ≡ true → near (of_kind test) bounds_item s ≡ false
-            → near (of_kind test) bounds_item (drop (suc (count_inside (of_kind is_paragraph) s)) s) ≡ false)
+        → near (of_kind test) bounds_item (drop (suc (count_inside (of_kind is_paragraph) s)) s) ≡ false)
         → near (of_kind test) bounds_item (drop (if b then 0 else suc (count_inside (of_kind is_paragraph) s)) s) ≡ false
     at true c p d n again = past Paragraph (only-paragraph (kind_of name) p) t refl
     at false true p d n again = absurd (false≢true n)
@@ -599,6 +598,7 @@ right-item test k only t light name attributes s is part a holder flows = at (ne
             → near (of_kind test) bounds_item (drop (if b then suc (count_inside (of_kind is_paragraph) s) else 0) s) ≡ false
         go true e = items-outside test t light s a e none
         go false e = none
+
     at : (b : Bool) → near (of_kind test) bounds_item s ≡ b
         → IsRight s (StartTag name attributes) (kept (if b then suc (count_inside (of_kind test) s) else paragraph_closes s) [])
     at true e = right-same test k only name attributes s is (found (of_kind test) bounds_item s a e)
@@ -650,6 +650,7 @@ right-heading name attributes s is a holder = at (drop (paragraph_closes s) s) r
     on_top t e c false h =
         Kept (paragraph_closes s) [] tt
         (rw e (fits-start name attributes t (flow-in (kind_of name) t (ap is_part is) c.holder (rw is (and_from (no_paragraph t) (not (top_of_kind is_heading t)) c.paragraph (not_from_false (top_of_kind is_heading t) h))))))
+
     at : (t : Stack) → drop (paragraph_closes s) s ≡ t → IsClear t
         → IsRight s (StartTag name attributes) (kept (if top_of_kind is_heading (drop (paragraph_closes s) s) then suc (paragraph_closes s) else paragraph_closes s) [])
     at t e c = rw e (on_top t e c (top_of_kind is_heading t) refl)

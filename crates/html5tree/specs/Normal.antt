@@ -1,6 +1,6 @@
 -- The normaliser: it makes items that fit of any items. By the names of the open elements, innermost first, and a limit of how many may be open,
 -- an item has a plan: what is closed and opened before it, and whether it is written. Each row goes by kinds of names, as those of Fitting do.
-use Rattle.std.specs.Prelude.{ℕ, suc, Bool, true, false, not, List, [], ◌∷◌, ◌++◌, ◌&&◌, codes, length, take, drop, map, filter, nat_le, nat_lt, if◌then◌else◌}
+use Rattle.std.specs.Prelude.{◌≡◌, ℕ, suc, ◌≤◌, Bool, true, false, not, List, [], ◌∷◌, ◌++◌, ◌&&◌, codes, length, take, drop, map, filter, nat_le, nat_lt, if◌then◌else◌}
 use Rattle.std.specs.List.{list_all}
 use Rattle.html5tree.specs.Names.{Kind, kind_of, of_kind, named, no_kind, is_anchor, is_no_break, is_paragraph, is_list_item, is_description, is_heading, is_ruby, is_button, is_form, is_table, is_implied, is_special, has_marker, is_part}
 use Rattle.html5tree.specs.Names.Kind.{Ordinary, Ruby, Anchor, NoBreak, Formatting, Paragraph, ListBlock, ListItem, Description, Heading, Void, RubyBase, RubyContainer, RubyText, Button, Form, Table, Caption, ColumnGroup, Column, TableBody, TableRow, Cell, Unknown}
@@ -264,6 +264,11 @@ stands name stack = can_open (kind_of name) && fits_in (kind_on_top stack) (kind
 unfoldable pub all_stand : List (List ℕ) → Bool
 all_stand [] = true
 all_stand (name ∷ stack) = stands name stack && all_stand stack
+
+-- what the open elements are between two items
+pub record IsReady (limit : ℕ) (stack : List (List ℕ)) : Type 0 where
+  pub stand : all_stand stack ≡ true
+  pub short : length stack ≤ limit
 
 -- whether no more elements than the limit are open, before each item and at the end
 unfoldable pub stays_within : ℕ → List (List ℕ) → List Item → Bool
