@@ -8,7 +8,7 @@ use Rattle.std.proofs.lemmas.Bool.{false≢true, and_parts}
 use Rattle.html5tree.specs.Fitting.{holds_parts, is_space, open_after}
 use Rattle.html5tree.specs.Items.{Item, in_front, text_before, whole_texts}
 use Rattle.html5tree.specs.Items.Item.{EndTag, StartTag, Text}
-use Rattle.html5tree.specs.Names.Kind.{Cell}
+use Rattle.html5tree.specs.declared.kinds.Kind.TheVariants.{Cell}
 use Rattle.html5tree.specs.Normal.{IsReady, cell_plan, end_tags, fitted, inside_context, moved, normal, normal_above, open_after_fitted, opened, parents_in, plan_of, start_tags, written}
 use Rattle.html5tree.specs.Scopes.{kind_on_top}
 use Rattle.html5tree.specs.Tables.{after_space, leading_space}

@@ -8,8 +8,9 @@ use Rattle.html5tree.specs.Construction.{tree_of}
 use Rattle.html5tree.specs.Fitting.{all_fit, all_open_after, bounds_item, bounds_paragraph, can_open, each_fits, fits, fits_flow, fits_in, holds, holds_parts, is_implied_before_text, is_space, no_paragraph, none_near, none_open, open_after}
 use Rattle.html5tree.specs.Items.{Item, read_items, text_before}
 use Rattle.html5tree.specs.Items.Item.{EndTag, StartTag, Text}
-use Rattle.html5tree.specs.Names.{Kind, all_names, has_marker, is_among, is_anchor, is_button, is_description, is_form, is_heading, is_implied, is_list_item, is_no_break, is_paragraph, is_ruby, is_part, kind_in, kind_of, named, no_kind, of_kind}
-use Rattle.html5tree.specs.Names.Kind.{Anchor, Button, Caption, Cell, Column, ColumnGroup, Description, Form, Formatting, Heading, ListItem, NoBreak, Ordinary, Paragraph, Ruby, RubyBase, RubyContainer, RubyText, Table, TableBody, TableRow, Unknown, Void}
+use Rattle.html5tree.specs.declared.kinds.Kind.{Kind}
+use Rattle.html5tree.specs.Names.{all_names, has_marker, is_among, is_anchor, is_button, is_description, is_form, is_heading, is_implied, is_list_item, is_no_break, is_paragraph, is_ruby, is_part, kind_in, kind_of, named, no_kind, of_kind}
+use Rattle.html5tree.specs.declared.kinds.Kind.TheVariants.{Anchor, Button, Caption, Cell, Column, ColumnGroup, Description, Form, Formatting, Heading, ListItem, NoBreak, Ordinary, Paragraph, Ruby, RubyBase, RubyContainer, RubyText, Table, TableBody, TableRow, Unknown, Void}
 use Rattle.html5tree.specs.Normal.Written.{EmptyParagraph, LineBreak, Parted, WhiteSpace}
 use Rattle.html5tree.specs.Normal.{IsReady, Plan, all_stand, bounds_end, cell_plan, cell_text_plan, closing, count_inside, dropped, end_plan, end_tags, fitted, flow_plan, implied_closes, inside_context, is_context, is_ended, kept, limited, lone_end_plan, moved, normal, normal_above, open_after_fitted, opened, parents, parents_in, part_plan, plan_of, run_of, stack_after, stands, start_plan, start_tags, stays_within, table_plan, text_plan, written, written_first}
 use Rattle.html5tree.specs.Scopes.{kind_on_top, near, top_is, top_of_kind}

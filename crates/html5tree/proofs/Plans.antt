@@ -7,8 +7,9 @@ use Rattle.std.proofs.lemmas.Bool.{false≢true, not-true, not_from_false, and_p
 use Rattle.html5tree.specs.Fitting.{all_open_after, bounds_item, bounds_paragraph, can_open, each_fits, fits, fits_flow, fits_in, holds, holds_parts, is_implied_before_text, no_paragraph, none_near, open_after}
 use Rattle.html5tree.specs.Items.{Attribute, Item}
 use Rattle.html5tree.specs.Items.Item.{EndTag, StartTag, Text}
-use Rattle.html5tree.specs.Names.{Kind, all_names, has_marker, is_among, is_anchor, is_button, is_description, is_form, is_heading, is_implied, is_list_item, is_no_break, is_paragraph, is_part, is_ruby, is_table, is_void, kind_in, kind_of, named, no_kind, of_kind}
-use Rattle.html5tree.specs.Names.Kind.{Anchor, Button, Caption, Cell, Column, ColumnGroup, Description, Form, Formatting, Heading, ListItem, NoBreak, Ordinary, Paragraph, Ruby, RubyBase, RubyContainer, RubyText, Rule, Table, TableBody, TableRow, Unknown, Void}
+use Rattle.html5tree.specs.declared.kinds.Kind.{Kind}
+use Rattle.html5tree.specs.Names.{all_names, has_marker, is_among, is_anchor, is_button, is_description, is_form, is_heading, is_implied, is_list_item, is_no_break, is_paragraph, is_part, is_ruby, is_table, is_void, kind_in, kind_of, named, no_kind, of_kind}
+use Rattle.html5tree.specs.declared.kinds.Kind.TheVariants.{Anchor, Button, Caption, Cell, Column, ColumnGroup, Description, Form, Formatting, Heading, ListItem, NoBreak, Ordinary, Paragraph, Ruby, RubyBase, RubyContainer, RubyText, Rule, Table, TableBody, TableRow, Unknown, Void}
 use Rattle.html5tree.specs.Normal.{IsReady, all_stand, cell_plan, count_inside, dropped, end_tags, flow_plan, heading_closes, implied_closes, inside_context, is_context, item_closes, kept, limited, opened, paragraph_closes, parents, parents_in, part_plan, run_of, stack_after, stands, start_plan, start_tags, stays_within, table_plan, through, written, Plan}
 use Rattle.html5tree.specs.Scopes.{kind_on_top, near, top_of_kind}
 

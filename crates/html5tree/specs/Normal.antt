@@ -2,8 +2,9 @@
 -- an item has a plan: what is closed and opened before it, and whether it is written. Each row goes by kinds of names, as those of Fitting do.
 use Rattle.std.specs.Prelude.{◌≡◌, ℕ, suc, ◌≤◌, Bool, true, false, not, List, [], ◌∷◌, ◌++◌, ◌&&◌, codes, length, take, drop, map, filter, nat_le, nat_lt, if◌then◌else◌}
 use Rattle.std.specs.List.{list_all}
-use Rattle.html5tree.specs.Names.{Kind, kind_of, of_kind, named, no_kind, is_anchor, is_no_break, is_paragraph, is_list_item, is_description, is_heading, is_ruby, is_button, is_form, is_table, is_implied, is_special, has_marker, is_part}
-use Rattle.html5tree.specs.Names.Kind.{Ordinary, Ruby, Anchor, NoBreak, Formatting, Paragraph, ListBlock, ListItem, Description, Heading, Void, RubyBase, RubyContainer, RubyText, Button, Form, Table, Caption, ColumnGroup, Column, TableBody, TableRow, Cell, Unknown}
+use Rattle.html5tree.specs.declared.kinds.Kind.{Kind}
+use Rattle.html5tree.specs.Names.{kind_of, of_kind, named, no_kind, is_anchor, is_no_break, is_paragraph, is_list_item, is_description, is_heading, is_ruby, is_button, is_form, is_table, is_implied, is_special, has_marker, is_part}
+use Rattle.html5tree.specs.declared.kinds.Kind.TheVariants.{Ordinary, Ruby, Anchor, NoBreak, Formatting, Paragraph, ListBlock, ListItem, Description, Heading, Void, RubyBase, RubyContainer, RubyText, Button, Form, Table, Caption, ColumnGroup, Column, TableBody, TableRow, Cell, Unknown}
 use Rattle.html5tree.specs.Items.{Item, text_before}
 use Rattle.html5tree.specs.Items.Item.{StartTag, EndTag, Text}
 use Rattle.html5tree.specs.Scopes.{near, top_of_kind, kind_on_top}

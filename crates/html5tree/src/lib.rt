@@ -3,4 +3,5 @@
 //! proved of them.
 #![tactic(auto)]
 
+pub mod kinds;
 pub mod laws;
