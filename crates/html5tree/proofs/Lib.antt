@@ -1,4 +1,5 @@
 pub mod Lists
+pub mod NameTables
 pub mod Steps
 pub mod Plans
 pub mod Documents

@@ -1,4 +1,6 @@
 pub mod Names
+pub mod Slots
+pub mod ElementNames
 pub mod Items
 pub mod Tree
 pub mod Scopes

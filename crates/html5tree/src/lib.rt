@@ -5,3 +5,4 @@
 
 pub mod kinds;
 pub mod laws;
+pub mod names;
