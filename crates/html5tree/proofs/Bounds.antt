@@ -8,11 +8,12 @@ use Rattle.html5tree.specs.Items.Item.{EndTag, StartTag, Text}
 use Rattle.html5tree.specs.declared.kinds.Kind.{Kind}
 use Rattle.html5tree.specs.Names.{is_form, is_part, is_void, kind_of, named, no_kind, of_kind}
 use Rattle.html5tree.specs.declared.kinds.Kind.TheVariants.{Cell, Column, Form, Paragraph, Table, TableBody, TableRow, Unknown, Void}
-use Rattle.html5tree.specs.Normal.{Plan, Written, after_written, bounds_end, cell_plan, closing, count_inside, dropped, end_plan, end_tags, fitted, flow_plan, inside_context, is_context, is_ended, kept, limited, lone_end_plan, moved, normal, normal_above, open_after_fitted, opened, paragraph_closes, parents, parents_in, part_plan, plan_of, stack_after, start_plan, start_tags, table_plan, text_plan, written, written_first, written_last}
-use Rattle.html5tree.specs.Normal.Written.{EmptyParagraph, Itself, LineBreak, Nothing, Parted, WhiteSpace}
+use Rattle.html5tree.specs.Normal.{Plan, after_written, bounds_end, cell_plan, closing, count_inside, dropped, end_plan, end_tags, fitted, flow_plan, inside_context, is_context, is_ended, kept, limited, lone_end_plan, moved, normal, normal_above, open_after_fitted, opened, paragraph_closes, parents, parents_in, part_plan, plan_of, stack_after, start_plan, start_tags, table_plan, text_plan, written, written_first, written_last}
+use Rattle.html5tree.specs.declared.plans.Written.{Written}
+use Rattle.html5tree.specs.declared.plans.Written.TheVariants.{EmptyParagraph, Itself, LineBreak, Nothing, Parted, WhiteSpace}
 use Rattle.html5tree.specs.Scopes.{kind_on_top, near}
 use Rattle.html5tree.specs.Tables.{leading_space}
-use Rattle.html5tree.proofs.Plans.{Stack}
+use Rattle.html5tree.proofs.RightPlans.{Stack}
 use Rattle.std.proofs.lemmas.List.{length-map}
 
 -- ---- at most three parents are opened

@@ -13,7 +13,7 @@ use Rattle.html5tree.specs.Normal.{IsReady, cell_plan, end_tags, fitted, inside_
 use Rattle.html5tree.specs.Scopes.{kind_on_top}
 use Rattle.html5tree.specs.Tables.{after_space, leading_space}
 use Rattle.html5tree.proofs.Normalising.{none-ready, parted, ready-after}
-use Rattle.html5tree.proofs.Plans.{PlansCell, Stack, kind-td, plans-cell}
+use Rattle.html5tree.proofs.RightPlans.{PlansCell, Stack, kind-td, plans-cell}
 
 -- ---- whole texts
 

@@ -1,7 +1,7 @@
 pub mod Lists
 pub mod NameTables
 pub mod Steps
-pub mod Plans
+pub mod RightPlans
 pub mod Documents
 pub mod Texts
 pub mod Built

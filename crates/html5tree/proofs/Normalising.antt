@@ -11,14 +11,14 @@ use Rattle.html5tree.specs.Items.Item.{EndTag, StartTag, Text}
 use Rattle.html5tree.specs.declared.kinds.Kind.{Kind}
 use Rattle.html5tree.specs.Names.{all_names, has_marker, is_among, is_anchor, is_button, is_description, is_form, is_heading, is_implied, is_list_item, is_no_break, is_paragraph, is_ruby, is_part, kind_in, kind_of, named, no_kind, of_kind}
 use Rattle.html5tree.specs.declared.kinds.Kind.TheVariants.{Anchor, Button, Caption, Cell, Column, ColumnGroup, Description, Form, Formatting, Heading, ListItem, NoBreak, Ordinary, Paragraph, Ruby, RubyBase, RubyContainer, RubyText, Table, TableBody, TableRow, Unknown, Void}
-use Rattle.html5tree.specs.Normal.Written.{EmptyParagraph, LineBreak, Parted, WhiteSpace}
+use Rattle.html5tree.specs.declared.plans.Written.TheVariants.{EmptyParagraph, LineBreak, Parted, WhiteSpace}
 use Rattle.html5tree.specs.Normal.{IsReady, Plan, all_stand, bounds_end, cell_plan, cell_text_plan, closing, count_inside, dropped, end_plan, end_tags, fitted, flow_plan, implied_closes, inside_context, is_context, is_ended, kept, limited, lone_end_plan, moved, normal, normal_above, open_after_fitted, opened, parents, parents_in, part_plan, plan_of, run_of, stack_after, stands, start_plan, start_tags, stays_within, table_plan, text_plan, written, written_first}
 use Rattle.html5tree.specs.Scopes.{kind_on_top, near, top_is, top_of_kind}
 use Rattle.html5tree.specs.Tables.{after_space, leading_space}
 use Rattle.html5tree.specs.Tree.{nesting}
 use Rattle.html5tree.proofs.Built.{tree-of-read}
-use Rattle.html5tree.proofs.Plans.{IsFitting, OpensFit, PlansCell, Stack, bytes-itself, closes-fitting, each-fits, end-fits, fits-start, fitting-append, flow-in, held-part, in-cell, kept-fitting, kind-td, limited-fitting, open-fitting, opens-fitting, plans-cell, right-start, short-fitting, stand-fitting, start-next, within-fitting}
-use Rattle.html5tree.proofs.Plans.IsFitting.{Done, Next}
+use Rattle.html5tree.proofs.RightPlans.{IsFitting, OpensFit, PlansCell, Stack, bytes-itself, closes-fitting, each-fits, end-fits, fits-start, fitting-append, flow-in, held-part, in-cell, kept-fitting, kind-td, limited-fitting, open-fitting, opens-fitting, plans-cell, right-start, short-fitting, stand-fitting, start-next, within-fitting}
+use Rattle.html5tree.proofs.RightPlans.IsFitting.{Done, Next}
 
 -- ---- an end tag
 

@@ -5,6 +5,8 @@ use Rattle.std.specs.List.{list_all}
 use Rattle.html5tree.specs.declared.kinds.Kind.{Kind}
 use Rattle.html5tree.specs.Names.{kind_of, of_kind, named, no_kind, is_anchor, is_no_break, is_paragraph, is_list_item, is_description, is_heading, is_ruby, is_button, is_form, is_table, is_implied, is_special, has_marker, is_part}
 use Rattle.html5tree.specs.declared.kinds.Kind.TheVariants.{Ordinary, Ruby, Anchor, NoBreak, Formatting, Paragraph, ListBlock, ListItem, Description, Heading, Void, RubyBase, RubyContainer, RubyText, Button, Form, Table, Caption, ColumnGroup, Column, TableBody, TableRow, Cell, Unknown}
+use Rattle.html5tree.specs.declared.plans.Written.{Written}
+use Rattle.html5tree.specs.declared.plans.Written.TheVariants.{Itself, Nothing, Parted, WhiteSpace, EmptyParagraph, LineBreak}
 use Rattle.html5tree.specs.Items.{Item, text_before}
 use Rattle.html5tree.specs.Items.Item.{StartTag, EndTag, Text}
 use Rattle.html5tree.specs.Scopes.{near, top_of_kind, kind_on_top}
@@ -12,15 +14,6 @@ use Rattle.html5tree.specs.Fitting.{bounds_item, bounds_paragraph, can_open, fit
 use Rattle.html5tree.specs.Tables.{leading_space, after_space}
 
 -- ---- plans
-
--- what is written in the place of an item
-pub data Written : Type 0 where
-  -- the item; nothing
-  Itself Nothing : Written
-  -- of a text the white space at its front, before anything is closed, and the rest after that; of a text its white space alone
-  Parted WhiteSpace : Written
-  -- of an end tag `p` an empty `p`; of an end tag `br` a `br`
-  EmptyParagraph LineBreak : Written
 
 pub record Plan : Type 0 where
   -- how many of the innermost open elements are closed first

@@ -6,3 +6,4 @@
 pub mod kinds;
 pub mod laws;
 pub mod names;
+pub mod plans;
