@@ -12,6 +12,7 @@ pub mod Adoption
 pub mod InBody
 pub mod Tables
 pub mod Normal
+pub mod Searches
 pub mod Construction
 pub mod Lockstep
 pub mod Shown

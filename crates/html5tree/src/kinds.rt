@@ -1,4 +1,5 @@
 //! Kinds of elements: all that the rules of tree construction tell apart in their names.
+ghost use Rattle.std.specs.Prelude.{◌≡◌};
 
 /// A kind of element: names that all rules treat alike.
 #[derive(Clone, Copy, Debug, PartialEq, Eq)]
@@ -63,4 +64,74 @@ pub enum Kind {
     Cell,
     /// An element of another name: no rule here speaks of it.
     Unknown,
+}
+
+impl Kind {
+    ghost use Rattle.html5tree.specs.Fitting.{bounds_item, holds_parts};
+    ghost use Rattle.html5tree.specs.Names.{has_marker, is_part, is_special, is_void};
+
+    /// Whether it is in the standard's category "special".
+    pub fn is_special(self) -> bool
+        ensures { result ≡ is_special self }
+    {
+        !matches!(
+            self,
+            Kind::Ordinary
+                | Kind::Ruby
+                | Kind::Anchor
+                | Kind::NoBreak
+                | Kind::Formatting
+                | Kind::Dialog
+                | Kind::RubyBase
+                | Kind::RubyContainer
+                | Kind::RubyText
+                | Kind::Unknown
+        )
+    }
+
+    /// Whether the search for an open `li`, `dd` or `dt` ends at it.
+    pub fn bounds_item(self) -> bool
+        ensures { result ≡ bounds_item self }
+    {
+        self.is_special() && !matches!(self, Kind::Paragraph | Kind::Division | Kind::Search)
+    }
+
+    /// Whether it has no end tag, and is never open.
+    pub fn is_void(self) -> bool
+        ensures { result ≡ is_void self }
+    {
+        matches!(self, Kind::Rule | Kind::Void | Kind::Column)
+    }
+
+    /// Whether it is a cell or a caption, which bound most searches.
+    pub fn has_marker(self) -> bool
+        ensures { result ≡ has_marker self }
+    {
+        matches!(self, Kind::Caption | Kind::Cell)
+    }
+
+    /// Whether it is a part of a table.
+    pub fn is_part(self) -> bool
+        ensures { result ≡ is_part self }
+    {
+        matches!(
+            self,
+            Kind::Caption
+                | Kind::ColumnGroup
+                | Kind::Column
+                | Kind::TableBody
+                | Kind::TableRow
+                | Kind::Cell
+        )
+    }
+
+    /// Whether only parts of tables, and white space, stand in it.
+    pub fn holds_parts(self) -> bool
+        ensures { result ≡ holds_parts self }
+    {
+        matches!(
+            self,
+            Kind::Table | Kind::ColumnGroup | Kind::TableBody | Kind::TableRow
+        )
+    }
 }

@@ -7,3 +7,4 @@ pub mod kinds;
 pub mod laws;
 pub mod names;
 pub mod plans;
+pub mod searches;

@@ -1,6 +1,6 @@
 //! Names of elements as small numbers.
 ghost use Rattle.std.specs.Prelude.{◌≡◌, ℕ, ◌<◌, List, length, map, nat_lt, slice_index, true, IfNone, IfSome};
-ghost use Rattle.html5tree.specs.Names.{kind_of};
+ghost use Rattle.html5tree.specs.Names.{kind_of, named};
 ghost use Rattle.html5tree.specs.declared.kinds.Kind.TheVariants.{Unknown};
 ghost use Rattle.std.specs.List.{list_all};
 ghost use Rattle.html5tree.specs.Slots.{finds_all, name_at, slot_of, sorted_names};
@@ -303,6 +303,13 @@ impl ElementName {
         ensures { result.now ≡ name_of self }
     {
         all_names()[self.place as usize]
+    }
+
+    /// Whether it is the same name.
+    pub fn is(self, other: ElementName) -> bool
+        ensures { result ≡ named (name_of other) (name_of self) }
+    {
+        self.place == other.place
     }
 
     /// The kind of its elements.

@@ -1,0 +1,98 @@
+//! Searches of the open elements, from the innermost outwards.
+ghost use Rattle.std.specs.Prelude.{◌≡◌, ◌+◌, ◌-◌, ◌≤◌, length};
+ghost use Rattle.html5tree.specs.Names.{kind_of};
+ghost use Rattle.html5tree.specs.ElementNames.{name_of};
+ghost use Rattle.html5tree.specs.Normal.{is_context, run_of, through};
+ghost use Rattle.html5tree.specs.Searches.{is_bound, is_wanted, names_open};
+
+use crate::kinds::Kind;
+use crate::names::ElementName;
+
+/// What is searched for.
+#[derive(Clone, Copy, Debug)]
+pub enum Wanted {
+    Anchor,
+    NoBreak,
+    Button,
+    Paragraph,
+    ListItem,
+    Description,
+    Heading,
+    Ruby,
+    Form,
+    Table,
+    /// What holds a part of this kind, or does so by implied parents.
+    Context(Kind),
+    /// An element of this name.
+    Named(ElementName),
+}
+
+/// What ends a search.
+#[derive(Clone, Copy, Debug)]
+pub enum Bound {
+    /// The outermost element.
+    Nothing,
+    /// A cell or a caption.
+    Marker,
+    /// These, or a button.
+    Button,
+    /// What ends the search for an open `li`, `dd` or `dt`.
+    Item,
+    /// A cell, a caption, an `ol` or a `ul`.
+    List,
+    /// A special element.
+    Special,
+    /// A table.
+    Table,
+}
+
+// Whether an open element holds a part, or does so by implied parents.
+fn is_context(part: Kind, parent: Kind) -> bool
+    ensures { result ≡ is_context part parent }
+{
+    match (part, parent) {
+        (_, Kind::Table) => true,
+        (Kind::Column, Kind::ColumnGroup) => true,
+        (Kind::TableRow | Kind::Cell, Kind::TableBody) => true,
+        (Kind::Cell, Kind::TableRow) => true,
+        _ => false,
+    }
+}
+
+impl Wanted {
+    fn is(self, name: ElementName) -> bool
+        ensures { result ≡ is_wanted self (name_of name) }
+    {
+        let kind = name.kind();
+        match self {
+            Wanted::Anchor => matches!(kind, Kind::Anchor),
+            Wanted::NoBreak => matches!(kind, Kind::NoBreak),
+            Wanted::Button => matches!(kind, Kind::Button),
+            Wanted::Paragraph => matches!(kind, Kind::Paragraph),
+            Wanted::ListItem => matches!(kind, Kind::ListItem),
+            Wanted::Description => matches!(kind, Kind::Description),
+            Wanted::Heading => matches!(kind, Kind::Heading),
+            Wanted::Ruby => matches!(kind, Kind::Ruby),
+            Wanted::Form => matches!(kind, Kind::Form),
+            Wanted::Table => matches!(kind, Kind::Table),
+            Wanted::Context(part) => is_context(part, kind),
+            Wanted::Named(other) => name.is(other),
+        }
+    }
+}
+
+impl Bound {
+    fn is(self, kind: Kind) -> bool
+        ensures { result ≡ is_bound self kind }
+    {
+        match self {
+            Bound::Nothing => false,
+            Bound::Marker => kind.has_marker(),
+            Bound::Button => matches!(kind, Kind::Button) || kind.has_marker(),
+            Bound::Item => kind.bounds_item(),
+            Bound::List => matches!(kind, Kind::ListBlock) || kind.has_marker(),
+            Bound::Special => kind.is_special(),
+            Bound::Table => matches!(kind, Kind::Table),
+        }
+    }
+}
