@@ -1,5 +1,6 @@
 pub mod Lists
 pub mod NameTables
+pub mod OpenNames
 pub mod Steps
 pub mod RightPlans
 pub mod Documents
