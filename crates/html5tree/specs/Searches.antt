@@ -1,8 +1,8 @@
 -- Searches of the open elements, from the innermost outwards: what is searched for, and what ends the search.
-use Rattle.std.specs.Prelude.{ℕ, Bool, List, map, reverse}
+use Rattle.std.specs.Prelude.{ℕ, Bool, true, false, List, map, reverse}
 use Rattle.html5tree.specs.ElementNames.{name_of}
-use Rattle.html5tree.specs.Fitting.{bounds_item, bounds_paragraph}
-use Rattle.html5tree.specs.Names.{kind_of, named, has_marker, is_anchor, is_button, is_description, is_form, is_heading, is_list_item, is_no_break, is_paragraph, is_ruby, is_special, is_table, no_kind}
+use Rattle.html5tree.specs.Fitting.{bounds_item, bounds_paragraph, is_implied_before_text}
+use Rattle.html5tree.specs.Names.{kind_of, named, has_marker, is_anchor, is_button, is_description, is_form, is_heading, is_implied, is_list_item, is_no_break, is_paragraph, is_ruby, is_special, is_table, no_kind}
 use Rattle.html5tree.specs.Normal.{bounds_end, is_context}
 use Rattle.html5tree.specs.declared.kinds.Kind.{Kind}
 use Rattle.html5tree.specs.declared.kinds.Kind.TheVariants.{ListItem as ListItemKind}
@@ -38,3 +38,8 @@ is_bound Item kind = bounds_item kind
 is_bound ListBound kind = bounds_end ListItemKind kind
 is_bound Special kind = is_special kind
 is_bound TableBound kind = is_table kind
+
+-- whether an end tag would be implied, before an `rp` or an `rt` or before other tags
+abbrev pub implied_before : Bool → Kind → Bool
+implied_before true kind = is_implied_before_text kind
+implied_before false kind = is_implied kind

@@ -1,9 +1,10 @@
 //! Searches of the open elements, from the innermost outwards.
-ghost use Rattle.std.specs.Prelude.{◌≡◌, ◌+◌, ◌-◌, ◌≤◌, length};
+ghost use Rattle.std.specs.Prelude.{◌≡◌, drop};
 ghost use Rattle.html5tree.specs.Names.{kind_of};
 ghost use Rattle.html5tree.specs.ElementNames.{name_of};
-ghost use Rattle.html5tree.specs.Normal.{is_context, run_of, through};
-ghost use Rattle.html5tree.specs.Searches.{is_bound, is_wanted, names_open};
+ghost use Rattle.html5tree.specs.Normal.{count_inside, is_context, run_of, through};
+ghost use Rattle.html5tree.specs.Scopes.{kind_on_top};
+ghost use Rattle.html5tree.specs.Searches.{implied_before, is_bound, is_wanted, names_open};
 
 use crate::kinds::Kind;
 use crate::names::ElementName;
@@ -114,4 +115,51 @@ pub fn through(opened: &[ElementName], wanted: Wanted, bound: Bound) -> usize
         }
     }
     0
+}
+
+/// How many of the innermost open elements stand in the innermost that is wanted, or all.
+pub fn count_inside(opened: &[ElementName], wanted: Wanted) -> usize
+    ensures { result ≡ count_inside (is_wanted wanted) (names_open opened.now) }
+{
+    match through(opened, wanted, Bound::Nothing) {
+        0 => opened.len(),
+        through => through - 1,
+    }
+}
+
+// Whether an end tag would be implied, before an `rp` or an `rt` or before other tags.
+fn is_implied(before_text: bool, kind: Kind) -> bool
+    ensures { result ≡ implied_before before_text kind }
+{
+    match kind {
+        Kind::Paragraph | Kind::ListItem | Kind::Description | Kind::RubyBase | Kind::RubyText =>
+            true,
+        Kind::RubyContainer => !before_text,
+        _ => false,
+    }
+}
+
+/// How many of the innermost open elements have an end tag that would be implied.
+pub fn implied_run(opened: &[ElementName], before_text: bool) -> usize
+    ensures { result ≡ run_of (implied_before before_text) (names_open opened.now) }
+{
+    let mut at = opened.len();
+    while at > 0 {
+        if !is_implied(before_text, opened[at - 1].kind()) {
+            return opened.len() - at;
+        }
+        at -= 1;
+    }
+    opened.len()
+}
+
+/// The kind of the innermost open element, when so many are closed.
+pub fn kind_under(opened: &[ElementName], closes: usize) -> Kind
+    ensures { result ≡ kind_on_top (drop closes (names_open opened.now)) }
+{
+    if closes < opened.len() {
+        opened[opened.len() - closes - 1].kind()
+    } else {
+        Kind::Unknown
+    }
 }
