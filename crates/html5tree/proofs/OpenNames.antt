@@ -160,3 +160,19 @@ top-under xs closes less x e is =
 
 pub none-under : (xs : List ElementName) (closes : ℕ) → length xs ≤ closes → Unknown ≡ kind_on_top (drop closes (names_open xs))
 none-under xs closes h = sym (ap kind_on_top (drop_all closes (names_open xs) (omega (arith, h, length-open xs))))
+
+count-within : (test : List ℕ → Bool) (s : List (List ℕ)) → count_inside test s ≤ length s
+unfolding count_inside
+count-within test [] = omega arith
+count-within test (name ∷ s) = at (test name) (count-within test s)
+  where
+    at : (b : Bool) → count_inside test s ≤ length s → (if b then 0 else suc (count_inside test s)) ≤ suc (length s)
+    at true h = omega arith
+    at false h = omega (arith, h)
+
+pub inside-within : (test : List ℕ → Bool) (xs : List ElementName) (n : ℕ) → n ≡ through test no_kind (names_open xs) → n - 1 ≤ length xs
+inside-within test xs n h = at (near test no_kind (names_open xs)) h
+  where
+    at : (b : Bool) → n ≡ (if b then suc (count_inside test (names_open xs)) else 0) → n - 1 ≤ length xs
+    at true h = omega (arith, h, count-within test (names_open xs), length-open xs)
+    at false h = omega (arith, h)

@@ -13,6 +13,7 @@ pub mod InBody
 pub mod Tables
 pub mod Normal
 pub mod Searches
+pub mod Planned
 pub mod Construction
 pub mod Lockstep
 pub mod Shown

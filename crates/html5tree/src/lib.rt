@@ -6,5 +6,6 @@
 pub mod kinds;
 pub mod laws;
 pub mod names;
+pub mod normal;
 pub mod plans;
 pub mod searches;

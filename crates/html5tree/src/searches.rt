@@ -1,5 +1,5 @@
 //! Searches of the open elements, from the innermost outwards.
-ghost use Rattle.std.specs.Prelude.{◌≡◌, drop};
+ghost use Rattle.std.specs.Prelude.{◌≡◌, ◌≤◌, drop, length};
 ghost use Rattle.html5tree.specs.Names.{kind_of};
 ghost use Rattle.html5tree.specs.ElementNames.{name_of};
 ghost use Rattle.html5tree.specs.Normal.{count_inside, is_context, run_of, through};
@@ -119,7 +119,8 @@ pub fn through(opened: &[ElementName], wanted: Wanted, bound: Bound) -> usize
 
 /// How many of the innermost open elements stand in the innermost that is wanted, or all.
 pub fn count_inside(opened: &[ElementName], wanted: Wanted) -> usize
-    ensures { result ≡ count_inside (is_wanted wanted) (names_open opened.now) }
+    ensures value { result ≡ count_inside (is_wanted wanted) (names_open opened.now) }
+    ensures within { result ≤ length opened.now }
 {
     match through(opened, wanted, Bound::Nothing) {
         0 => opened.len(),
