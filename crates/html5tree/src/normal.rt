@@ -1,10 +1,12 @@
 //! The plan for an item, by the names of the open elements.
-ghost use Rattle.std.specs.Prelude.{◌≡◌, ◌++◌, [], ◌∷◌, codes};
+ghost use Rattle.std.specs.Prelude.{◌≡◌, ◌≤◌, suc, ◌++◌, [], ◌∷◌, codes, length, if◌then◌else◌};
 ghost use Rattle.html5tree.specs.ElementNames.{name_of};
+ghost use Rattle.html5tree.specs.Fitting.{bounds_item};
 ghost use Rattle.html5tree.specs.Names.{kind_of};
-ghost use Rattle.html5tree.specs.Normal.{cell_plan, dropped, flow_closes, flow_plan, kept, parents, part_plan, start_plan, table_plan};
+ghost use Rattle.html5tree.specs.Scopes.{near};
+ghost use Rattle.html5tree.specs.Normal.{cell_plan, count_inside, dropped, flow_closes, flow_plan, heading_closes, implied_closes, kept, paragraph_closes, parents, part_plan, start_plan, table_plan};
 ghost use Rattle.html5tree.specs.Planned.{parents_said, plan_said};
-ghost use Rattle.html5tree.specs.Searches.{names_open};
+ghost use Rattle.html5tree.specs.Searches.{implied_before, is_wanted, names_open};
 ghost use Rattle.html5tree.specs.declared.kinds.Kind.TheVariants.{Cell};
 
 use crate::kinds::Kind;
@@ -92,5 +94,86 @@ fn table_plan(kind: Kind, opened: &[ElementName]) -> Plan
         Kind::Unknown | Kind::Form => dropped(),
         Kind::Table => kept(count_inside(opened, Wanted::Table) + 1),
         _ => cell_plan(opened),
+    }
+}
+
+fn paragraph_closes(opened: &[ElementName]) -> usize
+    ensures value { result ≡ paragraph_closes (names_open opened.now) }
+    ensures within { result ≤ length opened.now }
+{
+    through(opened, Wanted::Paragraph, Bound::Button)
+}
+
+// A `li` closes the near one, and if there is none the near `p`; a `dd` and a `dt` do the same.
+fn item_closes(opened: &[ElementName], wanted: Wanted) -> usize
+    ensures { result ≡ (if near (is_wanted wanted) bounds_item (names_open opened.now)
+        then suc (count_inside (is_wanted wanted) (names_open opened.now))
+        else paragraph_closes (names_open opened.now)) }
+{
+    match through(opened, wanted, Bound::Item) {
+        0 => paragraph_closes(opened),
+        closes => closes,
+    }
+}
+
+// A heading closes the near `p`, and then the heading that it would stand in.
+fn heading_closes(opened: &[ElementName]) -> usize
+    ensures { result ≡ heading_closes (names_open opened.now) }
+{
+    let closes = paragraph_closes(opened);
+    match kind_under(opened, closes) {
+        Kind::Heading => closes + 1,
+        _ => closes,
+    }
+}
+
+// Within a `ruby` those are closed whose end tag would be implied.
+fn implied_closes(opened: &[ElementName], before_text: bool) -> usize
+    ensures { result ≡ implied_closes (implied_before before_text) (names_open opened.now) }
+{
+    match through(opened, Wanted::Ruby, Bound::Marker) {
+        0 => 0,
+        _ => implied_run(opened, before_text),
+    }
+}
+
+// How many are closed where text can stand.
+fn flow_closes(kind: Kind, opened: &[ElementName]) -> usize
+    ensures { result ≡ flow_closes kind (names_open opened.now) }
+{
+    match kind {
+        Kind::Ordinary | Kind::Ruby | Kind::Formatting | Kind::Void => 0,
+        Kind::Anchor => through(opened, Wanted::Anchor, Bound::Marker),
+        Kind::NoBreak => through(opened, Wanted::NoBreak, Bound::Marker),
+        Kind::Button => through(opened, Wanted::Button, Bound::Marker),
+        Kind::Heading => heading_closes(opened),
+        Kind::ListItem => item_closes(opened, Wanted::ListItem),
+        Kind::Description => item_closes(opened, Wanted::Description),
+        Kind::RubyBase | Kind::RubyContainer => implied_closes(opened, false),
+        Kind::RubyText => implied_closes(opened, true),
+        _ => paragraph_closes(opened),
+    }
+}
+
+// Where text can stand.
+fn flow_plan(kind: Kind, opened: &[ElementName]) -> Plan
+    ensures { plan_said result ≡ flow_plan kind (names_open opened.now) }
+{
+    match kind {
+        Kind::Unknown => dropped(),
+        Kind::Form if through(opened, Wanted::Form, Bound::Nothing) > 0 => dropped(),
+        _ => kept(flow_closes(kind, opened)),
+    }
+}
+
+fn start_plan(kind: Kind, opened: &[ElementName]) -> Plan
+    ensures { plan_said result ≡ start_plan kind (names_open opened.now) }
+{
+    if kind.is_part() {
+        part_plan(kind, opened)
+    } else if kind_under(opened, 0).holds_parts() {
+        table_plan(kind, opened)
+    } else {
+        flow_plan(kind, opened)
     }
 }

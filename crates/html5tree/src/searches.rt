@@ -101,7 +101,8 @@ impl Bound {
 /// How many of the innermost open elements are closed so that the innermost that is wanted is closed. 0 where
 /// none is near. The innermost stands last.
 pub fn through(opened: &[ElementName], wanted: Wanted, bound: Bound) -> usize
-    ensures { result ≡ through (is_wanted wanted) (is_bound bound) (names_open opened.now) }
+    ensures value { result ≡ through (is_wanted wanted) (is_bound bound) (names_open opened.now) }
+    ensures within { result ≤ length opened.now }
 {
     let mut at = opened.len();
     while at > 0 {
