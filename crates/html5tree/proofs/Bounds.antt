@@ -119,7 +119,7 @@ few-plan limit s (Text text) = few-text limit s text
 
 -- ---- what an item costs: what is written, and what is open after it
 
-length-opened : (names : List (List ℕ)) (s : Stack) → length (opened names s) ≡ length names + length s
+pub length-opened : (names : List (List ℕ)) (s : Stack) → length (opened names s) ≡ length names + length s
 unfolding opened
 length-opened [] s = omega arith
 length-opened (name ∷ names) s = let e = length-opened names (name ∷ s) in omega (arith, e)

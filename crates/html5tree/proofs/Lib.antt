@@ -8,6 +8,7 @@ pub mod Texts
 pub mod Built
 pub mod Normalising
 pub mod Bounds
+pub mod CodePlans
 pub mod Cuts
 pub mod InPlace
 pub mod Hosted

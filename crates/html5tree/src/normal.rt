@@ -1,13 +1,17 @@
 //! The plan for an item, by the names of the open elements.
-ghost use Rattle.std.specs.Prelude.{◌≡◌, ◌≤◌, suc, ◌++◌, [], ◌∷◌, codes, length, if◌then◌else◌};
+ghost use Rattle.std.specs.Prelude.{◌≡◌, ℕ, ◌+◌, ◌≤◌, suc, List, ◌++◌, [], ◌∷◌, codes, length, nat_le, if◌then◌else◌};
+ghost use Rattle.std.specs.List.{list_all};
 ghost use Rattle.html5tree.specs.ElementNames.{name_of};
-ghost use Rattle.html5tree.specs.Fitting.{bounds_item};
-ghost use Rattle.html5tree.specs.Names.{kind_of};
+ghost use Rattle.html5tree.specs.Fitting.{bounds_item, is_space};
+ghost use Rattle.html5tree.specs.Items.{Attribute};
+ghost use Rattle.html5tree.specs.Items.Item.{EndTag, StartTag, Text};
+ghost use Rattle.html5tree.specs.Names.{is_void, kind_of};
 ghost use Rattle.html5tree.specs.Scopes.{near};
-ghost use Rattle.html5tree.specs.Normal.{cell_plan, count_inside, dropped, flow_closes, flow_plan, heading_closes, implied_closes, kept, paragraph_closes, parents, part_plan, start_plan, table_plan};
+ghost use Rattle.html5tree.specs.Normal.{bounds_end, cell_plan, cell_text_plan, count_inside, dropped, flow_closes, flow_plan, heading_closes, implied_closes, is_ended, kept, limited, lone_end_plan, moved, paragraph_closes, parents, part_plan, plan_of, start_plan, table_plan};
 ghost use Rattle.html5tree.specs.Planned.{parents_said, plan_said};
-ghost use Rattle.html5tree.specs.Searches.{implied_before, is_wanted, names_open};
-ghost use Rattle.html5tree.specs.declared.kinds.Kind.TheVariants.{Cell};
+ghost use Rattle.html5tree.specs.Searches.{implied_before, is_bound, is_wanted, names_open};
+ghost use Rattle.html5tree.specs.declared.kinds.Kind.TheVariants.{Cell, Void};
+ghost use Rattle.html5tree.specs.declared.plans.Written.TheVariants.{LineBreak};
 
 use crate::kinds::Kind;
 use crate::names::ElementName;
@@ -176,4 +180,161 @@ fn start_plan(kind: Kind, opened: &[ElementName]) -> Plan
     } else {
         flow_plan(kind, opened)
     }
+}
+
+// How many elements are open after a plan, but for the item's own.
+fn depth_after(opened: &[ElementName], plan: Plan) -> usize
+    ensures value { result ≡ length (moved (plan_said plan) (names_open opened.now)) }
+    ensures within { result ≤ length opened.now + 3 }
+{
+    opened.len().saturating_sub(plan.closes) + plan.opens.len()
+}
+
+// A plan, unless more elements than the limit would be open after it. The item itself opens so many.
+fn limited(limit: usize, opened: &[ElementName], plan: Plan, own: usize) -> Plan
+    requires { own ≤ 1 }
+    ensures { plan_said result ≡ (if nat_le (length (moved (plan_said plan) (names_open opened.now)) + own) limit
+        then plan_said plan else dropped) }
+{
+    if depth_after(opened, plan) + own <= limit {
+        plan
+    } else {
+        dropped()
+    }
+}
+
+// How many elements a start tag opens.
+fn opened_by(kind: Kind) -> usize
+    ensures { result ≡ (if is_void kind then 0 else 1) }
+{
+    if kind.is_void() { 0 } else { 1 }
+}
+
+/// The plan for a start tag.
+pub fn plan_for_start(limit: usize, opened: &[ElementName], name: ElementName) -> Plan
+    ensures { (attributes : List Attribute)
+        → plan_said result ≡ plan_of limit (names_open opened.now) (StartTag (name_of name) attributes) }
+{
+    let kind = name.kind();
+    let plan = start_plan(kind, opened);
+    limited(limit, opened, plan, opened_by(kind))
+}
+
+// Which element an end tag closes.
+fn ended_by(name: ElementName) -> Wanted
+    ensures { is_wanted result ≡ is_ended (kind_of (name_of name)) (name_of name) }
+{
+    match name.kind() {
+        Kind::Heading => Wanted::Heading,
+        Kind::Paragraph => Wanted::Paragraph,
+        _ => Wanted::Named(name),
+    }
+}
+
+// What ends the search for it.
+fn bound_of_end(kind: Kind) -> Bound
+    ensures { is_bound result ≡ bounds_end kind }
+{
+    match kind {
+        Kind::Paragraph => Bound::Button,
+        Kind::ListItem => Bound::List,
+        Kind::Ordinary | Kind::Ruby | Kind::RubyBase | Kind::RubyContainer | Kind::RubyText =>
+            Bound::Special,
+        Kind::Table
+        | Kind::Caption
+        | Kind::ColumnGroup
+        | Kind::TableBody
+        | Kind::TableRow
+        | Kind::Cell => Bound::Table,
+        _ => Bound::Marker,
+    }
+}
+
+fn writing(writes: Written) -> Plan
+    ensures { plan_said result ≡ record dropped { writes = writes } }
+{
+    Plan {
+        closes: 0,
+        opens: Parents::Nothing,
+        writes,
+    }
+}
+
+// Where no `p` is near, an end tag `p` stands for an empty one, if text can stand there.
+fn lone_end_plan(limit: usize, kind: Kind, opened: &[ElementName]) -> Plan
+    ensures { plan_said result ≡ lone_end_plan limit kind (names_open opened.now) }
+{
+    match kind {
+        Kind::Paragraph if !kind_under(opened, 0).holds_parts() && opened.len() < limit => {
+            writing(Written::EmptyParagraph)
+        }
+        _ => writing(Written::Nothing),
+    }
+}
+
+// A `br` in the place of its end tag.
+fn break_plan(limit: usize, opened: &[ElementName]) -> Plan
+    ensures { (name : List ℕ) → plan_said result ≡ limited limit (names_open opened.now) (EndTag name)
+        (record (start_plan Void (names_open opened.now)) { writes = LineBreak }) }
+{
+    let plan = start_plan(Kind::Void, opened);
+    let breaking = Plan {
+        closes: plan.closes,
+        opens: plan.opens,
+        writes: Written::LineBreak,
+    };
+    limited(limit, opened, breaking, 0)
+}
+
+/// The plan for an end tag.
+pub fn plan_for_end(limit: usize, opened: &[ElementName], name: ElementName) -> Plan
+    ensures { plan_said result ≡ plan_of limit (names_open opened.now) (EndTag (name_of name)) }
+{
+    if name.is(ElementName::LINE_BREAK) {
+        return break_plan(limit, opened);
+    }
+    let kind = name.kind();
+    let closes = through(opened, ended_by(name), bound_of_end(kind));
+    if closes == 0 {
+        return lone_end_plan(limit, kind, opened);
+    }
+    Plan {
+        closes,
+        opens: Parents::Nothing,
+        writes: Written::Nothing,
+    }
+}
+
+fn is_white_space(text: &[u8]) -> bool
+    ensures { result ≡ list_all is_space text.now }
+{
+    text.iter().all(|byte| matches!(*byte, b'\t' | b'\n' | b'\x0c' | b'\r' | b' '))
+}
+
+// A text that is put in a cell, or its white space alone.
+fn cell_text_plan(limit: usize, opened: &[ElementName]) -> Plan
+    ensures { plan_said result ≡ cell_text_plan limit (names_open opened.now) (cell_plan (names_open opened.now)) }
+{
+    let plan = cell_plan(opened);
+    if depth_after(opened, plan) > limit {
+        return writing(Written::WhiteSpace);
+    }
+    Plan {
+        closes: plan.closes,
+        opens: plan.opens,
+        writes: Written::Parted,
+    }
+}
+
+/// The plan for a text.
+pub fn plan_for_text(limit: usize, opened: &[ElementName], text: &str) -> Plan
+    ensures { plan_said result ≡ plan_of limit (names_open opened.now) (Text text.now) }
+{
+    if !kind_under(opened, 0).holds_parts() {
+        return kept(0);
+    }
+    if is_white_space(text.as_bytes()) {
+        return kept(0);
+    }
+    cell_text_plan(limit, opened)
 }

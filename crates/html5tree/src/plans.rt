@@ -1,5 +1,5 @@
 //! What the normaliser does for an item: a plan.
-ghost use Rattle.std.specs.Prelude.{◌≡◌, ◌==◌, length, option_map, slice_get};
+ghost use Rattle.std.specs.Prelude.{◌≡◌, ◌≤◌, ◌==◌, length, option_map, slice_get};
 
 use crate::names::ElementName;
 
@@ -58,7 +58,8 @@ impl Parents {
 
     /// How many there are.
     pub fn len(self) -> usize
-        ensures { result ≡ length (parents_said self) }
+        ensures value { result ≡ length (parents_said self) }
+        ensures few { result ≤ 3 }
     {
         match self {
             Parents::Nothing => 0,
