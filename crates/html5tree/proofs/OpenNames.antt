@@ -1,10 +1,12 @@
 -- Names of open elements in a list, the innermost last: what a search from its end finds.
 use Rattle.std.proofs.Common.{◌≡◌, ℕ, suc, ◌+◌, ◌-◌, ◌≤◌, ◌<◌, Bool, true, false, List, [], ◌∷◌, ◌++◌, length, take, drop, get_or, refl, ap, sym, ◌∙◌, arith}
-use Rattle.std.specs.Prelude.{map, reverse, if◌then◌else◌}
-use Rattle.std.proofs.lemmas.Bool.{false≢true}
-use Rattle.std.proofs.lemmas.List.{drop_all, drop_at, length-drop, length-map, length-reverse, map-append, map_more, reverse-append, take-append-drop, take_all, take_at}
+use Rattle.std.specs.Prelude.{map, reverse, ◌&&◌, if◌then◌else◌}
+use Rattle.std.proofs.lemmas.Bool.{false≢true, and_right}
+use Rattle.std.proofs.lemmas.List.{drop_all, drop_at, length-drop, length-map, length-reverse, map-append, map_more, nil_from_length, reverse-append, take-append-drop, take_all, take_at}
 use Rattle.html5tree.specs.ElementNames.{name_of}
-use Rattle.html5tree.specs.Names.{kind_of, no_kind}
+use Rattle.html5tree.specs.Fitting.{can_open, fits}
+use Rattle.html5tree.specs.Items.Item.{EndTag}
+use Rattle.html5tree.specs.Names.{kind_of, named, no_kind}
 use Rattle.html5tree.specs.Normal.{count_inside, run_of, through}
 use Rattle.html5tree.specs.Scopes.{kind_on_top, near}
 use Rattle.html5tree.specs.Searches.{names_open}
@@ -176,3 +178,15 @@ inside-within test xs n h = at (near test no_kind (names_open xs)) h
     at : (b : Bool) → n ≡ (if b then suc (count_inside test (names_open xs)) else 0) → n - 1 ≤ length xs
     at true h = omega (arith, h, count-within test (names_open xs), length-open xs)
     at false h = omega (arith, h)
+
+pub end-fits-top : (xs : List ElementName) (less : ℕ) (x name : ElementName) → less + 1 ≡ length xs → x ≡ get_or xs less x
+    → (can_open (kind_of (name_of name)) && named (name_of name) (name_of x)) ≡ fits (names_open xs) (EndTag (name_of name))
+unfolding fits
+end-fits-top xs less x name e is =
+    let one : names_open xs ≡ name_of x ∷ names_open (take less xs) =
+    ap names_open (sym (take_all (length xs) xs (omega arith))) ∙ one-more xs (length xs) less x e is (omega arith) in
+    rw one refl
+
+pub end-fits-none : (xs : List ElementName) (name : ElementName) → length xs ≡ 0 → false ≡ fits (names_open xs) (EndTag (name_of name))
+unfolding fits
+end-fits-none xs name e = rw (nil_from_length xs e) (sym (and_right (can_open (kind_of (name_of name))) false refl))

@@ -67,7 +67,7 @@ pub enum Kind {
 }
 
 impl Kind {
-    ghost use Rattle.html5tree.specs.Fitting.{bounds_item, holds_parts};
+    ghost use Rattle.html5tree.specs.Fitting.{bounds_item, can_open, holds_parts};
     ghost use Rattle.html5tree.specs.Names.{has_marker, is_part, is_special, is_void};
 
     /// Whether it is in the standard's category "special".
@@ -101,6 +101,13 @@ impl Kind {
         ensures { result ≡ is_void self }
     {
         matches!(self, Kind::Rule | Kind::Void | Kind::Column)
+    }
+
+    /// Whether an element of it can be open.
+    pub fn can_open(self) -> bool
+        ensures { result ≡ can_open self }
+    {
+        !matches!(self, Kind::Rule | Kind::Void | Kind::Column | Kind::Unknown)
     }
 
     /// Whether it is a cell or a caption, which bound most searches.

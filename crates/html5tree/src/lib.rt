@@ -3,6 +3,7 @@
 //! proved of them.
 #![tactic(auto)]
 
+pub mod fitting;
 pub mod kinds;
 pub mod laws;
 pub mod names;

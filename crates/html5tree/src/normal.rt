@@ -305,7 +305,8 @@ pub fn plan_for_end(limit: usize, opened: &[ElementName], name: ElementName) -> 
     }
 }
 
-fn is_white_space(text: &[u8]) -> bool
+/// Whether each character is white space.
+pub fn is_white_space(text: &[u8]) -> bool
     ensures { result ≡ list_all is_space text.now }
 {
     text.iter().all(|byte| matches!(*byte, b'\t' | b'\n' | b'\x0c' | b'\r' | b' '))

@@ -129,8 +129,8 @@ pub fn count_inside(opened: &[ElementName], wanted: Wanted) -> usize
     }
 }
 
-// Whether an end tag would be implied, before an `rp` or an `rt` or before other tags.
-fn is_implied(before_text: bool, kind: Kind) -> bool
+/// Whether an end tag would be implied, before an `rp` or an `rt` or before other tags.
+pub fn is_implied(before_text: bool, kind: Kind) -> bool
     ensures { result ≡ implied_before before_text kind }
 {
     match kind {
