@@ -9,6 +9,7 @@ pub mod Built
 pub mod Normalising
 pub mod Bounds
 pub mod CodePlans
+pub mod Moved
 pub mod Cuts
 pub mod InPlace
 pub mod Hosted

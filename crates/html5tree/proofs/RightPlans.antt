@@ -264,7 +264,7 @@ found test ends (name ∷ s) a h = at (test name) (ends (kind_of name)) refl h (
     at false false e h again =
         let r = again h in record { name = r.name; outer = r.outer; is = r.is; passes = r.passes; stand = r.stand }
 
-drop-suc : (count : ℕ) (s outer : Stack) (name : List ℕ) → drop count s ≡ name ∷ outer → drop (suc count) s ≡ outer
+pub drop-suc : (count : ℕ) (s outer : Stack) (name : List ℕ) → drop count s ≡ name ∷ outer → drop (suc count) s ≡ outer
 drop-suc zero [] outer name e = cc
 drop-suc zero (n ∷ s) outer name e = cc
 drop-suc (suc count) [] outer name e = cc

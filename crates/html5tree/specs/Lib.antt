@@ -14,6 +14,7 @@ pub mod Tables
 pub mod Normal
 pub mod Searches
 pub mod Planned
+pub mod Nested
 pub mod Construction
 pub mod Lockstep
 pub mod Shown

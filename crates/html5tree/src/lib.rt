@@ -6,6 +6,7 @@
 pub mod fitting;
 pub mod kinds;
 pub mod laws;
+pub mod moves;
 pub mod names;
 pub mod normal;
 pub mod plans;
