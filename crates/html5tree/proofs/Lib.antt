@@ -10,6 +10,7 @@ pub mod Normalising
 pub mod Bounds
 pub mod CodePlans
 pub mod Moved
+pub mod Nests
 pub mod Cuts
 pub mod InPlace
 pub mod Hosted

@@ -332,7 +332,7 @@ stands-in : (name : List ℕ) (s : Stack) → all_stand (name ∷ s) ≡ true �
 unfolding all_stand
 stands-in name s a = (and_parts (can_open (kind_of name)) (fits_in (kind_on_top s) (kind_of name) s) (and_parts (stands name s) (all_stand s) a).0).1
 
-stand-outer : (name : List ℕ) (s : Stack) → all_stand (name ∷ s) ≡ true → all_stand s ≡ true
+pub stand-outer : (name : List ℕ) (s : Stack) → all_stand (name ∷ s) ≡ true → all_stand s ≡ true
 unfolding all_stand
 stand-outer name s a = (and_parts (stands name s) (all_stand s) a).1
 

@@ -8,6 +8,7 @@ pub mod kinds;
 pub mod laws;
 pub mod moves;
 pub mod names;
+pub mod nesting;
 pub mod normal;
 pub mod plans;
 pub mod searches;

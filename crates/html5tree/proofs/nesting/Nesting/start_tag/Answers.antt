@@ -1,0 +1,38 @@
+use Rattle.std.proofs.Common.{◌≡◌, [], ap, sym, ◌∙◌}
+use Rattle.std.specs.Prelude.{map}
+use Rattle.html5tree.specs.ElementNames.{name_of}
+use Rattle.html5tree.specs.Items.Item.{StartTag}
+use Rattle.html5tree.specs.Nested.{nested_after}
+use Rattle.html5tree.specs.Normal.{moved, plan_of}
+use Rattle.html5tree.specs.Planned.{plan_said}
+use Rattle.html5tree.specs.Searches.{names_open}
+use Rattle.html5tree.proofs.Nests.{after-start, nested-from, ready-by}
+use Rattle.html5tree.proofs.nesting.Nesting.start_tag.Goals as goal
+
+pub invariant_of-self-2 : goal.invariant_of-self-2
+invariant_of-self-2 g c =
+    let s = names_open c.self.inside.opened.items in
+    let plan = plan_said c.plan_for_start-plan.result in
+    let is = c.plan_for_start-plan.ensures [] ∙ ap (λ xs. plan_of c.self.inside.limit (names_open xs) (StartTag (name_of c.args.name) [])) c.deref.ensures.value in
+    ready-by c.self.inside.limit s (names_open c.follow.new.names.items) (StartTag (name_of c.args.name) []) c.self.invariant
+    (after-start c.self.inside.limit s (name_of c.args.name) [] plan (names_open c.follow.new.names.items) is
+    (c.in_ok-follow.ensures.names ∙ c.own_of.ensures (moved plan s) []))
+
+pub returns-clause-plan : goal.returns-clause-plan
+returns-clause-plan g c =
+    λ attributes.
+    c.plan_for_start-plan.ensures attributes ∙ (ap (λ xs. plan_of c.self.inside.limit (names_open xs) (StartTag (name_of c.args.name) attributes)) c.deref.ensures.value
+    ∙ ap (λ v. plan_of v.limit v.opened (StartTag (name_of c.args.name) attributes)) c.self.view_is)
+
+pub returns-clause-ok : goal.returns-clause-ok
+returns-clause-ok g c =
+    λ attributes.
+    let s = names_open c.self.inside.opened.items in
+    let plan = plan_said c.plan_for_start-plan.result in
+    let is = c.plan_for_start-plan.ensures attributes ∙ ap (λ xs. plan_of c.self.inside.limit (names_open xs) (StartTag (name_of c.args.name) attributes)) c.deref.ensures.value in
+    nested-from c.self.inside.limit s (map name_of c.self.inside.closed.items) (names_open c.follow.new.names.items) (map name_of c.follow.new.closed.items)
+    (StartTag (name_of c.args.name) attributes) plan is
+    (after-start c.self.inside.limit s (name_of c.args.name) attributes plan (names_open c.follow.new.names.items) is
+    (c.in_ok-follow.ensures.names ∙ c.own_of.ensures (moved plan s) attributes))
+    c.in_ok-follow.ensures.closed
+    ∙ ap (λ v. nested_after v (StartTag (name_of c.args.name) attributes)) c.self.view_is
