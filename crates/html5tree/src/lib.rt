@@ -12,3 +12,5 @@ pub mod nesting;
 pub mod normal;
 pub mod plans;
 pub mod searches;
+#[cfg(test)]
+mod tests;
