@@ -1,18 +1,17 @@
 -- A nesting after an item.
-use Rattle.std.proofs.Common.{◌≡◌, ℕ, suc, ◌+◌, ◌-◌, ◌≤◌, Bool, true, false, List, [], ◌∷◌, ◌++◌, length, take, drop, refl, ap, sym, ◌∙◌, subst, arith}
+use Rattle.std.proofs.Common.{◌≡◌, ℕ, suc, ◌-◌, Bool, true, false, List, [], ◌∷◌, length, take, drop, refl, ap, sym, ◌∙◌, subst, arith}
 use Rattle.std.specs.Prelude.{codes, not, ◌&&◌, nat_le, nat_lt, if◌then◌else◌}
-use Rattle.html5tree.specs.ElementNames.{name_of}
 use Rattle.html5tree.specs.Fitting.{holds_parts, open_after}
 use Rattle.html5tree.specs.Items.{Attribute, Item}
 use Rattle.html5tree.specs.Items.Item.{EndTag, StartTag, Text}
 use Rattle.html5tree.specs.Names.{is_void, kind_of, named}
-use Rattle.html5tree.specs.Nested.{Nested, nested_after}
+use Rattle.html5tree.specs.Nested.{nested_after}
 use Rattle.html5tree.specs.Normal.{IsReady, Plan, after_written, all_stand, bounds_end, closing, count_inside, dropped, end_plan, is_ended, limited, lone_end_plan, moved, open_after_fitted, plan_of, stack_after, start_plan}
 use Rattle.html5tree.specs.Scopes.{kind_on_top, near}
 use Rattle.html5tree.specs.declared.kinds.Kind.{Kind}
 use Rattle.html5tree.specs.declared.kinds.Kind.TheVariants.{Paragraph, Void}
 use Rattle.html5tree.specs.declared.plans.Written.{Written}
-use Rattle.html5tree.specs.declared.plans.Written.TheVariants.{EmptyParagraph, Itself, LineBreak, Nothing}
+use Rattle.html5tree.specs.declared.plans.Written.TheVariants.{EmptyParagraph, Itself, LineBreak}
 use Rattle.html5tree.specs.Searches.{names_open}
 use Rattle.html5tree.specs.declared.names.ElementName.{ElementName}
 use Rattle.html5tree.proofs.OpenNames.{drop-open}
@@ -102,3 +101,46 @@ ready-outer limit (name ∷ s) ready = record { stand = stand-outer name s ready
 pub outer-open : (xs : List ElementName) (n : ℕ) → n ≡ length xs → names_open (take (n - 1) xs) ≡ drop 1 (names_open xs)
 outer-open [] n e = rw e refl
 outer-open (x ∷ xs) n e = sym (drop-open (x ∷ xs) 1 (n - 1) (omega (arith, e)))
+
+-- ---- what the methods of a nesting need, where they saw the open elements as a slice
+
+pub end-ready : (limit : ℕ) (seen xs : List ElementName) (name : List ℕ) (plan : Plan) (names : Stack) → plan ≡ plan_of limit (names_open seen) (EndTag name)
+    → seen ≡ xs → names ≡ moved plan (names_open xs) → IsReady limit (names_open xs) → IsReady limit names
+end-ready limit seen xs name plan names is same after ready =
+    let at : plan ≡ plan_of limit (names_open xs) (EndTag name) = is ∙ ap (λ ys. plan_of limit (names_open ys) (EndTag name)) same in
+    ready-by limit (names_open xs) names (EndTag name) ready (after-end limit (names_open xs) name plan names at after)
+
+pub end-nested : (limit : ℕ) (seen xs : List ElementName) (closed later : Stack) (name : List ℕ) (plan : Plan) (names : Stack) → plan ≡ plan_of limit (names_open seen) (EndTag name)
+    → seen ≡ xs → names ≡ moved plan (names_open xs) → later ≡ take plan.closes (names_open xs)
+    → record { opened = names; closed = later; limit = limit } ≡ nested_after (record { opened = names_open xs; closed = closed; limit = limit }) (EndTag name)
+end-nested limit seen xs closed later name plan names is same after gone =
+    let at : plan ≡ plan_of limit (names_open xs) (EndTag name) = is ∙ ap (λ ys. plan_of limit (names_open ys) (EndTag name)) same in
+    nested-from limit (names_open xs) closed names later (EndTag name) plan at (after-end limit (names_open xs) name plan names at after) gone
+
+pub text-ready : (limit : ℕ) (seen xs : List ElementName) (text : List ℕ) (plan : Plan) (names : Stack) → plan ≡ plan_of limit (names_open seen) (Text text)
+    → seen ≡ xs → names ≡ moved plan (names_open xs) → IsReady limit (names_open xs) → IsReady limit names
+text-ready limit seen xs text plan names is same after ready =
+    let at : plan ≡ plan_of limit (names_open xs) (Text text) = is ∙ ap (λ ys. plan_of limit (names_open ys) (Text text)) same in
+    ready-by limit (names_open xs) names (Text text) ready (after-text limit (names_open xs) text plan names at after)
+
+pub text-nested : (limit : ℕ) (seen xs : List ElementName) (closed later : Stack) (text : List ℕ) (plan : Plan) (names : Stack) → plan ≡ plan_of limit (names_open seen) (Text text)
+    → seen ≡ xs → names ≡ moved plan (names_open xs) → later ≡ take plan.closes (names_open xs)
+    → record { opened = names; closed = later; limit = limit } ≡ nested_after (record { opened = names_open xs; closed = closed; limit = limit }) (Text text)
+text-nested limit seen xs closed later text plan names is same after gone =
+    let at : plan ≡ plan_of limit (names_open xs) (Text text) = is ∙ ap (λ ys. plan_of limit (names_open ys) (Text text)) same in
+    nested-from limit (names_open xs) closed names later (Text text) plan at (after-text limit (names_open xs) text plan names at after) gone
+
+pub start-ready : (limit : ℕ) (seen xs : List ElementName) (name : List ℕ) (attributes : List Attribute) (plan : Plan) (names : Stack)
+    → plan ≡ plan_of limit (names_open seen) (StartTag name attributes) → seen ≡ xs
+    → names ≡ after_written plan.writes (moved plan (names_open xs)) (StartTag name attributes) → IsReady limit (names_open xs) → IsReady limit names
+start-ready limit seen xs name attributes plan names is same after ready =
+    let at : plan ≡ plan_of limit (names_open xs) (StartTag name attributes) = is ∙ ap (λ ys. plan_of limit (names_open ys) (StartTag name attributes)) same in
+    ready-by limit (names_open xs) names (StartTag name attributes) ready (after-start limit (names_open xs) name attributes plan names at after)
+
+pub start-nested : (limit : ℕ) (seen xs : List ElementName) (closed later : Stack) (name : List ℕ) (attributes : List Attribute) (plan : Plan) (names : Stack)
+    → plan ≡ plan_of limit (names_open seen) (StartTag name attributes) → seen ≡ xs
+    → names ≡ after_written plan.writes (moved plan (names_open xs)) (StartTag name attributes) → later ≡ take plan.closes (names_open xs)
+    → record { opened = names; closed = later; limit = limit } ≡ nested_after (record { opened = names_open xs; closed = closed; limit = limit }) (StartTag name attributes)
+start-nested limit seen xs closed later name attributes plan names is same after gone =
+    let at : plan ≡ plan_of limit (names_open xs) (StartTag name attributes) = is ∙ ap (λ ys. plan_of limit (names_open ys) (StartTag name attributes)) same in
+    nested-from limit (names_open xs) closed names later (StartTag name attributes) plan at (after-start limit (names_open xs) name attributes plan names at after) gone

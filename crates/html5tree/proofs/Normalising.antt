@@ -6,7 +6,7 @@ use Rattle.std.proofs.lemmas.Slice.Eq.{bytes_eq-Decides}
 use Rattle.std.proofs.lemmas.Bool.{false≢true, not-true, not_from_false, and_parts, and_from, leb-true, le-leb, ltb-true}
 use Rattle.html5tree.specs.Construction.{tree_of}
 use Rattle.html5tree.specs.Fitting.{all_fit, all_open_after, bounds_item, bounds_paragraph, can_open, each_fits, fits, fits_flow, fits_in, holds, holds_parts, is_implied_before_text, is_space, no_paragraph, none_near, none_open, open_after}
-use Rattle.html5tree.specs.Items.{Item, read_items, text_before}
+use Rattle.html5tree.specs.Items.{Attribute, Item, read_items, text_before}
 use Rattle.html5tree.specs.Items.Item.{EndTag, StartTag, Text}
 use Rattle.html5tree.specs.declared.kinds.Kind.{Kind}
 use Rattle.html5tree.specs.Names.{all_names, has_marker, is_among, is_anchor, is_button, is_description, is_form, is_heading, is_implied, is_list_item, is_no_break, is_paragraph, is_ruby, is_part, kind_in, kind_of, named, no_kind, of_kind}
@@ -398,3 +398,58 @@ item-after limit s item ready = open-fitting limit s (open_after_fitted limit s 
 
 pub item-unchanged : (limit : ℕ) (s : Stack) (item : Item) → fits s item ≡ true → length (open_after s item) ≤ limit → fitted limit s item ≡ item ∷ []
 item-unchanged limit s item f l = (unchanged-item limit s item f l).fitted_is
+
+-- ---- names that the rules don't know
+
+drops-none : (limit : ℕ) (s : Stack) (item : Item) → plan_of limit s item ≡ dropped → fitted limit s item ≡ []
+unfolding opened
+drops-none limit s item e = rw e refl
+
+start-unknown : (s : Stack) → start_plan Unknown s ≡ dropped
+start-unknown s = at (holds_parts (kind_on_top s))
+  where
+    at : (b : Bool) → (if b then dropped else dropped) ≡ dropped
+    at true = refl
+    at false = refl
+
+limited-dropped : (limit : ℕ) (s : Stack) (item : Item) (plan : Plan) → plan ≡ dropped → limited limit s item plan ≡ dropped
+limited-dropped limit s item plan e = at (nat_le (length (stack_after plan s item)) limit)
+  where
+    at : (b : Bool) → (if b then plan else dropped) ≡ dropped
+    at true = e
+    at false = refl
+
+pub unknown-start : (limit : ℕ) (s : Stack) (name : List ℕ) (attributes : List Attribute) → kind_of name ≡ Unknown → fitted limit s (StartTag name attributes) ≡ []
+unfolding plan_of
+unknown-start limit s name attributes e =
+    drops-none limit s (StartTag name attributes)
+    (limited-dropped limit s (StartTag name attributes) (start_plan (kind_of name) s) (ap (λ k. start_plan k s) e ∙ start-unknown s))
+
+-- no open element has such a name
+unknown-far : (name : List ℕ) (ends : Kind → Bool) (s : Stack) → kind_of name ≡ Unknown → all_stand s ≡ true → near (named name) ends s ≡ false
+unfolding near all_stand
+unknown-far name ends [] e a = refl
+unknown-far name ends (other ∷ s) e a =
+    let p = and_parts (stands other s) (all_stand s) a in
+    let q = and_parts (can_open (kind_of other)) (fits_in (kind_on_top s) (kind_of other) s) p.0 in
+    at (named name other) (ends (kind_of other)) refl q.0 (unknown-far name ends s e p.1)
+  where
+    at : (b c : Bool) → named name other ≡ b → can_open (kind_of other) ≡ true → near (named name) ends s ≡ false
+        → (if b then true else if c then false else near (named name) ends s) ≡ false
+    at true c same o again = absurd (false≢true (sym (ap can_open (ap kind_of ((bytes_eq-Decides other name).0 same) ∙ e)) ∙ o))
+    at false true same o again = refl
+    at false false same o again = again
+
+pub unknown-end : (limit : ℕ) (s : Stack) (name : List ℕ) → IsReady limit s → kind_of name ≡ Unknown → fitted limit s (EndTag name) ≡ []
+unfolding plan_of
+unknown-end limit s name ready e = drops-none limit s (EndTag name) (rw (e, no-break, unknown-far name (bounds_end Unknown) s e ready.stand) refl)
+  where
+    at : (b : Bool) → named (codes "br") name ≡ b → b ≡ false
+    at true same = absurd (false≢void (sym (ap kind_of ((bytes_eq-Decides name (codes "br")).0 same) ∙ kind-br) ∙ e))
+      where
+        false≢void : Void ≡ Unknown → ⊥
+        false≢void h = cc
+    at false same = refl
+
+    no-break : named (codes "br") name ≡ false
+    no-break = at (named (codes "br") name) refl

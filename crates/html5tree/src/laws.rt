@@ -3,9 +3,10 @@ ghost use Rattle.std.specs.Prelude.{◌≡◌, ℕ, ◌*◌, ◌≤◌, Bool, Li
 ghost use Rattle.html5tree.specs.Construction.{parsed, tree_in, tree_of};
 ghost use Rattle.html5tree.specs.Fitting.{all_fit, all_open_after, each_fits, fits, none_near, open_after};
 ghost use Rattle.html5tree.specs.Hosts.{IsBack, IsHost, allows, closes_paragraph, is_flow_host, is_neutral, put_at, suits};
-ghost use Rattle.html5tree.specs.Items.{Item, balanced, keeps_newlines, read_items, whole_texts};
+ghost use Rattle.html5tree.specs.Items.{Attribute, Item, balanced, keeps_newlines, read_items, whole_texts};
 ghost use Rattle.html5tree.specs.declared.kinds.Kind.{Kind};
-ghost use Rattle.html5tree.specs.declared.kinds.Kind.TheVariants.{Anchor, ListItem, Paragraph};
+ghost use Rattle.html5tree.specs.declared.kinds.Kind.TheVariants.{Anchor, ListItem, Paragraph, Unknown};
+ghost use Rattle.html5tree.specs.Items.Item.{EndTag, StartTag};
 ghost use Rattle.html5tree.specs.Names.{has_marker, is_anchor, is_form, is_list_item, kind_of, no_kind};
 ghost use Rattle.html5tree.specs.Normal.{IsReady, fitted, normal, open_after_fitted, stays_within};
 ghost use Rattle.html5tree.specs.Page.{names};
@@ -115,7 +116,8 @@ pub fn normal_items()
 
 /// The same of one item, above the names of the open elements: what is written for it fits there (`fits`), with
 /// no more elements open than the limit (`within`), and leaves these open (`after`). An item that fits is written
-/// as it is (`unchanged`). Open elements that each fit where they stand, no more than the limit, are so
+/// as it is (`unchanged`). Of a tag of another name than the 94 nothing is written (`unknown_start`,
+/// `unknown_end`). Open elements that each fit where they stand, no more than the limit, are so
 /// afterwards (`ready`), and at first (`first`).
 pub fn normal_item()
     ensures first { (limit : ℕ) → IsReady limit [] }
@@ -129,4 +131,8 @@ pub fn normal_item()
         → all_open_after stack (fitted limit stack item) ≡ open_after_fitted limit stack item }
     ensures unchanged { (limit : ℕ) (stack : List (List ℕ)) (item : Item) → fits stack item ≡ true
         → length (open_after stack item) ≤ limit → fitted limit stack item ≡ item ∷ [] }
+    ensures unknown_start { (limit : ℕ) (stack : List (List ℕ)) (name : List ℕ) (attributes : List Attribute)
+        → kind_of name ≡ Unknown → fitted limit stack (StartTag name attributes) ≡ [] }
+    ensures unknown_end { (limit : ℕ) (stack : List (List ℕ)) (name : List ℕ) → IsReady limit stack
+        → kind_of name ≡ Unknown → fitted limit stack (EndTag name) ≡ [] }
 {}

@@ -1,4 +1,4 @@
-use Rattle.html5tree.proofs.Normalising.{item-after, item-fits, item-unchanged, item-within, none-ready, ready-after}
+use Rattle.html5tree.proofs.Normalising.{item-after, item-fits, item-unchanged, item-within, none-ready, ready-after, unknown-end, unknown-start}
 use Rattle.html5tree.proofs.laws.normal_item.Goals as goal
 
 pub returns-clause-first : goal.returns-clause-first
@@ -18,3 +18,9 @@ returns-clause-after c = item-after
 
 pub returns-clause-unchanged : goal.returns-clause-unchanged
 returns-clause-unchanged c = item-unchanged
+
+pub returns-clause-unknown_start : goal.returns-clause-unknown_start
+returns-clause-unknown_start c = unknown-start
+
+pub returns-clause-unknown_end : goal.returns-clause-unknown_end
+returns-clause-unknown_end c = unknown-end

@@ -1,4 +1,4 @@
-use Rattle.std.proofs.Common.{◌≡◌, ap, sym, ◌∙◌}
+use Rattle.std.proofs.Common.{ap, sym, ◌∙◌}
 use Rattle.html5tree.specs.ElementNames.{name_of}
 use Rattle.html5tree.specs.Names.{is_void}
 use Rattle.html5tree.proofs.Nests.{own-void, own-written}

@@ -1,4 +1,4 @@
-use Rattle.std.proofs.Common.{◌≡◌, [], ap, sym, ◌∙◌}
+use Rattle.std.proofs.Common.{[], ap, ◌∙◌}
 use Rattle.std.specs.Prelude.{map}
 use Rattle.html5tree.specs.ElementNames.{name_of}
 use Rattle.html5tree.specs.Items.Item.{StartTag}
@@ -6,17 +6,14 @@ use Rattle.html5tree.specs.Nested.{nested_after}
 use Rattle.html5tree.specs.Normal.{moved, plan_of}
 use Rattle.html5tree.specs.Planned.{plan_said}
 use Rattle.html5tree.specs.Searches.{names_open}
-use Rattle.html5tree.proofs.Nests.{after-start, nested-from, ready-by}
+use Rattle.html5tree.proofs.Nests.{start-nested, start-ready}
 use Rattle.html5tree.proofs.nesting.Nesting.start_tag.Goals as goal
 
 pub invariant_of-self-2 : goal.invariant_of-self-2
 invariant_of-self-2 g c =
-    let s = names_open c.self.inside.opened.items in
-    let plan = plan_said c.plan_for_start-plan.result in
-    let is = c.plan_for_start-plan.ensures [] ∙ ap (λ xs. plan_of c.self.inside.limit (names_open xs) (StartTag (name_of c.args.name) [])) c.deref.ensures.value in
-    ready-by c.self.inside.limit s (names_open c.follow.new.names.items) (StartTag (name_of c.args.name) []) c.self.invariant
-    (after-start c.self.inside.limit s (name_of c.args.name) [] plan (names_open c.follow.new.names.items) is
-    (c.in_ok-follow.ensures.names ∙ c.own_of.ensures (moved plan s) []))
+    start-ready c.self.inside.limit c.deref.result.now c.self.inside.opened.items (name_of c.args.name) [] (plan_said c.plan_for_start-plan.result)
+    (names_open c.follow.new.names.items) (c.plan_for_start-plan.ensures []) c.deref.ensures.value
+    (c.in_ok-follow.ensures.names ∙ c.own_of.ensures (moved (plan_said c.plan_for_start-plan.result) (names_open c.self.inside.opened.items)) []) c.self.invariant
 
 pub returns-clause-plan : goal.returns-clause-plan
 returns-clause-plan g c =
@@ -27,12 +24,8 @@ returns-clause-plan g c =
 pub returns-clause-ok : goal.returns-clause-ok
 returns-clause-ok g c =
     λ attributes.
-    let s = names_open c.self.inside.opened.items in
-    let plan = plan_said c.plan_for_start-plan.result in
-    let is = c.plan_for_start-plan.ensures attributes ∙ ap (λ xs. plan_of c.self.inside.limit (names_open xs) (StartTag (name_of c.args.name) attributes)) c.deref.ensures.value in
-    nested-from c.self.inside.limit s (map name_of c.self.inside.closed.items) (names_open c.follow.new.names.items) (map name_of c.follow.new.closed.items)
-    (StartTag (name_of c.args.name) attributes) plan is
-    (after-start c.self.inside.limit s (name_of c.args.name) attributes plan (names_open c.follow.new.names.items) is
-    (c.in_ok-follow.ensures.names ∙ c.own_of.ensures (moved plan s) attributes))
+    start-nested c.self.inside.limit c.deref.result.now c.self.inside.opened.items (map name_of c.self.inside.closed.items) (map name_of c.follow.new.closed.items)
+    (name_of c.args.name) attributes (plan_said c.plan_for_start-plan.result) (names_open c.follow.new.names.items) (c.plan_for_start-plan.ensures attributes) c.deref.ensures.value
+    (c.in_ok-follow.ensures.names ∙ c.own_of.ensures (moved (plan_said c.plan_for_start-plan.result) (names_open c.self.inside.opened.items)) attributes)
     c.in_ok-follow.ensures.closed
     ∙ ap (λ v. nested_after v (StartTag (name_of c.args.name) attributes)) c.self.view_is
