@@ -401,8 +401,14 @@ def unmet(choices: random.Random, limit: int, items: list) -> list[str]:
     return [name for name, is_met in owed.items() if not is_met]
 
 
+def is_built_the_same(items) -> bool:
+    """Whether what the normaliser makes of items is built as the items are."""
+    return tree.shown(tree.tree_of(normal.normal(511, items))) == tree.shown(tree.tree_of(items))
+
+
 def try_normal(number: int):
-    """That what the normaliser makes of items fits, is built as it is nested, and so on."""
+    """That what the normaliser makes of items fits, and so on; and how much is built as the items themselves are."""
+    wide = same = 0
     for at in range(number):
         it = Maker(f"try normal {at}")
         items = (it.items, it.misnested_items, it.items, it.fitting_items, it.balanced_items)[at % 5]()
@@ -410,7 +416,9 @@ def try_normal(number: int):
         limit = it.choices.choice([511, 511, 511, 0, 1, 2, 3, 4, 5, 6, 8])
         if names := unmet(it.choices, limit, items):
             sys.exit(f"the normaliser, with a limit of {limit}, at {items}: {', '.join(names)}")
-    print(f"{number} were made fit")
+        wide += limit == 511
+        same += limit == 511 and is_built_the_same(items)
+    print(f"{number} were made fit; of {wide} with a limit of 511, {same} are built as the items themselves")
 
 
 def main():
