@@ -175,7 +175,7 @@ plan-cost plan s item few =
     let ends : length (end_tags (take plan.closes s)) ≡ length (take plan.closes s) = length-map (take plan.closes s) (λ name. EndTag name) in
     simp length-append (omega (arith, own, moves, parts, starts, ends))
 
-item-cost : (limit : ℕ) (s : Stack) (item : Item) → length (fitted limit s item) + length (open_after_fitted limit s item) ≤ 8 + length s
+pub item-cost : (limit : ℕ) (s : Stack) (item : Item) → length (fitted limit s item) + length (open_after_fitted limit s item) ≤ 8 + length s
 item-cost limit s item = plan-cost (plan_of limit s item) s item (few-plan limit s item)
 
 all-cost : (limit : ℕ) (items : List Item) (s : Stack) → length (normal_above limit s items) ≤ length s + 8 * length items

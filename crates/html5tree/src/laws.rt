@@ -1,5 +1,5 @@
 //! What a browser builds of items that fit is the tree that their tags show.
-ghost use Rattle.std.specs.Prelude.{◌≡◌, ℕ, ◌*◌, ◌≤◌, Bool, List, [], ◌∷◌, ◌++◌, false, length, not, true};
+ghost use Rattle.std.specs.Prelude.{◌≡◌, ℕ, ◌+◌, ◌*◌, ◌≤◌, Bool, List, [], ◌∷◌, ◌++◌, false, length, not, true};
 ghost use Rattle.html5tree.specs.Construction.{parsed, tree_in, tree_of};
 ghost use Rattle.html5tree.specs.Fitting.{all_fit, all_open_after, each_fits, fits, none_near, open_after};
 ghost use Rattle.html5tree.specs.Hosts.{IsBack, IsHost, allows, closes_paragraph, is_flow_host, is_neutral, put_at, suits};
@@ -116,7 +116,8 @@ pub fn normal_items()
 
 /// The same of one item, above the names of the open elements: what is written for it fits there (`fits`), with
 /// no more elements open than the limit (`within`), and leaves these open (`after`). An item that fits is written
-/// as it is (`unchanged`). Of a tag of another name than the 94 nothing is written (`unknown_start`,
+/// as it is (`unchanged`). What is written, and the end tags of what is open then, are at most eight items more
+/// than the end tags before (`bound`). Of a tag of another name than the 94 nothing is written (`unknown_start`,
 /// `unknown_end`). Open elements that each fit where they stand, no more than the limit, are so
 /// afterwards (`ready`), and at first (`first`).
 pub fn normal_item()
@@ -131,6 +132,8 @@ pub fn normal_item()
         → all_open_after stack (fitted limit stack item) ≡ open_after_fitted limit stack item }
     ensures unchanged { (limit : ℕ) (stack : List (List ℕ)) (item : Item) → fits stack item ≡ true
         → length (open_after stack item) ≤ limit → fitted limit stack item ≡ item ∷ [] }
+    ensures bound { (limit : ℕ) (stack : List (List ℕ)) (item : Item)
+        → length (fitted limit stack item) + length (open_after_fitted limit stack item) ≤ 8 + length stack }
     ensures unknown_start { (limit : ℕ) (stack : List (List ℕ)) (name : List ℕ) (attributes : List Attribute)
         → kind_of name ≡ Unknown → fitted limit stack (StartTag name attributes) ≡ [] }
     ensures unknown_end { (limit : ℕ) (stack : List (List ℕ)) (name : List ℕ) → IsReady limit stack

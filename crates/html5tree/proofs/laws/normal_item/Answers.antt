@@ -1,3 +1,4 @@
+use Rattle.html5tree.proofs.Bounds.{item-cost}
 use Rattle.html5tree.proofs.Normalising.{item-after, item-fits, item-unchanged, item-within, none-ready, ready-after, unknown-end, unknown-start}
 use Rattle.html5tree.proofs.laws.normal_item.Goals as goal
 
@@ -24,3 +25,6 @@ returns-clause-unknown_start c = unknown-start
 
 pub returns-clause-unknown_end : goal.returns-clause-unknown_end
 returns-clause-unknown_end c = unknown-end
+
+pub returns-clause-bound : goal.returns-clause-bound
+returns-clause-bound c = item-cost
