@@ -239,3 +239,39 @@ fn finds_names(rt: HostRuntime) {
         assert!(rt; ElementName::find(text).is_none(), "{text}");
     }
 }
+
+fn opened(rt: &impl Abort, alloc: Global, texts: &[&str]) -> Nesting {
+    let mut nesting = Nesting::new(alloc, 511);
+    for text in texts {
+        let name = ElementName::find(text).expect(rt, "a name");
+        let plan = nesting.start_tag(name).expect(rt, "memory");
+        assert!(rt; matches!(plan.writes, Written::Itself), "{text}");
+    }
+    nesting
+}
+
+// Open elements, a name, and whether its start tag and its end tag fit.
+const FITTING: [(&[&str], &str, bool, bool); 8] = [
+    (&["p"], "div", false, false),
+    (&["p"], "b", true, false),
+    (&["p"], "p", false, true),
+    (&["a", "table", "tbody", "tr", "td"], "a", true, false),
+    (&["table"], "b", false, false),
+    (&["table"], "tbody", true, false),
+    (&["ul", "li"], "li", false, true),
+    (&[], "br", true, false),
+];
+
+#[test]
+fn says_what_fits(rt: HostRuntime) {
+    for (texts, text, start, end) in FITTING {
+        let nesting = opened(&rt, rt.alloc(), texts);
+        let name = ElementName::find(text).expect(&rt, "a name");
+        assert!(rt; nesting.start_fits(name) == start, "{text}");
+        assert!(rt; nesting.end_fits(name) == end, "{text}");
+    }
+    let table = opened(&rt, rt.alloc(), &["table"]);
+    assert!(rt; table.text_fits(" \n") && !table.text_fits(" x"));
+    let paragraph = opened(&rt, rt.alloc(), &["p"]);
+    assert!(rt; paragraph.text_fits(" x"));
+}
