@@ -1,0 +1,6 @@
+pub mod Adding
+pub mod LabelRows
+pub mod Runs
+pub mod SingleByteTables
+pub mod Tables
+pub mod Utf8Texts
