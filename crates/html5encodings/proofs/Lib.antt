@@ -1,5 +1,6 @@
 pub mod Adding
 pub mod LabelRows
+pub mod Lengths
 pub mod Runs
 pub mod SingleByteTables
 pub mod Tables

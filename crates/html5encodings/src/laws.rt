@@ -1,5 +1,5 @@
 //! Laws of the definitions.
-ghost use Rattle.std.specs.Prelude.{◌≡◌, ◌++◌, ℕ, List, Some, encode_utf8_all, true};
+ghost use Rattle.std.specs.Prelude.{◌≡◌, ◌≤◌, ◌++◌, ℕ, List, Some, encode_utf8_all, length, true};
 ghost use Rattle.std.specs.Str.{all_scalars};
 ghost use Rattle.html5encodings.specs.Decoding.{decoded, given, state_after};
 ghost use Rattle.html5encodings.specs.Encodings.{encoding_of};
@@ -21,4 +21,9 @@ pub fn any_cutting()
 /// The name of an encoding is a label of it.
 pub fn names_are_labels()
     ensures { (by : Encoding) → encoding_of (name_of by) ≡ Some by }
+{}
+
+/// Bytes give no more characters than they are.
+pub fn at_most_one_character_a_byte()
+    ensures { (by : Encoding) (bytes : List ℕ) → length (decoded by bytes) ≤ length bytes }
 {}

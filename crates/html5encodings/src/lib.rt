@@ -30,4 +30,4 @@ mod utf8;
 
 pub use crate::decoder::{Decoder, decode_all};
 pub use crate::encoding::{Encoding, SingleByte};
-pub use crate::laws::{any_cutting, names_are_labels, text_is_kept};
+pub use crate::laws::{any_cutting, at_most_one_character_a_byte, names_are_labels, text_is_kept};
