@@ -1,8 +1,11 @@
 -- What bytes give, part by part.
-use Rattle.std.proofs.Common.{◌≡◌, ℕ, suc, ◌+◌, ◌<◌, ◌≤◌, true, List, [], ◌∷◌, ◌++◌, length, take, drop, get_or, None, Some, refl, sym, ap, ◌∙◌, arith, append_assoc, append-nil, take-append-drop}
+use Rattle.std.proofs.Common.{◌≡◌, ℕ, suc, ◌+◌, ◌<◌, ◌≤◌, true, List, [], ◌∷◌, ◌++◌, length, take, drop, get_or, None, Some, refl, sym, ap, ◌∙◌, arith, append_assoc, append-nil, take-append-drop, Bool, false}
 use Rattle.std.specs.Prelude.{IsAscii, IsUtf8, encode_utf8_all}
 use Rattle.std.specs.Borrow.{Bor}
+use Rattle.std.specs.List.{list_all}
+use Rattle.std.proofs.lemmas.Bool.{and_parts}
 use Rattle.std.proofs.lemmas.Bool.Decides.{nat_tests}
+use Rattle.std.proofs.lemmas.Str.Ascii.{IsAscii-cons, IsAscii-nil}
 use Rattle.std.proofs.lemmas.Grind.{flat_map-append}
 use Rattle.std.proofs.lemmas.List.{take_all, take_more}
 use Rattle.std.proofs.lemmas.Str.{IsUtf8-from_ascii, IsUtf8-nil, encodes-append, encodes-IsAscii}
@@ -10,13 +13,18 @@ use lib.Utf8.{scalars}
 use Rattle.html5encodings.proofs.Utf8Texts.{given-text}
 use Rattle.html5encodings.specs.declared.encoding.Encoding.{Encoding}
 use Rattle.html5encodings.specs.declared.encoding.Encoding.TheVariants as encoding
+use Rattle.html5encodings.specs.declared.iso_2022_jp.Begun.{Begun}
+use Rattle.html5encodings.specs.declared.iso_2022_jp.Begun.TheVariants as begun
+use Rattle.html5encodings.specs.declared.iso_2022_jp.Charset.{Charset}
+use Rattle.html5encodings.specs.declared.iso_2022_jp.Charset.TheVariants as charset
 use Rattle.html5encodings.specs.declared.state.State.{State}
 use Rattle.html5encodings.specs.declared.state.State.TheVariants as state
 use Rattle.html5encodings.specs.Big5 as big5
-use Rattle.html5encodings.specs.Decoding.{Continues, IsState, StandsForItself, at_end, bytes_of, decoded, given, handled, reads_ascii, reads_text, start, state_after}
+use Rattle.html5encodings.specs.Decoding.{Continues, IsState, StandsForItself, at_end, bytes_of, decoded, given, handled, reads_ascii, reads_plain, reads_text, start, state_after}
 use Rattle.html5encodings.specs.EucJp as euc_jp
 use Rattle.html5encodings.specs.EucKr as euc_kr
 use Rattle.html5encodings.specs.Gb18030 as gb18030
+use Rattle.html5encodings.specs.Iso2022Jp as iso_2022_jp
 use Rattle.html5encodings.specs.ShiftJis as shift_jis
 use Rattle.html5encodings.specs.SingleByte as single_byte
 use Rattle.html5encodings.specs.Small.{user_defined}
@@ -88,6 +96,57 @@ leaves-ascii from (x ∷ xs) ys reads ascii =
     ap (λ h. state_after h.1 (xs ++ ys)) (handled-ascii from x reads (ascii 0))
     ∙ leaves-ascii from xs ys reads (λ i. ascii (suc i))
 
+-- ---- plain ASCII in ISO-2022-JP
+
+after-plain : (by : Charset) (now : Begun) (escaped : Bool) (x : ℕ) → iso_2022_jp.reads_plain by now escaped ≡ true → iso_2022_jp.is_plain x ≡ true
+    → iso_2022_jp.handled_after now by escaped x ≡ (x ∷ [], record { charset = by; begun = now; escaped = escaped })
+after-plain charset.Ascii begun.Nothing false x reads plain = grind (arith, nat_tests)
+after-plain charset.Ascii begun.Nothing true x reads plain = absurd (cc reads)
+after-plain charset.Ascii (begun.Lead lead) escaped x reads plain = absurd (cc reads)
+after-plain charset.Ascii begun.Escape escaped x reads plain = absurd (cc reads)
+after-plain charset.Ascii begun.EscapeDollar escaped x reads plain = absurd (cc reads)
+after-plain charset.Ascii begun.EscapeParenthesis escaped x reads plain = absurd (cc reads)
+after-plain charset.Roman now escaped x reads plain = absurd (cc reads)
+after-plain charset.Katakana now escaped x reads plain = absurd (cc reads)
+after-plain charset.Jis0208 now escaped x reads plain = absurd (cc reads)
+
+handled-plain : (from : State) (x : ℕ) → reads_plain from ≡ true → iso_2022_jp.is_plain x ≡ true → handled from x ≡ (x ∷ [], from)
+unfolding handled reads_plain
+handled-plain (state.Utf8 part) x reads plain = absurd (cc reads)
+handled-plain (state.SingleByte single) x reads plain = absurd (cc reads)
+handled-plain (state.Gb18030 lead) x reads plain = absurd (cc reads)
+handled-plain (state.Big5 lead) x reads plain = absurd (cc reads)
+handled-plain (state.EucJp lead) x reads plain = absurd (cc reads)
+handled-plain (state.Iso2022Jp j) x reads plain = ap (λ h. (h.0, state.Iso2022Jp h.1)) (after-plain j.charset j.begun j.escaped x reads plain)
+handled-plain (state.ShiftJis lead) x reads plain = absurd (cc reads)
+handled-plain (state.EucKr lead) x reads plain = absurd (cc reads)
+handled-plain (state.Replacement returned) x reads plain = absurd (cc reads)
+handled-plain (state.Utf16 u) x reads plain = absurd (cc reads)
+handled-plain state.UserDefined x reads plain = absurd (cc reads)
+
+given-plain : (from : State) (xs ys : List ℕ) → reads_plain from ≡ true → list_all iso_2022_jp.is_plain xs ≡ true → given from (xs ++ ys) ≡ xs ++ given from ys
+given-plain from [] ys reads plain = refl
+given-plain from (x ∷ xs) ys reads plain =
+    let parts = and_parts _ _ plain in
+    ap (λ h. h.0 ++ given h.1 (xs ++ ys)) (handled-plain from x reads parts.0)
+    ∙ ap (λ t. x ∷ t) (given-plain from xs ys reads parts.1)
+
+leaves-plain : (from : State) (xs ys : List ℕ) → reads_plain from ≡ true → list_all iso_2022_jp.is_plain xs ≡ true → state_after from (xs ++ ys) ≡ state_after from ys
+leaves-plain from [] ys reads plain = refl
+leaves-plain from (x ∷ xs) ys reads plain =
+    let parts = and_parts _ _ plain in
+    ap (λ h. state_after h.1 (xs ++ ys)) (handled-plain from x reads parts.0)
+    ∙ leaves-plain from xs ys reads parts.1
+
+plain-low : (x : ℕ) → iso_2022_jp.is_plain x ≡ true → x < 128
+plain-low x plain = grind (arith, nat_tests)
+
+IsAscii-plain : (xs : List ℕ) → list_all iso_2022_jp.is_plain xs ≡ true → IsAscii xs
+IsAscii-plain [] plain = IsAscii-nil
+IsAscii-plain (x ∷ xs) plain =
+    let parts = and_parts _ _ plain in
+    IsAscii-cons x xs (plain-low x parts.0) (IsAscii-plain xs parts.1)
+
 -- ---- bytes at the front
 
 pub stands-none : (from : State) → StandsForItself from []
@@ -100,6 +159,17 @@ stands-ascii from front reads ascii =
           ap encode_utf8_all (given-ascii from front later reads ascii) ∙ encodes-append front (given from later)
           ∙ ap (λ t. t ++ encode_utf8_all (given from later)) (encodes-IsAscii front ascii);
       leaves = λ later. leaves-ascii from front later reads ascii;
+      utf8 = IsUtf8-from_ascii front ascii;
+    }
+
+pub stands-plain : (from : State) (front : List ℕ) → reads_plain from ≡ true → list_all iso_2022_jp.is_plain front ≡ true → StandsForItself from front
+stands-plain from front reads plain =
+    let ascii = IsAscii-plain front plain in
+    record {
+      text = λ later.
+          ap encode_utf8_all (given-plain from front later reads plain) ∙ encodes-append front (given from later)
+          ∙ ap (λ t. t ++ encode_utf8_all (given from later)) (encodes-IsAscii front ascii);
+      leaves = λ later. leaves-plain from front later reads plain;
       utf8 = IsUtf8-from_ascii front ascii;
     }
 

@@ -111,6 +111,20 @@ reads_ascii (state.Replacement returned) = false
 reads_ascii (state.Utf16 now) = false
 reads_ascii state.UserDefined = true
 
+-- in this state of ISO-2022-JP plain ASCII stands for itself, and leaves the decoder there
+unfoldable pub reads_plain : State → Bool
+reads_plain (state.Utf8 part) = false
+reads_plain (state.SingleByte single) = false
+reads_plain (state.Gb18030 lead) = false
+reads_plain (state.Big5 lead) = false
+reads_plain (state.EucJp lead) = false
+reads_plain (state.Iso2022Jp now) = iso_2022_jp.reads_plain now.charset now.begun now.escaped
+reads_plain (state.ShiftJis lead) = false
+reads_plain (state.EucKr lead) = false
+reads_plain (state.Replacement returned) = false
+reads_plain (state.Utf16 now) = false
+reads_plain state.UserDefined = false
+
 -- what decoding leaves
 abbrev pub IsState : State → Type 0
 IsState (state.Utf8 part) = IfSome part utf8.IsPartial

@@ -1,6 +1,6 @@
 -- "ISO-2022-JP decoder". Its output state is a character set. Its state is the one of that name, unless something is begun:
 -- the trail byte state has a lead, the escape start state has an escape, and the escape state has one of two bytes after it.
-use Rattle.std.specs.Prelude.{ℕ, ◌+◌, ◌-◌, ◌*◌, ◌==◌, Bool, true, false, ◌||◌, nat_lt, List, [], ◌∷◌, ◌++◌, Option, Some, None, if◌then◌else◌}
+use Rattle.std.specs.Prelude.{ℕ, ◌+◌, ◌-◌, ◌*◌, ◌==◌, Bool, true, false, ◌||◌, nat_lt, List, [], ◌∷◌, ◌++◌, Option, Some, None, if◌then◌else◌, not, ◌&&◌}
 use Rattle.std.specs.Int.{is_in_range}
 use Rattle.html5encodings.specs.declared.iso_2022_jp.Begun.{Begun}
 use Rattle.html5encodings.specs.declared.iso_2022_jp.Begun.TheVariants.{Nothing, Lead, Escape, EscapeDollar, EscapeParenthesis}
@@ -95,6 +95,22 @@ handled_after EscapeParenthesis charset escaped byte = after_parenthesis charset
 
 abbrev pub handled : Iso2022Jp → ℕ → Handled
 handled state byte = handled_after state.begun state.charset state.escaped byte
+
+-- a byte of ASCII that neither shifts nor escapes
+abbrev pub is_plain : ℕ → Bool
+is_plain byte = nat_lt byte 0x80 && not (byte == 0x0E || byte == 0x0F || byte == 0x1B)
+
+-- where such bytes stand for themselves, and leave the decoder there: in the ASCII state, where something came since an
+-- escape sequence
+abbrev pub reads_plain : Charset → Begun → Bool → Bool
+reads_plain Ascii Nothing escaped = not escaped
+reads_plain Ascii (Lead lead) escaped = false
+reads_plain Ascii Escape escaped = false
+reads_plain Ascii EscapeDollar escaped = false
+reads_plain Ascii EscapeParenthesis escaped = false
+reads_plain Roman begun escaped = false
+reads_plain Katakana begun escaped = false
+reads_plain Jis0208 begun escaped = false
 
 -- the end, where a byte after an escape is restored: in the lead byte state it is a lead with nothing after it
 abbrev pub restored_at_end : Charset → ℕ → List ℕ

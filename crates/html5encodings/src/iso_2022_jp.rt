@@ -1,6 +1,6 @@
 //! The ISO-2022-JP decoder.
 ghost use Rattle.std.specs.Prelude.{◌≡◌, ◌+◌, ◌-◌, ◌≤◌, IfOk, OnOk, encode_utf8_all, false};
-ghost use Rattle.html5encodings.specs.Iso2022Jp.{after_dollar, after_escape, after_lead, after_parenthesis, alone, ascii_code_point, at_end, at_end_after, both, escaped_to, handled, in_a_row, katakana_code_point, not_escaped, pair_code_point, roman_code_point, shown, standing};
+ghost use Rattle.html5encodings.specs.Iso2022Jp.{after_dollar, after_escape, after_lead, after_parenthesis, alone, ascii_code_point, at_end, at_end_after, both, escaped_to, handled, in_a_row, katakana_code_point, not_escaped, pair_code_point, reads_plain, roman_code_point, shown, standing};
 ghost use Rattle.html5encodings.specs.Steps.{Adds};
 
 use crate::pointers::in_jis0208;
@@ -319,6 +319,24 @@ fn append_in_a_row<A: Allocator>(
 {
     append_shown(charset, first, text)?;
     append_alone(charset, false, second, text)
+}
+
+// Whether plain ASCII stands for itself, and leaves the decoder where it is.
+pub(crate) fn reads_plain(before: Iso2022Jp) -> bool
+    ensures { result ≡ reads_plain before.charset before.begun before.escaped }
+{
+    match before.charset {
+        Charset::Ascii => match before.begun {
+            Begun::Nothing => !before.escaped,
+            Begun::Lead(_) => false,
+            Begun::Escape => false,
+            Begun::EscapeDollar => false,
+            Begun::EscapeParenthesis => false,
+        },
+        Charset::Roman => false,
+        Charset::Katakana => false,
+        Charset::Jis0208 => false,
+    }
 }
 
 // The text at the end.

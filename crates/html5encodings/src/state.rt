@@ -1,10 +1,10 @@
 //! The decoders, byte by byte.
 ghost use Rattle.std.specs.Prelude.{◌≡◌, ◌<◌, ◌≤◌, IfOk, OnOk, encode_utf8_all, length, string_bytes, take};
-ghost use Rattle.html5encodings.specs.Decoding.{Continues, IsState, StandsForItself, at_end, given, handled, reads_ascii, reads_text, start, state_after};
+ghost use Rattle.html5encodings.specs.Decoding.{Continues, IsState, StandsForItself, at_end, given, handled, reads_ascii, reads_plain, reads_text, start, state_after};
 ghost use Rattle.html5encodings.specs.Steps.{Adds};
 
 use crate::encoding::{Encoding, SingleByte};
-use crate::front::{ascii_len, text_len};
+use crate::front::{ascii_len, plain_len, text_len};
 use crate::iso_2022_jp::{self, Begun, Charset, Iso2022Jp};
 use crate::small::{append_replaced, append_user_defined};
 use crate::steps::error_if;
@@ -115,7 +115,10 @@ fn front_len(state: State, bytes: &[u8]) -> usize
         return text_len(bytes);
     }
     if reads_ascii(state) {
-        ascii_len(bytes)
+        return ascii_len(bytes);
+    }
+    if reads_plain(state) {
+        plain_len(bytes)
     } else {
         0
     }
@@ -147,6 +150,19 @@ fn reads_ascii(state: State) -> bool
         State::ShiftJis(lead) => lead.is_none(),
         State::EucKr(lead) => lead.is_none(),
         State::Utf8(_) | State::Iso2022Jp(_) | State::Replacement(_) | State::Utf16(_) => false,
+    }
+}
+
+// Whether plain ASCII stands for itself, and leaves the decoder where it is: in ISO-2022-JP.
+#[tactic(auto, unfolding(crate::specs::Decoding::reads_plain))]
+fn reads_plain(state: State) -> bool
+    ensures { result ≡ reads_plain state }
+{
+    match state {
+        State::Iso2022Jp(before) => iso_2022_jp::reads_plain(before),
+        State::Utf8(_) | State::SingleByte(_) | State::Gb18030(_) | State::Big5(_) => false,
+        State::EucJp(_) | State::ShiftJis(_) | State::EucKr(_) | State::Replacement(_) => false,
+        State::Utf16(_) | State::UserDefined => false,
     }
 }
 
