@@ -1,0 +1,223 @@
+//! The decoders, byte by byte.
+ghost use Rattle.std.specs.Prelude.{◌≡◌, ◌<◌, ◌≤◌, IfOk, OnOk, encode_utf8_all, length, string_bytes, take};
+ghost use Rattle.html5encodings.specs.Decoding.{Continues, IsState, StandsForItself, at_end, given, handled, reads_ascii, reads_plain, reads_text, start, state_after};
+ghost use Rattle.html5encodings.specs.Steps.{Adds};
+
+use crate::encoding::{Encoding, SingleByte};
+use crate::front::{ascii_len, plain_len, text_len};
+use crate::iso_2022_jp::{self, Begun, Charset, Iso2022Jp};
+use crate::small::{append_replaced, append_user_defined};
+use crate::steps::error_if;
+use crate::utf8::{self, Partial};
+use crate::utf16::{self, SharedUtf16};
+use crate::{big5, euc_jp, euc_kr, gb18030, shift_jis, single_byte};
+use std::alloc::{AllocError, Allocator};
+use std::str::from_utf8_unchecked;
+
+/// Where a decoder stands between two bytes.
+#[derive(Clone, Copy)]
+pub enum State {
+    Utf8(Option<Partial>),
+    SingleByte(SingleByte),
+    Gb18030(Option<gb18030::Lead>),
+    Big5(Option<u8>),
+    EucJp(Option<euc_jp::Lead>),
+    Iso2022Jp(Iso2022Jp),
+    ShiftJis(Option<u8>),
+    EucKr(Option<u8>),
+    /// It says whether an error was returned.
+    Replacement(bool),
+    Utf16(SharedUtf16),
+    UserDefined,
+}
+
+// Where the decoder of an encoding begins.
+pub(crate) fn start(encoding: Encoding) -> State
+    ensures value { result ≡ start encoding }
+    ensures valid { IsState result }
+{
+    match encoding {
+        Encoding::Utf8 => State::Utf8(None),
+        Encoding::SingleByte(single) => State::SingleByte(single),
+        Encoding::Gbk | Encoding::Gb18030 => State::Gb18030(None),
+        Encoding::Big5 => State::Big5(None),
+        Encoding::EucJp => State::EucJp(None),
+        Encoding::Iso2022Jp => State::Iso2022Jp(Iso2022Jp {
+            charset: Charset::Ascii,
+            begun: Begun::Nothing,
+            escaped: false,
+        }),
+        Encoding::ShiftJis => State::ShiftJis(None),
+        Encoding::EucKr => State::EucKr(None),
+        Encoding::Replacement => State::Replacement(false),
+        Encoding::Utf16Be => utf16_start(true),
+        Encoding::Utf16Le => utf16_start(false),
+        Encoding::XUserDefined => State::UserDefined,
+    }
+}
+
+fn utf16_start(big_endian: bool) -> State
+    ensures { result ≡ State.Utf16 (record { big_endian = big_endian; lead_byte = None; lead_surrogate = None }) }
+{
+    State::Utf16(SharedUtf16 {
+        big_endian,
+        lead_byte: None,
+        lead_surrogate: None,
+    })
+}
+
+// Appends the text of bytes, and gives where they leave the decoder.
+pub(crate) fn append<A: Allocator>(
+    state: State,
+    bytes: &[u8],
+    text: &mut String<A>,
+) -> Result<State, AllocError>
+    requires { IsState state }
+    ensures text { OnOk result (Adds text.old text.new (given state bytes.now)) }
+    ensures leaves { IfOk result (λ left. left ≡ state_after state bytes.now) }
+    ensures valid { IfOk result IsState }
+{
+    let mut reached = state;
+    let mut at = 0;
+    while at < bytes.len() {
+        let (count, left) = append_front(reached, &bytes[at..], text)?;
+        at += count;
+        reached = left;
+    }
+    Ok(reached)
+}
+
+// Appends the text of bytes at the front, of all that stand for themselves or of one, and gives how many
+// they were and where they leave the decoder.
+fn append_front<A: Allocator>(
+    state: State,
+    bytes: &[u8],
+    text: &mut String<A>,
+) -> Result<(usize, State), AllocError>
+    requires some { 0 < length bytes.now }
+    requires valid { IsState state }
+    ensures { IfOk result (Continues state bytes.now (string_bytes text.old) (string_bytes text.new)) }
+{
+    let len = front_len(state, bytes);
+    if len > 0 {
+        text.push_str(unsafe { from_utf8_unchecked(&bytes[..len]) })?;
+        return Ok((len, state));
+    }
+    Ok((1, append_byte(state, bytes[0], text)?))
+}
+
+// How many bytes at the front stand for themselves: ASCII in most states, and in UTF-8 all text.
+fn front_len(state: State, bytes: &[u8]) -> usize
+    ensures within { result ≤ length bytes.now }
+    ensures stands { StandsForItself state (take result bytes.now) }
+{
+    if reads_text(state) {
+        return text_len(bytes);
+    }
+    if reads_ascii(state) {
+        return ascii_len(bytes);
+    }
+    if reads_plain(state) {
+        plain_len(bytes)
+    } else {
+        0
+    }
+}
+
+// Whether text in UTF-8 stands for itself, and leaves the decoder where it is.
+#[tactic(auto, unfolding(crate::specs::Decoding::reads_text))]
+fn reads_text(state: State) -> bool
+    ensures { result ≡ reads_text state }
+{
+    match state {
+        State::Utf8(part) => part.is_none(),
+        State::SingleByte(_) | State::Gb18030(_) | State::Big5(_) | State::EucJp(_) => false,
+        State::Iso2022Jp(_) | State::ShiftJis(_) | State::EucKr(_) | State::Replacement(_) => false,
+        State::Utf16(_) | State::UserDefined => false,
+    }
+}
+
+// Whether ASCII stands for itself, and leaves the decoder where it is; but for UTF-8.
+#[tactic(auto, unfolding(crate::specs::Decoding::reads_ascii))]
+fn reads_ascii(state: State) -> bool
+    ensures { result ≡ reads_ascii state }
+{
+    match state {
+        State::SingleByte(_) | State::UserDefined => true,
+        State::Gb18030(lead) => lead.is_none(),
+        State::Big5(lead) => lead.is_none(),
+        State::EucJp(lead) => lead.is_none(),
+        State::ShiftJis(lead) => lead.is_none(),
+        State::EucKr(lead) => lead.is_none(),
+        State::Utf8(_) | State::Iso2022Jp(_) | State::Replacement(_) | State::Utf16(_) => false,
+    }
+}
+
+// Whether plain ASCII stands for itself, and leaves the decoder where it is: in ISO-2022-JP.
+#[tactic(auto, unfolding(crate::specs::Decoding::reads_plain))]
+fn reads_plain(state: State) -> bool
+    ensures { result ≡ reads_plain state }
+{
+    match state {
+        State::Iso2022Jp(before) => iso_2022_jp::reads_plain(before),
+        State::Utf8(_) | State::SingleByte(_) | State::Gb18030(_) | State::Big5(_) => false,
+        State::EucJp(_) | State::ShiftJis(_) | State::EucKr(_) | State::Replacement(_) => false,
+        State::Utf16(_) | State::UserDefined => false,
+    }
+}
+
+// Appends what a byte gives, and gives where it leaves the decoder.
+#[tactic(auto, unfolding(crate::specs::Decoding::handled))]
+fn append_byte<A: Allocator>(
+    state: State,
+    byte: u8,
+    text: &mut String<A>,
+) -> Result<State, AllocError>
+    requires { IsState state }
+    ensures text { OnOk result (Adds text.old text.new (handled state byte).0) }
+    ensures leaves { IfOk result (λ left. left ≡ (handled state byte).1) }
+    ensures valid { IfOk result IsState }
+{
+    match state {
+        State::Utf8(part) => Ok(State::Utf8(utf8::append_byte(part, byte, text)?)),
+        State::SingleByte(single) => {
+            single_byte::append_byte(single, byte, text)?;
+            Ok(state)
+        }
+        State::Gb18030(lead) => Ok(State::Gb18030(gb18030::append_byte(lead, byte, text)?)),
+        State::Big5(lead) => Ok(State::Big5(big5::append_byte(lead, byte, text)?)),
+        State::EucJp(lead) => Ok(State::EucJp(euc_jp::append_byte(lead, byte, text)?)),
+        State::Iso2022Jp(before) => Ok(State::Iso2022Jp(iso_2022_jp::append_byte(
+            before, byte, text,
+        )?)),
+        State::ShiftJis(lead) => Ok(State::ShiftJis(shift_jis::append_byte(lead, byte, text)?)),
+        State::EucKr(lead) => Ok(State::EucKr(euc_kr::append_byte(lead, byte, text)?)),
+        State::Replacement(returned) => {
+            append_replaced(returned, text)?;
+            Ok(State::Replacement(true))
+        }
+        State::Utf16(before) => Ok(State::Utf16(utf16::append_byte(before, byte, text)?)),
+        State::UserDefined => {
+            append_user_defined(byte, text)?;
+            Ok(state)
+        }
+    }
+}
+
+// The text at the end.
+#[tactic(auto, unfolding(crate::specs::Decoding::at_end))]
+pub(crate) fn at_end(state: State) -> &'static str
+    ensures { result.now ≡ encode_utf8_all (at_end state) }
+{
+    match state {
+        State::Utf8(part) => error_if(part.is_some()),
+        State::Gb18030(lead) => error_if(lead.is_some()),
+        State::Big5(lead) => error_if(lead.is_some()),
+        State::EucJp(lead) => error_if(lead.is_some()),
+        State::ShiftJis(lead) => error_if(lead.is_some()),
+        State::EucKr(lead) => error_if(lead.is_some()),
+        State::Iso2022Jp(before) => iso_2022_jp::at_end(before),
+        State::Utf16(before) => error_if(utf16::is_begun(before)),
+        State::SingleByte(_) | State::Replacement(_) | State::UserDefined => "",
+    }
+}
