@@ -1,11 +1,12 @@
-"""Random cases of crates/html5tree, as proofs: what the model of tree construction builds, and what it says of fitting.
+"""Random cases of crates/html5tree, as proofs: what models of tree construction and of the normaliser make of items.
 
     python3 tools/tree_cases.py > crates/html5tree/proofs/RandomCases.antt
     python3 tools/tree_cases.py --check            # says whether the file is what this script makes
-    python3 tools/tree_cases.py --try 20000        # compares, in the model, trees of random items with their nesting
+    python3 tools/tree_cases.py --try 20000        # tries the laws in the models, at random items
 
-A case is items, and the tree that `tools/model/tree.py` builds of them, or whether all fit from no open elements. The
-prover computes both by the crate's definitions, so it says whether they and the model agree.
+A case is items, and the tree that `tools/model/tree.py` builds of them, or whether all fit from no open elements, or
+what `tools/model/normal.py` makes of them. The prover computes the same by the crate's definitions, so it says whether
+they and the models agree.
 """
 
 from __future__ import annotations
@@ -16,7 +17,7 @@ import random
 import re
 import sys
 
-from model import tree
+from model import normal, tree
 from model.tree import End, Start, Text
 
 FILE = pathlib.Path(__file__).resolve().parent.parent / "crates" / "html5tree" / "proofs" / "RandomCases.antt"
@@ -40,6 +41,8 @@ GROUPS = [
     )
 ]
 BATCH = 10  # cases that are one proof
+# Items that seldom come, to try the normaliser.
+STRAY = [Start("video"), End("video"), End("p"), End("br"), End("hr"), Text(""), Text(" "), Text(" x y ")]
 # Inputs of which a model with one line changed makes another tree: each shows what some rule is for.
 CHOSEN = [
     "<p><li>",
@@ -105,6 +108,11 @@ READING = {
     "Scopes": "near",
 }
 FITTING = READING | {"Fitting": "fits open_after each_fits all_open_after"}
+NORMAL = READING | {
+    "Fitting": "open_after",
+    "Tables": "leading_space after_space",
+    "Normal": "count_inside run_of opened plan_of normal_above",
+}
 TREES = READING | {
     "Items": "in_front whole_texts without_newlines",
     "Document": "joined changed changed_before found without applied built bare",
@@ -115,9 +123,9 @@ TREES = READING | {
     "Tables": "mode_of back_to is_hidden leading_space after_space",
     "Construction": "process run",
 }
-NAMED = {"Items": "Item", "Tree": "Tree", "Fitting": "all_fit", "Construction": "tree_of"}
-HEAD = """-- Items, with the trees that a model of the standard's tree construction builds of them, and with whether they all
--- fit: by `python3 tools/tree_cases.py`, and not by hand.
+NAMED = {"Items": "Item", "Tree": "Tree", "Fitting": "all_fit", "Construction": "tree_of", "Normal": "normal"}
+HEAD = """-- Items, with the trees that a model of the standard's tree construction builds of them, with whether they all fit, and
+-- with what a model of the normaliser makes of them: by `python3 tools/tree_cases.py`, and not by hand.
 use Rattle.std.proofs.Common.{◌≡◌, Bool, true, false, List, [], ◌∷◌, refl}
 use Rattle.std.specs.Prelude.{codes, map}
 use Rattle.html5tree.specs.Items.Item.{StartTag, Text}
@@ -129,8 +137,8 @@ FOOT = "use Rattle.html5tree.proofs.Shorthand.{start, end, attribute}\n"
 def imports() -> str:
     """The `use` lines of what the proofs unfold and name."""
     lines = []
-    for module in sorted({*TREES, *FITTING, *NAMED}):
-        named = dict.fromkeys(" ".join(names.get(module, "") for names in (TREES, FITTING, NAMED)).split())
+    for module in sorted({*TREES, *FITTING, *NORMAL, *NAMED}):
+        named = dict.fromkeys(" ".join(names.get(module, "") for names in (TREES, FITTING, NORMAL, NAMED)).split())
         lines.append(f"use Rattle.html5tree.specs.{module}.{{{', '.join(named)}}}\n")
     return "".join(lines)
 
@@ -323,6 +331,15 @@ def fitting_cases(number: int) -> list[tuple[str, str]]:
     return cases
 
 
+def normal_cases(number: int, limit: int) -> list[tuple[str, str]]:
+    cases = []
+    for at in range(number):
+        it = Maker(f"normal {limit} {at}")
+        items = (it.items, it.balanced_items, it.items, it.misnested_items, it.fitting_items)[at % 5]()
+        cases.append((items_term(items), items_term(normal.normal(limit, items))))
+    return cases
+
+
 def proofs() -> str:
     parts = [HEAD + imports() + FOOT]
     for head, name, function, kind, cases, unfolded in [
@@ -330,6 +347,9 @@ def proofs() -> str:
         ("trees of items that were chosen", "chosen", "tree_of", "Tree", chosen_cases(), TREES),
         ("trees by name", "names", "tree_of", "Tree", name_cases(), TREES),
         ("which random items all fit", "fitting", "(all_fit [])", "Bool", fitting_cases(120), FITTING),
+        ("random items made fit", "normal", "(normal 511)", "(List Item)", normal_cases(40, 511), NORMAL),
+        ("the same with five open elements at most", "normal_within_5", "(normal 5)", "(List Item)", normal_cases(10, 5), NORMAL),
+        ("and with three", "normal_within_3", "(normal 3)", "(List Item)", normal_cases(10, 3), NORMAL),
     ]:
         parts.append(f"-- ---- {head}\n")
         parts += [proof(f"{name}_{at}", function, kind, batch, unfolded) for at, batch in enumerate(batches(cases))]
@@ -353,13 +373,62 @@ def try_cases(number: int):
     print(f"{len(fitting)} fit, and are built as nested; of {len(others)} balanced that don't fit, {nested} are")
 
 
+def cut(choices: random.Random, items: list) -> list:
+    """The same items, with some texts cut."""
+    pieces = []
+    for item in items:
+        if isinstance(item, Text) and item.text:
+            at = choices.randrange(len(item.text) + 1)
+            pieces += [Text(item.text[:at]), Text(item.text[at:])]
+        else:
+            pieces.append(item)
+    return pieces
+
+
+def unmet(choices: random.Random, limit: int, items: list) -> list[str]:
+    """What the normaliser owes at these items, and doesn't give."""
+    made = normal.normal(limit, items)
+    fits = tree.all_fit(items) and tree.most_open(items) <= limit
+    read = tree.read_items(made)
+    owed = {
+        "fits": tree.all_fit(made) and tree.most_open(made) <= limit,
+        "unchanged": not fits or made == items,
+        "again": normal.normal(limit, made) == made,
+        "tree": tree.shown(tree.tree_of(made)) == tree.shown(tree.nesting(read)),
+        "bound": len(made) <= 8 * len(items),
+        "cuts": tree.whole_texts(normal.normal(limit, cut(choices, items))) == tree.whole_texts(made),
+    }
+    return [name for name, is_met in owed.items() if not is_met]
+
+
+def is_built_the_same(items) -> bool:
+    """Whether what the normaliser makes of items is built as the items are."""
+    return tree.shown(tree.tree_of(normal.normal(511, items))) == tree.shown(tree.tree_of(items))
+
+
+def try_normal(number: int):
+    """That what the normaliser makes of items fits, and so on; and how much is built as the items themselves are."""
+    wide = same = 0
+    for at in range(number):
+        it = Maker(f"try normal {at}")
+        items = (it.items, it.misnested_items, it.items, it.fitting_items, it.balanced_items)[at % 5]()
+        items.insert(it.choices.randrange(len(items) + 1), it.choices.choice(STRAY))
+        limit = it.choices.choice([511, 511, 511, 0, 1, 2, 3, 4, 5, 6, 8])
+        if names := unmet(it.choices, limit, items):
+            sys.exit(f"the normaliser, with a limit of {limit}, at {items}: {', '.join(names)}")
+        wide += limit == 511
+        same += limit == 511 and is_built_the_same(items)
+    print(f"{number} were made fit; of {wide} with a limit of 511, {same} are built as the items themselves")
+
+
 def main():
     words = argparse.ArgumentParser(description=__doc__, formatter_class=argparse.RawDescriptionHelpFormatter)
     words.add_argument("--check", action="store_true", help="compare with the file, and print nothing")
-    words.add_argument("--try", type=int, metavar="N", dest="tries", help="compare trees with nesting in the model")
+    words.add_argument("--try", type=int, metavar="N", dest="tries", help="try the laws in the models")
     given = words.parse_args()
     if given.tries:
         try_cases(given.tries)
+        try_normal(given.tries)
     elif not given.check:
         print(proofs(), end="")
     elif FILE.read_text(encoding="utf-8") != proofs():

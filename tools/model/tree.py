@@ -576,6 +576,40 @@ def nesting(items) -> list[Node]:
     return root.children
 
 
+def whole_texts(items) -> list:
+    """Items in which no two texts stand side by side, and none is empty."""
+    whole: list = []
+    for item in items:
+        if isinstance(item, Text) and whole and isinstance(whole[-1], Text):
+            whole[-1] = Text(whole[-1].text + item.text)
+        elif item != Text(""):
+            whole.append(item)
+    return whole
+
+
+def read_items(items) -> list:
+    """What tree construction reads of items: whole texts, without a newline straight after a `pre` or `listing`."""
+    read: list = []
+    is_fresh = False
+    for item in whole_texts(items):
+        if isinstance(item, Text) and is_fresh and item.text[0] == "\n":
+            item = Text(item.text[1:])
+        is_fresh = isinstance(item, Start) and item.name in PREFORMATTED
+        if item != Text(""):
+            read.append(item)
+    return read
+
+
+def most_open(items) -> int:
+    """How many elements are open where most are, if the items are balanced."""
+    opened = most = 0
+    for item in items:
+        if isinstance(item, End) or isinstance(item, Start) and item.name not in VOID:
+            opened += 1 if isinstance(item, Start) else -1
+        most = max(most, opened)
+    return most
+
+
 def shown(nodes: list[Node]) -> str:
     """Nodes as text, with all their tags, and attributes in the order in which they came."""
     parts = []

@@ -13,8 +13,9 @@ use Rattle.html5tree.specs.Parser.{has_node, inside, outside, without_node, is_b
 use Rattle.html5tree.specs.Adoption.{ended_by, furthest_block, replaced, inner_loop, added_after, adopted, outer_loop}
 use Rattle.html5tree.specs.InBody.{innermost}
 use Rattle.html5tree.specs.Tables.{mode_of, back_to, is_hidden, leading_space, after_space}
+use Rattle.html5tree.specs.Normal.{count_inside, run_of, opened, plan_of, normal_above, normal}
 use Rattle.html5tree.specs.Construction.{process, run, tree_of}
-use Rattle.html5tree.proofs.Markup.{up_to, beyond, attributes_of, items_from, items_of, attributes_text, shown}
+use Rattle.html5tree.proofs.Markup.{up_to, beyond, attributes_of, items_from, items_of, attributes_text, markup_of, shown}
 use Rattle.html5tree.proofs.Shorthand.{start}
 
 -- ---- trees: items, and what is built of them
@@ -135,6 +136,111 @@ unfit =
 none-of-these-fits : list_all (λ markup. not (all_fit [] (items_of markup))) unfit ≡ true
 unfolding unfit up_to beyond attributes_of items_from is_among kind_in all_names kind_of near fits open_after each_fits all_open_after
 none-of-these-fits = refl
+
+-- ---- the normaliser: items, and what it makes of them
+
+normal_cases : List Case
+normal_cases =
+    -- a `p` closes the one that is open
+    case (codes "<p>1<p>2") (codes "<p>1</p><p>2</p>")
+    -- so does a `li`, and `</ul>` closes both
+    ∷ case (codes "<ul><li>a<li>b</ul>") (codes "<ul><li>a</li><li>b</li></ul>")
+    -- with what is open in it
+    ∷ case (codes "<ul><li><div><p>a<li>b") (codes "<ul><li><div><p>a</p></div></li><li>b</li></ul>")
+    -- but not one that a list bounds
+    ∷ case (codes "<ul><li>a<ol><li>b<li>c</ul>") (codes "<ul><li>a<ol><li>b</li><li>c</li></ol></li></ul>")
+    -- a row has a body
+    ∷ case (codes "<table><tr><td>x") (codes "<table><tbody><tr><td>x</td></tr></tbody></table>")
+    -- a `td` has a row, too
+    ∷ case (codes "<table><td>x") (codes "<table><tbody><tr><td>x</td></tr></tbody></table>")
+    -- and a `col` has a group
+    ∷ case (codes "<table><col><td>x") (codes "<table><colgroup><col></colgroup><tbody><tr><td>x</td></tr></tbody></table>")
+    -- a part closes what is open in the table
+    ∷ case (codes "<table><caption><b>x<tr><td><p>y<tfoot>") (codes "<table><caption><b>x</b></caption><tbody><tr><td><p>y</p></td></tr></tbody><tfoot></tfoot></table>")
+    -- and without a table it is dropped
+    ∷ case (codes "<tr><td>x</td></tr>") (codes "x")
+    -- text is put in a cell
+    ∷ case (codes "<table>x<tr>") (codes "<table><tbody><tr><td>x</td></tr><tr></tr></tbody></table>")
+    -- but for the white space at its front
+    ∷ case (codes "<table> x <tr>") (codes "<table> <tbody><tr><td>x </td></tr><tr></tr></tbody></table>")
+    -- in a `colgroup`, too
+    ∷ case (codes "<table><colgroup>\n x") (codes "<table><colgroup>\n </colgroup><tbody><tr><td>x</td></tr></tbody></table>")
+    -- white space stays
+    ∷ case (codes "<table> <tr> <td>") (codes "<table> <tbody><tr> <td></td></tr></tbody></table>")
+    -- an `a` is put in a cell, and `</a>` in another cell means none outside it
+    ∷ case (codes "<table><a><tr><td></a>") (codes "<table><tbody><tr><td><a></a></td></tr><tr><td></td></tr></tbody></table>")
+    -- a `form` straight in a table is dropped, and what follows is put in a cell
+    ∷ case (codes "<table><form><input></form>") (codes "<table><tbody><tr><td><input></td></tr></tbody></table>")
+    -- a `table` straight in a table closes that
+    ∷ case (codes "<table><tr><table>") (codes "<table><tbody><tr></tr></tbody></table><table></table>")
+    -- an `a` closes the one that is open
+    ∷ case (codes "<a href=u>1<a href=v>2") (codes "<a href=u>1</a><a href=v>2</a>")
+    -- an end tag closes what is open within; a `</p>` alone is an empty `p`
+    ∷ case (codes "<b><p>x</b>y</p>") (codes "<b><p>x</p></b>y<p></p>")
+    -- but a `</span>` closes no block
+    ∷ case (codes "<span><div></span>x") (codes "<span><div>x</div></span>")
+    -- and in a table `</p>` is dropped
+    ∷ case (codes "<table></p>") (codes "<table></table>")
+    -- a heading closes the one that it stands in
+    ∷ case (codes "<h1>a<h2>b") (codes "<h1>a</h1><h2>b</h2>")
+    -- and a `p` in that
+    ∷ case (codes "<h1><p>a<h2>b</h3>c") (codes "<h1><p>a</p></h1><h2>b</h2>c")
+    -- a `dd` closes a `dt`
+    ∷ case (codes "<dl><dt>a<dd>b</dl>") (codes "<dl><dt>a</dt><dd>b</dd></dl>")
+    -- end tags without an element
+    ∷ case (codes "</div></p></td>x") (codes "<p></p>x")
+    -- elements that are alike may all stay open
+    ∷ case (codes "<b><b><b><b>x") (codes "<b><b><b><b>x</b></b></b></b>")
+    -- a `button` closes the one that is open
+    ∷ case (codes "<button><button>") (codes "<button></button><button></button>")
+    -- a second `form` is dropped
+    ∷ case (codes "<form><form>") (codes "<form></form>")
+    -- newlines stay as they are
+    ∷ case (codes "<pre>\n\nx") (codes "<pre>\n\nx</pre>")
+    -- an `rp` closes an `rt`
+    ∷ case (codes "<ruby>a<rt>b<rp>") (codes "<ruby>a<rt>b</rt><rp></rp></ruby>")
+    -- but not an `rtc`
+    ∷ case (codes "<ruby><rtc><rt>a<rt>b<rtc>") (codes "<ruby><rtc><rt>a</rt><rt>b</rt></rtc><rtc></rtc></ruby>")
+    -- a `</br>` is a `br`
+    ∷ case (codes "a</br>b") (codes "a<br>b")
+    -- other void elements have no end tag, and other names are dropped
+    ∷ case (codes "<video>a</hr></video>b") (codes "ab")
+    ∷ []
+
+made-by-hand : map (λ c. markup_of (normal 511 (items_of c.items))) normal_cases ≡ map (λ c. c.tree) normal_cases
+unfolding case normal_cases up_to beyond attributes_of items_from is_among kind_in all_names kind_of near open_after attributes_text markup_of leading_space after_space count_inside run_of opened plan_of normal_above
+made-by-hand = refl
+
+-- with a limit of how many elements are open
+record Limited : Type 0 where
+  limit : ℕ
+  items : List ℕ
+  made : List ℕ
+
+limited : ℕ → List ℕ → List ℕ → Limited
+limited limit items made = record { limit = limit; items = items; made = made }
+
+limited_cases : List Limited
+limited_cases =
+    -- too deep
+    limited 3 (codes "<b><i><u><s>x</s></u>") (codes "<b><i><u>x</u></i></b>")
+    -- the implied parents count
+    ∷ limited 3 (codes "<table><td>x<tr>") (codes "<table><tbody><tr></tr></tbody></table>")
+    -- void elements don't
+    ∷ limited 0 (codes "<b>x</b><br></p>") (codes "x<br>")
+    -- so does the `p` of a `</p>`
+    ∷ limited 1 (codes "</p><div></p>") (codes "<p></p><div></div>")
+    -- a cell is not too deep
+    ∷ limited 4 (codes "<table> x y") (codes "<table> <tbody><tr><td>x y</td></tr></tbody></table>")
+    -- of a text whose cell is, the white space stays
+    ∷ limited 3 (codes "<table> x y") (codes "<table>  </table>")
+    -- what closes another is as deep as that
+    ∷ limited 1 (codes "<p>a<p>b") (codes "<p>a</p><p>b</p>")
+    ∷ []
+
+limited-by-hand : map (λ c. markup_of (normal c.limit (items_of c.items))) limited_cases ≡ map (λ c. c.made) limited_cases
+unfolding limited limited_cases up_to beyond attributes_of items_from is_among kind_in all_names kind_of near open_after attributes_text markup_of leading_space after_space count_inside run_of opened plan_of normal_above
+limited-by-hand = refl
 
 -- ---- hosts, innermost element first
 

@@ -7,8 +7,9 @@ use Rattle.html5tree.specs.Fitting.{all_fit, all_open_after, bounds_item, bounds
 use Rattle.html5tree.specs.Hosts.{allows, allows_item, closes_paragraph, is_flow_host, is_neutral, suits}
 use Rattle.html5tree.specs.Items.{Item, balanced}
 use Rattle.html5tree.specs.Items.Item.{EndTag, StartTag, Text}
-use Rattle.html5tree.specs.Names.{Kind, has_marker, is_anchor, is_button, is_description, is_form, is_heading, is_implied, is_list_item, is_no_break, is_paragraph, is_part, is_ruby, is_void, kind_of, no_kind, of_kind}
-use Rattle.html5tree.specs.Names.Kind.{Anchor, Block, Button, Caption, Cell, Column, ColumnGroup, Description, Dialog, Division, Form, Formatting, Heading, ListBlock, ListItem, NoBreak, Ordinary, Paragraph, Preformatted, Ruby, RubyBase, RubyContainer, RubyText, Search, TableBody, TableRow, Unknown, Void}
+use Rattle.html5tree.specs.declared.kinds.Kind.{Kind}
+use Rattle.html5tree.specs.Names.{has_marker, is_anchor, is_button, is_description, is_form, is_heading, is_implied, is_list_item, is_no_break, is_paragraph, is_part, is_ruby, is_void, kind_of, no_kind, of_kind}
+use Rattle.html5tree.specs.declared.kinds.Kind.TheVariants.{Anchor, Block, Button, Caption, Cell, Column, ColumnGroup, Description, Dialog, Division, Form, Formatting, Heading, ListBlock, ListItem, NoBreak, Ordinary, Paragraph, Preformatted, Ruby, RubyBase, RubyContainer, RubyText, Search, TableBody, TableRow, Unknown, Void}
 use Rattle.html5tree.specs.Scopes.{kind_on_top, near, top_of_kind}
 
 -- ---- what is near in a stack above another

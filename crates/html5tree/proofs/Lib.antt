@@ -1,8 +1,17 @@
 pub mod Lists
+pub mod NameTables
+pub mod OpenNames
 pub mod Steps
+pub mod RightPlans
 pub mod Documents
 pub mod Texts
 pub mod Built
+pub mod Normalising
+pub mod Bounds
+pub mod CodePlans
+pub mod Moved
+pub mod Nests
+pub mod Cuts
 pub mod InPlace
 pub mod Hosted
 pub mod FlowHosts

@@ -4,7 +4,8 @@ use Rattle.std.specs.Prelude.{◌==◌, ◌&&◌, nat_le, if◌then◌else◌, S
 use Rattle.std.proofs.lemmas.Bool.{false≢true, eqb-true, eq-eqb, false_from_ne_true}
 use Rattle.html5tree.specs.Lockstep.{AreNumbered, IsWithin, form_of}
 use Rattle.html5tree.specs.Lockstep.IsWithin.{Done, Keep, Mark, Skip}
-use Rattle.html5tree.specs.Names.{Kind, has_marker, is_form, is_formatting, kind_of, no_kind}
+use Rattle.html5tree.specs.declared.kinds.Kind.{Kind}
+use Rattle.html5tree.specs.Names.{has_marker, is_form, is_formatting, kind_of, no_kind}
 use Rattle.html5tree.specs.Page.{Element, names}
 use Rattle.html5tree.specs.Parser.{Entry, Parser, cleared, count_alike, has_entry, has_node, is_alike, kept, last_named, lost, pushed, reopened, without_earliest}
 use Rattle.html5tree.specs.Parser.Entry.{Active, Marker}

@@ -45,11 +45,18 @@ items_from false before (c ∷ text) = if c == 60 then text_of before (items_fro
 abbrev pub items_of : List ℕ → List Item
 items_of markup = items_from false [] markup
 
--- ---- trees
-
 unfoldable pub attributes_text : List Attribute → List ℕ
 attributes_text [] = []
 attributes_text (a ∷ more) = codes " " ++ (a.name ++ (codes "=" ++ (a.value ++ attributes_text more)))
+
+-- items as they are written
+unfoldable pub markup_of : List Item → List ℕ
+markup_of [] = []
+markup_of (StartTag name attributes ∷ items) = codes "<" ++ (name ++ (attributes_text attributes ++ (codes ">" ++ markup_of items)))
+markup_of (EndTag name ∷ items) = codes "</" ++ (name ++ (codes ">" ++ markup_of items))
+markup_of (Text text ∷ items) = text ++ markup_of items
+
+-- ---- trees
 
 unfoldable pub shown : Tree → List ℕ
 shown Nothing = []

@@ -1,5 +1,5 @@
--- Items, with the trees that a model of the standard's tree construction builds of them, and with whether they all
--- fit: by `python3 tools/tree_cases.py`, and not by hand.
+-- Items, with the trees that a model of the standard's tree construction builds of them, with whether they all fit, and
+-- with what a model of the normaliser makes of them: by `python3 tools/tree_cases.py`, and not by hand.
 use Rattle.std.proofs.Common.{◌≡◌, Bool, true, false, List, [], ◌∷◌, refl}
 use Rattle.std.specs.Prelude.{codes, map}
 use Rattle.html5tree.specs.Items.Item.{StartTag, Text}
@@ -11,6 +11,7 @@ use Rattle.html5tree.specs.Fitting.{fits, open_after, each_fits, all_open_after,
 use Rattle.html5tree.specs.InBody.{innermost}
 use Rattle.html5tree.specs.Items.{in_front, whole_texts, without_newlines, Item}
 use Rattle.html5tree.specs.Names.{is_among, kind_in, all_names, kind_of}
+use Rattle.html5tree.specs.Normal.{count_inside, run_of, opened, plan_of, normal_above, normal}
 use Rattle.html5tree.specs.Parser.{has_node, inside, outside, without_node, is_bounded, popped_until, implied_ended, has_entry, without_entry, last_named, is_one_of, are_all_of, count_alike, without_earliest, pushed, cleared, last_table, lost, kept, reopened}
 use Rattle.html5tree.specs.Scopes.{near}
 use Rattle.html5tree.specs.Tables.{mode_of, back_to, is_hidden, leading_space, after_space}
@@ -1278,3 +1279,201 @@ fitting_11_answers =
 fitting_11 : map (all_fit []) fitting_11_items ≡ fitting_11_answers
 unfolding fitting_11_items fitting_11_answers is_among kind_in all_names kind_of near fits open_after each_fits all_open_after
 fitting_11 = refl
+
+-- ---- random items made fit
+
+normal_0_items : List (List Item)
+normal_0_items =
+    (start (codes "li") ∷ end (codes "li") ∷ start (codes "rb") ∷ end (codes "rb") ∷ end (codes "h5") ∷ end (codes "kbd") ∷ start (codes "caption") ∷ StartTag (codes "caption") (attribute (codes "id") (codes "1") ∷ attribute (codes "class") (codes "2") ∷ []) ∷ start (codes "h5") ∷ start (codes "kbd") ∷ end (codes "li") ∷ Text (codes "x y") ∷ end (codes "h5") ∷ end (codes "caption") ∷ [])
+    ∷ (start (codes "bdo") ∷ end (codes "bdo") ∷ start (codes "map") ∷ Text [] ∷ start (codes "map") ∷ end (codes "map") ∷ start (codes "area") ∷ Text (codes "x ") ∷ end (codes "map") ∷ [])
+    ∷ (Text (codes "\n\n") ∷ start (codes "form") ∷ start (codes "rtc") ∷ end (codes "table") ∷ Text (codes " ") ∷ [])
+    ∷ (StartTag (codes "i") (attribute (codes "id") (codes "1") ∷ attribute (codes "class") (codes "2") ∷ []) ∷ StartTag (codes "b") (attribute (codes "class") (codes "2") ∷ attribute (codes "id") (codes "1") ∷ []) ∷ StartTag (codes "a") (attribute (codes "class") (codes "2") ∷ attribute (codes "id") (codes "1") ∷ []) ∷ start (codes "div") ∷ start (codes "li") ∷ start (codes "li") ∷ Text (codes "x") ∷ end (codes "a") ∷ end (codes "i") ∷ Text (codes "x") ∷ StartTag (codes "i") (attribute (codes "class") (codes "2") ∷ attribute (codes "id") (codes "1") ∷ []) ∷ StartTag (codes "b") (attribute (codes "id") (codes "1") ∷ attribute (codes "class") (codes "2") ∷ []) ∷ StartTag (codes "a") (attribute (codes "id") (codes "1") ∷ attribute (codes "class") (codes "2") ∷ []) ∷ start (codes "div") ∷ start (codes "li") ∷ Text (codes "x") ∷ end (codes "a") ∷ end (codes "b") ∷ end (codes "i") ∷ Text (codes "y") ∷ StartTag (codes "a") (attribute (codes "class") (codes "2") ∷ attribute (codes "id") (codes "1") ∷ []) ∷ StartTag (codes "i") (attribute (codes "id") (codes "1") ∷ attribute (codes "class") (codes "2") ∷ []) ∷ StartTag (codes "a") (attribute (codes "class") (codes "2") ∷ attribute (codes "id") (codes "1") ∷ []) ∷ start (codes "div") ∷ start (codes "ul") ∷ Text (codes "x") ∷ end (codes "a") ∷ Text (codes "y") ∷ StartTag (codes "a") (attribute (codes "id") (codes "1") ∷ attribute (codes "class") (codes "2") ∷ []) ∷ StartTag (codes "a") (attribute (codes "class") (codes "2") ∷ attribute (codes "id") (codes "1") ∷ []) ∷ start (codes "ul") ∷ start (codes "ul") ∷ Text (codes "x") ∷ end (codes "i") ∷ end (codes "i") ∷ Text (codes "x") ∷ StartTag (codes "a") (attribute (codes "class") (codes "2") ∷ attribute (codes "id") (codes "1") ∷ []) ∷ start (codes "div") ∷ Text (codes "y") ∷ end (codes "b") ∷ end (codes "div") ∷ end (codes "a") ∷ Text (codes "y") ∷ [])
+    ∷ (Text (codes "x ") ∷ Text (codes " x") ∷ start (codes "sub") ∷ end (codes "sub") ∷ [])
+    ∷ (start (codes "pre") ∷ start (codes "listing") ∷ StartTag (codes "listing") (attribute (codes "id") (codes "1") ∷ attribute (codes "class") (codes "2") ∷ []) ∷ end (codes "listing") ∷ StartTag (codes "td") (attribute (codes "class") (codes "2") ∷ attribute (codes "id") (codes "1") ∷ []) ∷ Text (codes "x y") ∷ start (codes "pre") ∷ start (codes "listing") ∷ StartTag (codes "listing") (attribute (codes "class") (codes "2") ∷ attribute (codes "id") (codes "1") ∷ []) ∷ start (codes "dl") ∷ end (codes "td") ∷ Text (codes "\n\n") ∷ end (codes "dl") ∷ start (codes "listing") ∷ Text (codes " x") ∷ Text (codes "x y") ∷ [])
+    ∷ (start (codes "embed") ∷ Text (codes "\n\n") ∷ Text (codes "x") ∷ StartTag (codes "li") (attribute (codes "class") (codes "1") ∷ []) ∷ start (codes "button") ∷ start (codes "table") ∷ end (codes "table") ∷ end (codes "button") ∷ end (codes "li") ∷ [])
+    ∷ (StartTag (codes "tr") (attribute (codes "class") (codes "2") ∷ attribute (codes "id") (codes "1") ∷ []) ∷ end (codes "tr") ∷ start (codes "table") ∷ Text (codes " x") ∷ start (codes "colgroup") ∷ start (codes "col") ∷ StartTag (codes "col") (attribute (codes "class") (codes "1") ∷ []) ∷ StartTag (codes "table") (attribute (codes "class") (codes "1") ∷ []) ∷ [])
+    ∷ (start (codes "b") ∷ start (codes "b") ∷ start (codes "td") ∷ start (codes "tr") ∷ Text (codes "y") ∷ end (codes "a") ∷ end (codes "a") ∷ Text (codes "x") ∷ [])
+    ∷ (StartTag (codes "table") (attribute (codes "class") (codes "2") ∷ attribute (codes "id") (codes "1") ∷ []) ∷ StartTag (codes "tfoot") (attribute (codes "id") (codes "1") ∷ attribute (codes "class") (codes "2") ∷ []) ∷ StartTag (codes "tr") (attribute (codes "class") (codes "2") ∷ attribute (codes "id") (codes "1") ∷ []) ∷ end (codes "tr") ∷ end (codes "tfoot") ∷ end (codes "table") ∷ [])
+    ∷ []
+
+normal_0_answers : List (List Item)
+normal_0_answers =
+    (start (codes "li") ∷ end (codes "li") ∷ start (codes "rb") ∷ end (codes "rb") ∷ start (codes "h5") ∷ start (codes "kbd") ∷ Text (codes "x y") ∷ end (codes "kbd") ∷ end (codes "h5") ∷ [])
+    ∷ (start (codes "bdo") ∷ end (codes "bdo") ∷ start (codes "map") ∷ Text [] ∷ start (codes "map") ∷ end (codes "map") ∷ start (codes "area") ∷ Text (codes "x ") ∷ end (codes "map") ∷ [])
+    ∷ (Text (codes "\n\n") ∷ start (codes "form") ∷ start (codes "rtc") ∷ Text (codes " ") ∷ end (codes "rtc") ∷ end (codes "form") ∷ [])
+    ∷ (StartTag (codes "i") (attribute (codes "id") (codes "1") ∷ attribute (codes "class") (codes "2") ∷ []) ∷ StartTag (codes "b") (attribute (codes "class") (codes "2") ∷ attribute (codes "id") (codes "1") ∷ []) ∷ StartTag (codes "a") (attribute (codes "class") (codes "2") ∷ attribute (codes "id") (codes "1") ∷ []) ∷ start (codes "div") ∷ start (codes "li") ∷ end (codes "li") ∷ start (codes "li") ∷ Text (codes "x") ∷ end (codes "li") ∷ end (codes "div") ∷ end (codes "a") ∷ end (codes "b") ∷ end (codes "i") ∷ Text (codes "x") ∷ StartTag (codes "i") (attribute (codes "class") (codes "2") ∷ attribute (codes "id") (codes "1") ∷ []) ∷ StartTag (codes "b") (attribute (codes "id") (codes "1") ∷ attribute (codes "class") (codes "2") ∷ []) ∷ StartTag (codes "a") (attribute (codes "id") (codes "1") ∷ attribute (codes "class") (codes "2") ∷ []) ∷ start (codes "div") ∷ start (codes "li") ∷ Text (codes "x") ∷ end (codes "li") ∷ end (codes "div") ∷ end (codes "a") ∷ end (codes "b") ∷ end (codes "i") ∷ Text (codes "y") ∷ StartTag (codes "a") (attribute (codes "class") (codes "2") ∷ attribute (codes "id") (codes "1") ∷ []) ∷ StartTag (codes "i") (attribute (codes "id") (codes "1") ∷ attribute (codes "class") (codes "2") ∷ []) ∷ end (codes "i") ∷ end (codes "a") ∷ StartTag (codes "a") (attribute (codes "class") (codes "2") ∷ attribute (codes "id") (codes "1") ∷ []) ∷ start (codes "div") ∷ start (codes "ul") ∷ Text (codes "x") ∷ end (codes "ul") ∷ end (codes "div") ∷ end (codes "a") ∷ Text (codes "y") ∷ StartTag (codes "a") (attribute (codes "id") (codes "1") ∷ attribute (codes "class") (codes "2") ∷ []) ∷ end (codes "a") ∷ StartTag (codes "a") (attribute (codes "class") (codes "2") ∷ attribute (codes "id") (codes "1") ∷ []) ∷ start (codes "ul") ∷ start (codes "ul") ∷ Text (codes "x") ∷ Text (codes "x") ∷ end (codes "ul") ∷ end (codes "ul") ∷ end (codes "a") ∷ StartTag (codes "a") (attribute (codes "class") (codes "2") ∷ attribute (codes "id") (codes "1") ∷ []) ∷ start (codes "div") ∷ Text (codes "y") ∷ end (codes "div") ∷ end (codes "a") ∷ Text (codes "y") ∷ [])
+    ∷ (Text (codes "x ") ∷ Text (codes " x") ∷ start (codes "sub") ∷ end (codes "sub") ∷ [])
+    ∷ (start (codes "pre") ∷ start (codes "listing") ∷ StartTag (codes "listing") (attribute (codes "id") (codes "1") ∷ attribute (codes "class") (codes "2") ∷ []) ∷ end (codes "listing") ∷ Text (codes "x y") ∷ start (codes "pre") ∷ start (codes "listing") ∷ StartTag (codes "listing") (attribute (codes "class") (codes "2") ∷ attribute (codes "id") (codes "1") ∷ []) ∷ start (codes "dl") ∷ Text (codes "\n\n") ∷ end (codes "dl") ∷ start (codes "listing") ∷ Text (codes " x") ∷ Text (codes "x y") ∷ end (codes "listing") ∷ end (codes "listing") ∷ end (codes "listing") ∷ end (codes "pre") ∷ end (codes "listing") ∷ end (codes "pre") ∷ [])
+    ∷ (start (codes "embed") ∷ Text (codes "\n\n") ∷ Text (codes "x") ∷ StartTag (codes "li") (attribute (codes "class") (codes "1") ∷ []) ∷ start (codes "button") ∷ start (codes "table") ∷ end (codes "table") ∷ end (codes "button") ∷ end (codes "li") ∷ [])
+    ∷ (start (codes "table") ∷ Text (codes " ") ∷ start (codes "tbody") ∷ start (codes "tr") ∷ start (codes "td") ∷ Text (codes "x") ∷ end (codes "td") ∷ end (codes "tr") ∷ end (codes "tbody") ∷ start (codes "colgroup") ∷ start (codes "col") ∷ StartTag (codes "col") (attribute (codes "class") (codes "1") ∷ []) ∷ end (codes "colgroup") ∷ end (codes "table") ∷ StartTag (codes "table") (attribute (codes "class") (codes "1") ∷ []) ∷ end (codes "table") ∷ [])
+    ∷ (start (codes "b") ∷ start (codes "b") ∷ Text (codes "y") ∷ Text (codes "x") ∷ end (codes "b") ∷ end (codes "b") ∷ [])
+    ∷ (StartTag (codes "table") (attribute (codes "class") (codes "2") ∷ attribute (codes "id") (codes "1") ∷ []) ∷ StartTag (codes "tfoot") (attribute (codes "id") (codes "1") ∷ attribute (codes "class") (codes "2") ∷ []) ∷ StartTag (codes "tr") (attribute (codes "class") (codes "2") ∷ attribute (codes "id") (codes "1") ∷ []) ∷ end (codes "tr") ∷ end (codes "tfoot") ∷ end (codes "table") ∷ [])
+    ∷ []
+
+normal_0 : map (normal 511) normal_0_items ≡ normal_0_answers
+unfolding normal_0_items normal_0_answers is_among kind_in all_names kind_of near open_after leading_space after_space count_inside run_of opened plan_of normal_above
+normal_0 = refl
+
+normal_1_items : List (List Item)
+normal_1_items =
+    (end (codes "td") ∷ StartTag (codes "td") (attribute (codes "class") (codes "1") ∷ []) ∷ start (codes "td") ∷ Text (codes "\n\n") ∷ start (codes "form") ∷ Text (codes "\n") ∷ start (codes "td") ∷ end (codes "td") ∷ [])
+    ∷ (Text (codes "x") ∷ start (codes "pre") ∷ end (codes "pre") ∷ Text (codes "x") ∷ StartTag (codes "p") (attribute (codes "class") (codes "1") ∷ []) ∷ Text (codes "x ") ∷ end (codes "p") ∷ Text (codes "x") ∷ Text (codes "x") ∷ StartTag (codes "input") (attribute (codes "type") (codes "HiDDen") ∷ []) ∷ [])
+    ∷ (Text (codes "\nx") ∷ start (codes "form") ∷ StartTag (codes "tr") (attribute (codes "class") (codes "1") ∷ []) ∷ start (codes "td") ∷ start (codes "table") ∷ Text (codes "x y") ∷ end (codes "table") ∷ Text (codes "\n") ∷ start (codes "tr") ∷ end (codes "tr") ∷ end (codes "td") ∷ Text [] ∷ StartTag (codes "tr") (attribute (codes "class") (codes "2") ∷ attribute (codes "id") (codes "1") ∷ []) ∷ end (codes "form") ∷ StartTag (codes "form") (attribute (codes "class") (codes "2") ∷ attribute (codes "id") (codes "1") ∷ []) ∷ StartTag (codes "table") (attribute (codes "id") (codes "1") ∷ attribute (codes "class") (codes "2") ∷ []) ∷ [])
+    ∷ (start (codes "b") ∷ start (codes "b") ∷ start (codes "b") ∷ start (codes "b") ∷ start (codes "b") ∷ Text (codes "y") ∷ end (codes "div") ∷ end (codes "b") ∷ end (codes "b") ∷ Text (codes "y") ∷ start (codes "b") ∷ start (codes "b") ∷ start (codes "div") ∷ start (codes "b") ∷ Text (codes "y") ∷ end (codes "div") ∷ end (codes "b") ∷ Text (codes "y") ∷ start (codes "b") ∷ StartTag (codes "b") (attribute (codes "id") (codes "1") ∷ []) ∷ StartTag (codes "b") (attribute (codes "id") (codes "1") ∷ []) ∷ start (codes "div") ∷ Text (codes "y") ∷ end (codes "span") ∷ end (codes "b") ∷ Text (codes "y") ∷ start (codes "b") ∷ start (codes "b") ∷ StartTag (codes "b") (attribute (codes "id") (codes "1") ∷ []) ∷ StartTag (codes "b") (attribute (codes "id") (codes "1") ∷ []) ∷ StartTag (codes "b") (attribute (codes "id") (codes "1") ∷ []) ∷ start (codes "b") ∷ Text (codes "y") ∷ end (codes "b") ∷ end (codes "b") ∷ end (codes "div") ∷ Text (codes "y") ∷ [])
+    ∷ (start (codes "li") ∷ Text (codes "\n\n") ∷ Text [] ∷ start (codes "h1") ∷ end (codes "h1") ∷ end (codes "li") ∷ [])
+    ∷ (end (codes "a") ∷ Text (codes " ") ∷ Text (codes "x") ∷ StartTag (codes "rb") (attribute (codes "id") (codes "1") ∷ attribute (codes "class") (codes "2") ∷ []) ∷ start (codes "a") ∷ end (codes "rb") ∷ Text (codes "\nx") ∷ StartTag (codes "rb") (attribute (codes "id") (codes "1") ∷ attribute (codes "class") (codes "2") ∷ []) ∷ [])
+    ∷ (Text (codes "x") ∷ Text (codes "x") ∷ start (codes "h1") ∷ StartTag (codes "a") (attribute (codes "class") (codes "1") ∷ []) ∷ Text (codes "\n") ∷ end (codes "a") ∷ end (codes "h1") ∷ [])
+    ∷ (end (codes "table") ∷ end (codes "table") ∷ start (codes "tr") ∷ end (codes "tr") ∷ end (codes "h2") ∷ end (codes "h1") ∷ start (codes "h2") ∷ start (codes "h1") ∷ start (codes "p") ∷ StartTag (codes "tr") (attribute (codes "id") (codes "1") ∷ attribute (codes "class") (codes "2") ∷ []) ∷ end (codes "tr") ∷ StartTag (codes "tr") (attribute (codes "class") (codes "2") ∷ attribute (codes "id") (codes "1") ∷ []) ∷ [])
+    ∷ (start (codes "nobr") ∷ StartTag (codes "nobr") (attribute (codes "id") (codes "1") ∷ []) ∷ StartTag (codes "u") (attribute (codes "id") (codes "1") ∷ []) ∷ start (codes "span") ∷ start (codes "div") ∷ start (codes "div") ∷ Text (codes "y") ∷ end (codes "u") ∷ Text (codes "y") ∷ [])
+    ∷ (start (codes "map") ∷ Text (codes "x ") ∷ start (codes "rt") ∷ StartTag (codes "rt") (attribute (codes "class") (codes "1") ∷ []) ∷ start (codes "map") ∷ StartTag (codes "map") (attribute (codes "class") (codes "1") ∷ []) ∷ end (codes "map") ∷ end (codes "map") ∷ end (codes "rt") ∷ start (codes "map") ∷ Text (codes " ") ∷ StartTag (codes "map") (attribute (codes "class") (codes "1") ∷ []) ∷ Text (codes "x") ∷ Text (codes " ") ∷ end (codes "map") ∷ end (codes "map") ∷ end (codes "rt") ∷ end (codes "map") ∷ [])
+    ∷ []
+
+normal_1_answers : List (List Item)
+normal_1_answers =
+    (Text (codes "\n\n") ∷ start (codes "form") ∷ Text (codes "\n") ∷ end (codes "form") ∷ [])
+    ∷ (Text (codes "x") ∷ start (codes "pre") ∷ end (codes "pre") ∷ Text (codes "x") ∷ StartTag (codes "p") (attribute (codes "class") (codes "1") ∷ []) ∷ Text (codes "x ") ∷ end (codes "p") ∷ Text (codes "x") ∷ Text (codes "x") ∷ StartTag (codes "input") (attribute (codes "type") (codes "HiDDen") ∷ []) ∷ [])
+    ∷ (Text (codes "\nx") ∷ start (codes "form") ∷ start (codes "table") ∷ start (codes "tbody") ∷ start (codes "tr") ∷ start (codes "td") ∷ Text (codes "x y") ∷ end (codes "td") ∷ end (codes "tr") ∷ end (codes "tbody") ∷ end (codes "table") ∷ Text (codes "\n") ∷ Text [] ∷ end (codes "form") ∷ StartTag (codes "form") (attribute (codes "class") (codes "2") ∷ attribute (codes "id") (codes "1") ∷ []) ∷ StartTag (codes "table") (attribute (codes "id") (codes "1") ∷ attribute (codes "class") (codes "2") ∷ []) ∷ end (codes "table") ∷ end (codes "form") ∷ [])
+    ∷ (start (codes "b") ∷ start (codes "b") ∷ start (codes "b") ∷ start (codes "b") ∷ start (codes "b") ∷ Text (codes "y") ∷ end (codes "b") ∷ end (codes "b") ∷ Text (codes "y") ∷ start (codes "b") ∷ start (codes "b") ∷ start (codes "div") ∷ start (codes "b") ∷ Text (codes "y") ∷ end (codes "b") ∷ end (codes "div") ∷ end (codes "b") ∷ Text (codes "y") ∷ start (codes "b") ∷ StartTag (codes "b") (attribute (codes "id") (codes "1") ∷ []) ∷ StartTag (codes "b") (attribute (codes "id") (codes "1") ∷ []) ∷ start (codes "div") ∷ Text (codes "y") ∷ end (codes "div") ∷ end (codes "b") ∷ Text (codes "y") ∷ start (codes "b") ∷ start (codes "b") ∷ StartTag (codes "b") (attribute (codes "id") (codes "1") ∷ []) ∷ StartTag (codes "b") (attribute (codes "id") (codes "1") ∷ []) ∷ StartTag (codes "b") (attribute (codes "id") (codes "1") ∷ []) ∷ start (codes "b") ∷ Text (codes "y") ∷ end (codes "b") ∷ end (codes "b") ∷ Text (codes "y") ∷ end (codes "b") ∷ end (codes "b") ∷ end (codes "b") ∷ end (codes "b") ∷ end (codes "b") ∷ end (codes "b") ∷ end (codes "b") ∷ end (codes "b") ∷ end (codes "b") ∷ end (codes "b") ∷ [])
+    ∷ (start (codes "li") ∷ Text (codes "\n\n") ∷ Text [] ∷ start (codes "h1") ∷ end (codes "h1") ∷ end (codes "li") ∷ [])
+    ∷ (Text (codes " ") ∷ Text (codes "x") ∷ StartTag (codes "rb") (attribute (codes "id") (codes "1") ∷ attribute (codes "class") (codes "2") ∷ []) ∷ start (codes "a") ∷ end (codes "a") ∷ end (codes "rb") ∷ Text (codes "\nx") ∷ StartTag (codes "rb") (attribute (codes "id") (codes "1") ∷ attribute (codes "class") (codes "2") ∷ []) ∷ end (codes "rb") ∷ [])
+    ∷ (Text (codes "x") ∷ Text (codes "x") ∷ start (codes "h1") ∷ StartTag (codes "a") (attribute (codes "class") (codes "1") ∷ []) ∷ Text (codes "\n") ∷ end (codes "a") ∷ end (codes "h1") ∷ [])
+    ∷ (start (codes "h2") ∷ end (codes "h2") ∷ start (codes "h1") ∷ start (codes "p") ∷ end (codes "p") ∷ end (codes "h1") ∷ [])
+    ∷ (start (codes "nobr") ∷ end (codes "nobr") ∷ StartTag (codes "nobr") (attribute (codes "id") (codes "1") ∷ []) ∷ StartTag (codes "u") (attribute (codes "id") (codes "1") ∷ []) ∷ start (codes "span") ∷ start (codes "div") ∷ start (codes "div") ∷ Text (codes "y") ∷ end (codes "div") ∷ end (codes "div") ∷ end (codes "span") ∷ end (codes "u") ∷ Text (codes "y") ∷ end (codes "nobr") ∷ [])
+    ∷ (start (codes "map") ∷ Text (codes "x ") ∷ start (codes "rt") ∷ StartTag (codes "rt") (attribute (codes "class") (codes "1") ∷ []) ∷ start (codes "map") ∷ StartTag (codes "map") (attribute (codes "class") (codes "1") ∷ []) ∷ end (codes "map") ∷ end (codes "map") ∷ end (codes "rt") ∷ start (codes "map") ∷ Text (codes " ") ∷ StartTag (codes "map") (attribute (codes "class") (codes "1") ∷ []) ∷ Text (codes "x") ∷ Text (codes " ") ∷ end (codes "map") ∷ end (codes "map") ∷ end (codes "rt") ∷ end (codes "map") ∷ [])
+    ∷ []
+
+normal_1 : map (normal 511) normal_1_items ≡ normal_1_answers
+unfolding normal_1_items normal_1_answers is_among kind_in all_names kind_of near open_after leading_space after_space count_inside run_of opened plan_of normal_above
+normal_1 = refl
+
+normal_2_items : List (List Item)
+normal_2_items =
+    (Text (codes "x") ∷ start (codes "li") ∷ StartTag (codes "li") (attribute (codes "class") (codes "2") ∷ attribute (codes "id") (codes "1") ∷ []) ∷ [])
+    ∷ (Text (codes "x") ∷ Text (codes "\n") ∷ start (codes "p") ∷ StartTag (codes "p") (attribute (codes "id") (codes "1") ∷ attribute (codes "class") (codes "2") ∷ []) ∷ end (codes "p") ∷ StartTag (codes "pre") (attribute (codes "class") (codes "2") ∷ attribute (codes "id") (codes "1") ∷ []) ∷ end (codes "pre") ∷ end (codes "p") ∷ [])
+    ∷ (Text (codes "x") ∷ end (codes "ruby") ∷ Text (codes " x") ∷ StartTag (codes "ruby") (attribute (codes "class") (codes "2") ∷ attribute (codes "id") (codes "1") ∷ []) ∷ end (codes "ruby") ∷ [])
+    ∷ (start (codes "a") ∷ start (codes "a") ∷ start (codes "a") ∷ start (codes "a") ∷ start (codes "a") ∷ start (codes "li") ∷ start (codes "ul") ∷ Text (codes "y") ∷ end (codes "ul") ∷ end (codes "a") ∷ end (codes "a") ∷ Text (codes "y") ∷ start (codes "a") ∷ start (codes "a") ∷ start (codes "a") ∷ start (codes "ul") ∷ Text (codes "x") ∷ end (codes "a") ∷ end (codes "div") ∷ Text (codes "y") ∷ start (codes "a") ∷ start (codes "a") ∷ start (codes "a") ∷ start (codes "ul") ∷ start (codes "ul") ∷ Text (codes "y") ∷ end (codes "a") ∷ Text (codes "y") ∷ start (codes "a") ∷ start (codes "a") ∷ start (codes "a") ∷ start (codes "a") ∷ start (codes "a") ∷ start (codes "ul") ∷ start (codes "ul") ∷ Text (codes "x") ∷ end (codes "div") ∷ end (codes "ul") ∷ Text (codes "y") ∷ start (codes "a") ∷ start (codes "a") ∷ start (codes "div") ∷ Text (codes "y") ∷ end (codes "a") ∷ end (codes "div") ∷ Text (codes "y") ∷ [])
+    ∷ (start (codes "ul") ∷ Text (codes "x y") ∷ end (codes "ul") ∷ StartTag (codes "footer") (attribute (codes "id") (codes "1") ∷ attribute (codes "class") (codes "2") ∷ []) ∷ end (codes "footer") ∷ StartTag (codes "footer") (attribute (codes "class") (codes "1") ∷ []) ∷ StartTag (codes "ul") (attribute (codes "id") (codes "1") ∷ attribute (codes "class") (codes "2") ∷ []) ∷ end (codes "ul") ∷ end (codes "footer") ∷ [])
+    ∷ (end (codes "table") ∷ end (codes "h2") ∷ Text [] ∷ StartTag (codes "table") (attribute (codes "id") (codes "1") ∷ attribute (codes "class") (codes "2") ∷ []) ∷ Text [] ∷ end (codes "table") ∷ start (codes "h2") ∷ end (codes "h2") ∷ start (codes "table") ∷ end (codes "table") ∷ [])
+    ∷ (Text (codes " x") ∷ Text (codes "x") ∷ start (codes "br") ∷ Text (codes " x") ∷ start (codes "br") ∷ Text (codes " x") ∷ [])
+    ∷ (end (codes "tr") ∷ end (codes "tr") ∷ start (codes "tr") ∷ end (codes "tr") ∷ end (codes "wbr") ∷ Text (codes "\n") ∷ start (codes "wbr") ∷ [])
+    ∷ (start (codes "a") ∷ start (codes "div") ∷ start (codes "div") ∷ Text (codes "y") ∷ end (codes "p") ∷ end (codes "div") ∷ Text (codes "x") ∷ start (codes "a") ∷ start (codes "a") ∷ start (codes "a") ∷ start (codes "div") ∷ Text (codes "x") ∷ end (codes "a") ∷ end (codes "a") ∷ end (codes "div") ∷ Text (codes "x") ∷ start (codes "a") ∷ start (codes "div") ∷ start (codes "p") ∷ start (codes "div") ∷ start (codes "p") ∷ start (codes "p") ∷ start (codes "div") ∷ start (codes "div") ∷ start (codes "p") ∷ Text (codes "x") ∷ end (codes "p") ∷ end (codes "p") ∷ end (codes "div") ∷ Text (codes "y") ∷ [])
+    ∷ (Text (codes " ") ∷ Text [] ∷ start (codes "h1") ∷ start (codes "map") ∷ end (codes "map") ∷ start (codes "nobr") ∷ end (codes "nobr") ∷ Text [] ∷ end (codes "h1") ∷ StartTag (codes "aside") (attribute (codes "id") (codes "1") ∷ attribute (codes "class") (codes "2") ∷ []) ∷ StartTag (codes "h1") (attribute (codes "class") (codes "1") ∷ []) ∷ end (codes "h1") ∷ end (codes "aside") ∷ [])
+    ∷ []
+
+normal_2_answers : List (List Item)
+normal_2_answers =
+    (Text (codes "x") ∷ start (codes "li") ∷ end (codes "li") ∷ StartTag (codes "li") (attribute (codes "class") (codes "2") ∷ attribute (codes "id") (codes "1") ∷ []) ∷ end (codes "li") ∷ [])
+    ∷ (Text (codes "x") ∷ Text (codes "\n") ∷ start (codes "p") ∷ end (codes "p") ∷ StartTag (codes "p") (attribute (codes "id") (codes "1") ∷ attribute (codes "class") (codes "2") ∷ []) ∷ end (codes "p") ∷ StartTag (codes "pre") (attribute (codes "class") (codes "2") ∷ attribute (codes "id") (codes "1") ∷ []) ∷ end (codes "pre") ∷ start (codes "p") ∷ end (codes "p") ∷ [])
+    ∷ (Text (codes "x") ∷ Text (codes " x") ∷ StartTag (codes "ruby") (attribute (codes "class") (codes "2") ∷ attribute (codes "id") (codes "1") ∷ []) ∷ end (codes "ruby") ∷ [])
+    ∷ (start (codes "a") ∷ end (codes "a") ∷ start (codes "a") ∷ end (codes "a") ∷ start (codes "a") ∷ end (codes "a") ∷ start (codes "a") ∷ end (codes "a") ∷ start (codes "a") ∷ start (codes "li") ∷ start (codes "ul") ∷ Text (codes "y") ∷ end (codes "ul") ∷ end (codes "li") ∷ end (codes "a") ∷ Text (codes "y") ∷ start (codes "a") ∷ end (codes "a") ∷ start (codes "a") ∷ end (codes "a") ∷ start (codes "a") ∷ start (codes "ul") ∷ Text (codes "x") ∷ end (codes "ul") ∷ end (codes "a") ∷ Text (codes "y") ∷ start (codes "a") ∷ end (codes "a") ∷ start (codes "a") ∷ end (codes "a") ∷ start (codes "a") ∷ start (codes "ul") ∷ start (codes "ul") ∷ Text (codes "y") ∷ end (codes "ul") ∷ end (codes "ul") ∷ end (codes "a") ∷ Text (codes "y") ∷ start (codes "a") ∷ end (codes "a") ∷ start (codes "a") ∷ end (codes "a") ∷ start (codes "a") ∷ end (codes "a") ∷ start (codes "a") ∷ end (codes "a") ∷ start (codes "a") ∷ start (codes "ul") ∷ start (codes "ul") ∷ Text (codes "x") ∷ end (codes "ul") ∷ Text (codes "y") ∷ end (codes "ul") ∷ end (codes "a") ∷ start (codes "a") ∷ end (codes "a") ∷ start (codes "a") ∷ start (codes "div") ∷ Text (codes "y") ∷ end (codes "div") ∷ end (codes "a") ∷ Text (codes "y") ∷ [])
+    ∷ (start (codes "ul") ∷ Text (codes "x y") ∷ end (codes "ul") ∷ StartTag (codes "footer") (attribute (codes "id") (codes "1") ∷ attribute (codes "class") (codes "2") ∷ []) ∷ end (codes "footer") ∷ StartTag (codes "footer") (attribute (codes "class") (codes "1") ∷ []) ∷ StartTag (codes "ul") (attribute (codes "id") (codes "1") ∷ attribute (codes "class") (codes "2") ∷ []) ∷ end (codes "ul") ∷ end (codes "footer") ∷ [])
+    ∷ (Text [] ∷ StartTag (codes "table") (attribute (codes "id") (codes "1") ∷ attribute (codes "class") (codes "2") ∷ []) ∷ Text [] ∷ end (codes "table") ∷ start (codes "h2") ∷ end (codes "h2") ∷ start (codes "table") ∷ end (codes "table") ∷ [])
+    ∷ (Text (codes " x") ∷ Text (codes "x") ∷ start (codes "br") ∷ Text (codes " x") ∷ start (codes "br") ∷ Text (codes " x") ∷ [])
+    ∷ (Text (codes "\n") ∷ start (codes "wbr") ∷ [])
+    ∷ (start (codes "a") ∷ start (codes "div") ∷ start (codes "div") ∷ Text (codes "y") ∷ start (codes "p") ∷ end (codes "p") ∷ end (codes "div") ∷ Text (codes "x") ∷ end (codes "div") ∷ end (codes "a") ∷ start (codes "a") ∷ end (codes "a") ∷ start (codes "a") ∷ end (codes "a") ∷ start (codes "a") ∷ start (codes "div") ∷ Text (codes "x") ∷ end (codes "div") ∷ end (codes "a") ∷ Text (codes "x") ∷ start (codes "a") ∷ start (codes "div") ∷ start (codes "p") ∷ end (codes "p") ∷ start (codes "div") ∷ start (codes "p") ∷ end (codes "p") ∷ start (codes "p") ∷ end (codes "p") ∷ start (codes "div") ∷ start (codes "div") ∷ start (codes "p") ∷ Text (codes "x") ∷ end (codes "p") ∷ start (codes "p") ∷ end (codes "p") ∷ end (codes "div") ∷ Text (codes "y") ∷ end (codes "div") ∷ end (codes "div") ∷ end (codes "div") ∷ end (codes "a") ∷ [])
+    ∷ (Text (codes " ") ∷ Text [] ∷ start (codes "h1") ∷ start (codes "map") ∷ end (codes "map") ∷ start (codes "nobr") ∷ end (codes "nobr") ∷ Text [] ∷ end (codes "h1") ∷ StartTag (codes "aside") (attribute (codes "id") (codes "1") ∷ attribute (codes "class") (codes "2") ∷ []) ∷ StartTag (codes "h1") (attribute (codes "class") (codes "1") ∷ []) ∷ end (codes "h1") ∷ end (codes "aside") ∷ [])
+    ∷ []
+
+normal_2 : map (normal 511) normal_2_items ≡ normal_2_answers
+unfolding normal_2_items normal_2_answers is_among kind_in all_names kind_of near open_after leading_space after_space count_inside run_of opened plan_of normal_above
+normal_2 = refl
+
+normal_3_items : List (List Item)
+normal_3_items =
+    (start (codes "ol") ∷ end (codes "ol") ∷ end (codes "p") ∷ [])
+    ∷ (Text (codes "x") ∷ Text (codes "x") ∷ Text (codes "x") ∷ Text (codes "x") ∷ StartTag (codes "area") (attribute (codes "id") (codes "1") ∷ attribute (codes "class") (codes "2") ∷ []) ∷ Text (codes "y") ∷ [])
+    ∷ (start (codes "tr") ∷ StartTag (codes "pre") (attribute (codes "class") (codes "2") ∷ attribute (codes "id") (codes "1") ∷ []) ∷ Text (codes "y") ∷ Text (codes "x y") ∷ Text (codes "x") ∷ start (codes "p") ∷ [])
+    ∷ (start (codes "u") ∷ start (codes "u") ∷ start (codes "div") ∷ start (codes "div") ∷ start (codes "div") ∷ start (codes "p") ∷ start (codes "p") ∷ start (codes "p") ∷ start (codes "div") ∷ start (codes "p") ∷ Text (codes "x") ∷ end (codes "p") ∷ Text (codes "x") ∷ [])
+    ∷ (Text [] ∷ start (codes "listing") ∷ StartTag (codes "dl") (attribute (codes "class") (codes "2") ∷ attribute (codes "id") (codes "1") ∷ []) ∷ start (codes "listing") ∷ Text [] ∷ Text (codes "\nx") ∷ Text (codes " ") ∷ end (codes "listing") ∷ end (codes "dl") ∷ end (codes "listing") ∷ [])
+    ∷ (end (codes "a") ∷ StartTag (codes "kbd") (attribute (codes "id") (codes "1") ∷ attribute (codes "class") (codes "2") ∷ []) ∷ start (codes "area") ∷ [])
+    ∷ (Text (codes "x") ∷ StartTag (codes "q") (attribute (codes "id") (codes "1") ∷ attribute (codes "class") (codes "2") ∷ []) ∷ Text (codes "x") ∷ end (codes "q") ∷ [])
+    ∷ (Text (codes "x y") ∷ start (codes "area") ∷ start (codes "tr") ∷ start (codes "td") ∷ end (codes "tr") ∷ StartTag (codes "area") (attribute (codes "class") (codes "1") ∷ []) ∷ end (codes "td") ∷ start (codes "p") ∷ start (codes "p") ∷ [])
+    ∷ (start (codes "a") ∷ start (codes "ul") ∷ start (codes "ul") ∷ Text (codes "x") ∷ end (codes "a") ∷ end (codes "li") ∷ end (codes "ul") ∷ Text (codes "y") ∷ start (codes "nobr") ∷ start (codes "a") ∷ start (codes "a") ∷ start (codes "nobr") ∷ start (codes "nobr") ∷ start (codes "ul") ∷ start (codes "li") ∷ Text (codes "x") ∷ end (codes "nobr") ∷ end (codes "nobr") ∷ end (codes "a") ∷ Text (codes "x") ∷ start (codes "a") ∷ start (codes "nobr") ∷ start (codes "a") ∷ start (codes "li") ∷ start (codes "ul") ∷ start (codes "div") ∷ start (codes "div") ∷ start (codes "li") ∷ start (codes "ul") ∷ start (codes "div") ∷ start (codes "li") ∷ Text (codes "y") ∷ end (codes "li") ∷ end (codes "div") ∷ Text (codes "x") ∷ start (codes "nobr") ∷ start (codes "nobr") ∷ start (codes "div") ∷ Text (codes "x") ∷ end (codes "nobr") ∷ end (codes "div") ∷ Text (codes "y") ∷ [])
+    ∷ (StartTag (codes "li") (attribute (codes "class") (codes "1") ∷ []) ∷ end (codes "li") ∷ start (codes "li") ∷ StartTag (codes "form") (attribute (codes "id") (codes "1") ∷ attribute (codes "class") (codes "2") ∷ []) ∷ StartTag (codes "ol") (attribute (codes "id") (codes "1") ∷ attribute (codes "class") (codes "2") ∷ []) ∷ Text (codes " x") ∷ end (codes "ol") ∷ StartTag (codes "li") (attribute (codes "class") (codes "2") ∷ attribute (codes "id") (codes "1") ∷ []) ∷ Text (codes "\n\n") ∷ end (codes "li") ∷ end (codes "form") ∷ end (codes "li") ∷ [])
+    ∷ []
+
+normal_3_answers : List (List Item)
+normal_3_answers =
+    (start (codes "ol") ∷ end (codes "ol") ∷ start (codes "p") ∷ end (codes "p") ∷ [])
+    ∷ (Text (codes "x") ∷ Text (codes "x") ∷ Text (codes "x") ∷ Text (codes "x") ∷ StartTag (codes "area") (attribute (codes "id") (codes "1") ∷ attribute (codes "class") (codes "2") ∷ []) ∷ Text (codes "y") ∷ [])
+    ∷ (StartTag (codes "pre") (attribute (codes "class") (codes "2") ∷ attribute (codes "id") (codes "1") ∷ []) ∷ Text (codes "y") ∷ Text (codes "x y") ∷ Text (codes "x") ∷ start (codes "p") ∷ end (codes "p") ∷ end (codes "pre") ∷ [])
+    ∷ (start (codes "u") ∷ start (codes "u") ∷ start (codes "div") ∷ start (codes "div") ∷ start (codes "div") ∷ start (codes "p") ∷ end (codes "p") ∷ start (codes "p") ∷ end (codes "p") ∷ start (codes "p") ∷ end (codes "p") ∷ start (codes "div") ∷ start (codes "p") ∷ Text (codes "x") ∷ end (codes "p") ∷ Text (codes "x") ∷ end (codes "div") ∷ end (codes "div") ∷ end (codes "div") ∷ end (codes "div") ∷ end (codes "u") ∷ end (codes "u") ∷ [])
+    ∷ (Text [] ∷ start (codes "listing") ∷ StartTag (codes "dl") (attribute (codes "class") (codes "2") ∷ attribute (codes "id") (codes "1") ∷ []) ∷ start (codes "listing") ∷ Text [] ∷ Text (codes "\nx") ∷ Text (codes " ") ∷ end (codes "listing") ∷ end (codes "dl") ∷ end (codes "listing") ∷ [])
+    ∷ (StartTag (codes "kbd") (attribute (codes "id") (codes "1") ∷ attribute (codes "class") (codes "2") ∷ []) ∷ start (codes "area") ∷ end (codes "kbd") ∷ [])
+    ∷ (Text (codes "x") ∷ StartTag (codes "q") (attribute (codes "id") (codes "1") ∷ attribute (codes "class") (codes "2") ∷ []) ∷ Text (codes "x") ∷ end (codes "q") ∷ [])
+    ∷ (Text (codes "x y") ∷ start (codes "area") ∷ StartTag (codes "area") (attribute (codes "class") (codes "1") ∷ []) ∷ start (codes "p") ∷ end (codes "p") ∷ start (codes "p") ∷ end (codes "p") ∷ [])
+    ∷ (start (codes "a") ∷ start (codes "ul") ∷ start (codes "ul") ∷ Text (codes "x") ∷ end (codes "ul") ∷ end (codes "ul") ∷ end (codes "a") ∷ Text (codes "y") ∷ start (codes "nobr") ∷ start (codes "a") ∷ end (codes "a") ∷ start (codes "a") ∷ end (codes "a") ∷ end (codes "nobr") ∷ start (codes "nobr") ∷ end (codes "nobr") ∷ start (codes "nobr") ∷ start (codes "ul") ∷ start (codes "li") ∷ Text (codes "x") ∷ end (codes "li") ∷ end (codes "ul") ∷ end (codes "nobr") ∷ Text (codes "x") ∷ start (codes "a") ∷ start (codes "nobr") ∷ end (codes "nobr") ∷ end (codes "a") ∷ start (codes "a") ∷ start (codes "li") ∷ start (codes "ul") ∷ start (codes "div") ∷ start (codes "div") ∷ start (codes "li") ∷ start (codes "ul") ∷ start (codes "div") ∷ start (codes "li") ∷ Text (codes "y") ∷ end (codes "li") ∷ end (codes "div") ∷ Text (codes "x") ∷ start (codes "nobr") ∷ end (codes "nobr") ∷ start (codes "nobr") ∷ start (codes "div") ∷ Text (codes "x") ∷ end (codes "div") ∷ end (codes "nobr") ∷ end (codes "ul") ∷ end (codes "li") ∷ end (codes "div") ∷ Text (codes "y") ∷ end (codes "div") ∷ end (codes "ul") ∷ end (codes "li") ∷ end (codes "a") ∷ [])
+    ∷ (StartTag (codes "li") (attribute (codes "class") (codes "1") ∷ []) ∷ end (codes "li") ∷ start (codes "li") ∷ StartTag (codes "form") (attribute (codes "id") (codes "1") ∷ attribute (codes "class") (codes "2") ∷ []) ∷ StartTag (codes "ol") (attribute (codes "id") (codes "1") ∷ attribute (codes "class") (codes "2") ∷ []) ∷ Text (codes " x") ∷ end (codes "ol") ∷ StartTag (codes "li") (attribute (codes "class") (codes "2") ∷ attribute (codes "id") (codes "1") ∷ []) ∷ Text (codes "\n\n") ∷ end (codes "li") ∷ end (codes "form") ∷ end (codes "li") ∷ [])
+    ∷ []
+
+normal_3 : map (normal 511) normal_3_items ≡ normal_3_answers
+unfolding normal_3_items normal_3_answers is_among kind_in all_names kind_of near open_after leading_space after_space count_inside run_of opened plan_of normal_above
+normal_3 = refl
+
+-- ---- the same with five open elements at most
+
+normal_within_5_0_items : List (List Item)
+normal_within_5_0_items =
+    (Text (codes "\n\n") ∷ StartTag (codes "section") (attribute (codes "class") (codes "2") ∷ attribute (codes "id") (codes "1") ∷ []) ∷ Text (codes "y") ∷ Text (codes "x y") ∷ Text (codes "x") ∷ Text [] ∷ end (codes "section") ∷ start (codes "section") ∷ end (codes "section") ∷ [])
+    ∷ (StartTag (codes "col") (attribute (codes "class") (codes "1") ∷ []) ∷ Text (codes "x") ∷ start (codes "div") ∷ start (codes "nobr") ∷ start (codes "rb") ∷ end (codes "rb") ∷ end (codes "nobr") ∷ StartTag (codes "col") (attribute (codes "class") (codes "2") ∷ attribute (codes "id") (codes "1") ∷ []) ∷ end (codes "div") ∷ [])
+    ∷ (end (codes "rp") ∷ end (codes "em") ∷ Text (codes "\nx") ∷ StartTag (codes "p") (attribute (codes "class") (codes "1") ∷ []) ∷ Text (codes "x y") ∷ StartTag (codes "em") (attribute (codes "id") (codes "1") ∷ attribute (codes "class") (codes "2") ∷ []) ∷ start (codes "pre") ∷ Text (codes " x") ∷ [])
+    ∷ (StartTag (codes "b") (attribute (codes "class") (codes "2") ∷ attribute (codes "id") (codes "1") ∷ []) ∷ StartTag (codes "b") (attribute (codes "class") (codes "2") ∷ attribute (codes "id") (codes "1") ∷ []) ∷ start (codes "td") ∷ start (codes "table") ∷ Text (codes "x") ∷ end (codes "b") ∷ end (codes "b") ∷ end (codes "a") ∷ Text (codes "y") ∷ StartTag (codes "a") (attribute (codes "id") (codes "1") ∷ attribute (codes "class") (codes "2") ∷ []) ∷ start (codes "tr") ∷ Text (codes "x") ∷ end (codes "table") ∷ end (codes "a") ∷ Text (codes "y") ∷ StartTag (codes "a") (attribute (codes "id") (codes "1") ∷ attribute (codes "class") (codes "2") ∷ []) ∷ StartTag (codes "b") (attribute (codes "class") (codes "2") ∷ attribute (codes "id") (codes "1") ∷ []) ∷ StartTag (codes "a") (attribute (codes "id") (codes "1") ∷ attribute (codes "class") (codes "2") ∷ []) ∷ StartTag (codes "a") (attribute (codes "class") (codes "2") ∷ attribute (codes "id") (codes "1") ∷ []) ∷ StartTag (codes "a") (attribute (codes "class") (codes "2") ∷ attribute (codes "id") (codes "1") ∷ []) ∷ start (codes "td") ∷ Text (codes "x") ∷ end (codes "a") ∷ end (codes "tr") ∷ Text (codes "x") ∷ StartTag (codes "b") (attribute (codes "class") (codes "2") ∷ attribute (codes "id") (codes "1") ∷ []) ∷ StartTag (codes "b") (attribute (codes "class") (codes "2") ∷ attribute (codes "id") (codes "1") ∷ []) ∷ StartTag (codes "a") (attribute (codes "class") (codes "2") ∷ attribute (codes "id") (codes "1") ∷ []) ∷ start (codes "tr") ∷ Text (codes "x") ∷ end (codes "b") ∷ end (codes "tr") ∷ Text (codes "y") ∷ StartTag (codes "b") (attribute (codes "id") (codes "1") ∷ attribute (codes "class") (codes "2") ∷ []) ∷ start (codes "td") ∷ start (codes "td") ∷ start (codes "td") ∷ Text (codes "y") ∷ end (codes "a") ∷ Text (codes "x") ∷ [])
+    ∷ (start (codes "bdo") ∷ Text (codes "x") ∷ StartTag (codes "h3") (attribute (codes "id") (codes "1") ∷ attribute (codes "class") (codes "2") ∷ []) ∷ Text (codes "x y") ∷ end (codes "h3") ∷ end (codes "bdo") ∷ [])
+    ∷ (end (codes "b") ∷ StartTag (codes "b") (attribute (codes "id") (codes "1") ∷ attribute (codes "class") (codes "2") ∷ []) ∷ start (codes "hr") ∷ start (codes "s") ∷ StartTag (codes "ruby") (attribute (codes "class") (codes "2") ∷ attribute (codes "id") (codes "1") ∷ []) ∷ StartTag (codes "b") (attribute (codes "class") (codes "2") ∷ attribute (codes "id") (codes "1") ∷ []) ∷ Text (codes "x ") ∷ end (codes "ruby") ∷ StartTag (codes "s") (attribute (codes "id") (codes "1") ∷ attribute (codes "class") (codes "2") ∷ []) ∷ StartTag (codes "thead") (attribute (codes "class") (codes "2") ∷ attribute (codes "id") (codes "1") ∷ []) ∷ Text (codes "\n") ∷ start (codes "col") ∷ end (codes "caption") ∷ Text (codes "y") ∷ [])
+    ∷ (start (codes "table") ∷ start (codes "dd") ∷ start (codes "table") ∷ end (codes "table") ∷ start (codes "map") ∷ end (codes "map") ∷ end (codes "dd") ∷ start (codes "dd") ∷ end (codes "dd") ∷ end (codes "table") ∷ [])
+    ∷ (Text (codes "y") ∷ end (codes "table") ∷ Text (codes "y") ∷ Text [] ∷ start (codes "pre") ∷ [])
+    ∷ (StartTag (codes "nobr") (attribute (codes "id") (codes "1") ∷ attribute (codes "class") (codes "2") ∷ []) ∷ start (codes "div") ∷ start (codes "div") ∷ Text (codes "x") ∷ end (codes "nobr") ∷ Text (codes "y") ∷ [])
+    ∷ (Text (codes " ") ∷ start (codes "dl") ∷ start (codes "dl") ∷ StartTag (codes "wbr") (attribute (codes "class") (codes "2") ∷ attribute (codes "id") (codes "1") ∷ []) ∷ end (codes "dl") ∷ Text (codes " x") ∷ end (codes "dl") ∷ [])
+    ∷ []
+
+normal_within_5_0_answers : List (List Item)
+normal_within_5_0_answers =
+    (Text (codes "\n\n") ∷ StartTag (codes "section") (attribute (codes "class") (codes "2") ∷ attribute (codes "id") (codes "1") ∷ []) ∷ Text (codes "y") ∷ Text (codes "x y") ∷ Text (codes "x") ∷ Text [] ∷ end (codes "section") ∷ start (codes "section") ∷ end (codes "section") ∷ [])
+    ∷ (Text (codes "x") ∷ start (codes "div") ∷ start (codes "nobr") ∷ start (codes "rb") ∷ end (codes "rb") ∷ end (codes "nobr") ∷ end (codes "div") ∷ [])
+    ∷ (Text (codes "\nx") ∷ StartTag (codes "p") (attribute (codes "class") (codes "1") ∷ []) ∷ Text (codes "x y") ∷ StartTag (codes "em") (attribute (codes "id") (codes "1") ∷ attribute (codes "class") (codes "2") ∷ []) ∷ end (codes "em") ∷ end (codes "p") ∷ start (codes "pre") ∷ Text (codes " x") ∷ end (codes "pre") ∷ [])
+    ∷ (StartTag (codes "b") (attribute (codes "class") (codes "2") ∷ attribute (codes "id") (codes "1") ∷ []) ∷ StartTag (codes "b") (attribute (codes "class") (codes "2") ∷ attribute (codes "id") (codes "1") ∷ []) ∷ start (codes "table") ∷ Text [] ∷ end (codes "table") ∷ end (codes "b") ∷ end (codes "b") ∷ Text (codes "y") ∷ StartTag (codes "a") (attribute (codes "id") (codes "1") ∷ attribute (codes "class") (codes "2") ∷ []) ∷ Text (codes "x") ∷ end (codes "a") ∷ Text (codes "y") ∷ StartTag (codes "a") (attribute (codes "id") (codes "1") ∷ attribute (codes "class") (codes "2") ∷ []) ∷ StartTag (codes "b") (attribute (codes "class") (codes "2") ∷ attribute (codes "id") (codes "1") ∷ []) ∷ end (codes "b") ∷ end (codes "a") ∷ StartTag (codes "a") (attribute (codes "id") (codes "1") ∷ attribute (codes "class") (codes "2") ∷ []) ∷ end (codes "a") ∷ StartTag (codes "a") (attribute (codes "class") (codes "2") ∷ attribute (codes "id") (codes "1") ∷ []) ∷ end (codes "a") ∷ StartTag (codes "a") (attribute (codes "class") (codes "2") ∷ attribute (codes "id") (codes "1") ∷ []) ∷ Text (codes "x") ∷ end (codes "a") ∷ Text (codes "x") ∷ StartTag (codes "b") (attribute (codes "class") (codes "2") ∷ attribute (codes "id") (codes "1") ∷ []) ∷ StartTag (codes "b") (attribute (codes "class") (codes "2") ∷ attribute (codes "id") (codes "1") ∷ []) ∷ StartTag (codes "a") (attribute (codes "class") (codes "2") ∷ attribute (codes "id") (codes "1") ∷ []) ∷ Text (codes "x") ∷ end (codes "a") ∷ end (codes "b") ∷ Text (codes "y") ∷ StartTag (codes "b") (attribute (codes "id") (codes "1") ∷ attribute (codes "class") (codes "2") ∷ []) ∷ Text (codes "y") ∷ Text (codes "x") ∷ end (codes "b") ∷ end (codes "b") ∷ [])
+    ∷ (start (codes "bdo") ∷ Text (codes "x") ∷ StartTag (codes "h3") (attribute (codes "id") (codes "1") ∷ attribute (codes "class") (codes "2") ∷ []) ∷ Text (codes "x y") ∷ end (codes "h3") ∷ end (codes "bdo") ∷ [])
+    ∷ (StartTag (codes "b") (attribute (codes "id") (codes "1") ∷ attribute (codes "class") (codes "2") ∷ []) ∷ start (codes "hr") ∷ start (codes "s") ∷ StartTag (codes "ruby") (attribute (codes "class") (codes "2") ∷ attribute (codes "id") (codes "1") ∷ []) ∷ StartTag (codes "b") (attribute (codes "class") (codes "2") ∷ attribute (codes "id") (codes "1") ∷ []) ∷ Text (codes "x ") ∷ end (codes "b") ∷ end (codes "ruby") ∷ StartTag (codes "s") (attribute (codes "id") (codes "1") ∷ attribute (codes "class") (codes "2") ∷ []) ∷ Text (codes "\n") ∷ Text (codes "y") ∷ end (codes "s") ∷ end (codes "s") ∷ end (codes "b") ∷ [])
+    ∷ (start (codes "table") ∷ start (codes "tbody") ∷ start (codes "tr") ∷ start (codes "td") ∷ start (codes "dd") ∷ end (codes "dd") ∷ end (codes "td") ∷ end (codes "tr") ∷ end (codes "tbody") ∷ end (codes "table") ∷ start (codes "map") ∷ end (codes "map") ∷ start (codes "dd") ∷ end (codes "dd") ∷ [])
+    ∷ (Text (codes "y") ∷ Text (codes "y") ∷ Text [] ∷ start (codes "pre") ∷ end (codes "pre") ∷ [])
+    ∷ (StartTag (codes "nobr") (attribute (codes "id") (codes "1") ∷ attribute (codes "class") (codes "2") ∷ []) ∷ start (codes "div") ∷ start (codes "div") ∷ Text (codes "x") ∷ end (codes "div") ∷ end (codes "div") ∷ end (codes "nobr") ∷ Text (codes "y") ∷ [])
+    ∷ (Text (codes " ") ∷ start (codes "dl") ∷ start (codes "dl") ∷ StartTag (codes "wbr") (attribute (codes "class") (codes "2") ∷ attribute (codes "id") (codes "1") ∷ []) ∷ end (codes "dl") ∷ Text (codes " x") ∷ end (codes "dl") ∷ [])
+    ∷ []
+
+normal_within_5_0 : map (normal 5) normal_within_5_0_items ≡ normal_within_5_0_answers
+unfolding normal_within_5_0_items normal_within_5_0_answers is_among kind_in all_names kind_of near open_after leading_space after_space count_inside run_of opened plan_of normal_above
+normal_within_5_0 = refl
+
+-- ---- and with three
+
+normal_within_3_0_items : List (List Item)
+normal_within_3_0_items =
+    (end (codes "p") ∷ end (codes "p") ∷ Text (codes " ") ∷ end (codes "p") ∷ StartTag (codes "p") (attribute (codes "class") (codes "1") ∷ []) ∷ start (codes "table") ∷ start (codes "caption") ∷ Text (codes " ") ∷ start (codes "table") ∷ end (codes "caption") ∷ StartTag (codes "tr") (attribute (codes "id") (codes "1") ∷ attribute (codes "class") (codes "2") ∷ []) ∷ StartTag (codes "th") (attribute (codes "id") (codes "1") ∷ attribute (codes "class") (codes "2") ∷ []) ∷ start (codes "tr") ∷ end (codes "tr") ∷ StartTag (codes "tt") (attribute (codes "class") (codes "2") ∷ attribute (codes "id") (codes "1") ∷ []) ∷ start (codes "button") ∷ StartTag (codes "table") (attribute (codes "id") (codes "1") ∷ attribute (codes "class") (codes "2") ∷ []) ∷ [])
+    ∷ (Text (codes "x") ∷ Text [] ∷ StartTag (codes "cite") (attribute (codes "class") (codes "1") ∷ []) ∷ Text (codes "\n") ∷ start (codes "dt") ∷ end (codes "dt") ∷ Text (codes "y") ∷ start (codes "cite") ∷ end (codes "cite") ∷ Text (codes "x y") ∷ end (codes "cite") ∷ [])
+    ∷ (Text (codes "\n\n") ∷ Text (codes " x") ∷ Text (codes "x y") ∷ end (codes "i") ∷ Text (codes "x y") ∷ StartTag (codes "listing") (attribute (codes "id") (codes "1") ∷ attribute (codes "class") (codes "2") ∷ []) ∷ StartTag (codes "dt") (attribute (codes "class") (codes "2") ∷ attribute (codes "id") (codes "1") ∷ []) ∷ [])
+    ∷ (start (codes "u") ∷ start (codes "u") ∷ start (codes "b") ∷ start (codes "u") ∷ start (codes "a") ∷ start (codes "div") ∷ Text (codes "y") ∷ end (codes "p") ∷ end (codes "p") ∷ end (codes "u") ∷ Text (codes "x") ∷ [])
+    ∷ (Text (codes "\nx") ∷ Text (codes "\n") ∷ Text (codes "\nx") ∷ start (codes "dl") ∷ Text (codes "\nx") ∷ start (codes "table") ∷ start (codes "tfoot") ∷ Text (codes "\n") ∷ StartTag (codes "tr") (attribute (codes "id") (codes "1") ∷ attribute (codes "class") (codes "2") ∷ []) ∷ end (codes "tr") ∷ end (codes "tfoot") ∷ end (codes "table") ∷ end (codes "dl") ∷ [])
+    ∷ (StartTag (codes "menu") (attribute (codes "class") (codes "1") ∷ []) ∷ start (codes "ins") ∷ StartTag (codes "menu") (attribute (codes "class") (codes "2") ∷ attribute (codes "id") (codes "1") ∷ []) ∷ end (codes "menu") ∷ end (codes "ins") ∷ start (codes "form") ∷ start (codes "p") ∷ end (codes "menu") ∷ Text (codes "y") ∷ start (codes "button") ∷ StartTag (codes "col") (attribute (codes "class") (codes "2") ∷ attribute (codes "id") (codes "1") ∷ []) ∷ start (codes "col") ∷ Text (codes " x") ∷ StartTag (codes "form") (attribute (codes "class") (codes "1") ∷ []) ∷ [])
+    ∷ (Text (codes "x") ∷ Text (codes "y") ∷ start (codes "div") ∷ Text (codes "\n\n") ∷ end (codes "div") ∷ Text (codes "x") ∷ Text (codes "x") ∷ start (codes "td") ∷ StartTag (codes "table") (attribute (codes "class") (codes "2") ∷ attribute (codes "id") (codes "1") ∷ []) ∷ end (codes "table") ∷ start (codes "button") ∷ end (codes "button") ∷ end (codes "td") ∷ [])
+    ∷ (start (codes "p") ∷ end (codes "p") ∷ end (codes "p") ∷ start (codes "p") ∷ Text (codes "\nx") ∷ end (codes "p") ∷ end (codes "p") ∷ start (codes "p") ∷ end (codes "p") ∷ end (codes "rb") ∷ Text (codes "\n\n") ∷ StartTag (codes "p") (attribute (codes "class") (codes "1") ∷ []) ∷ start (codes "rb") ∷ [])
+    ∷ (start (codes "a") ∷ start (codes "a") ∷ start (codes "a") ∷ start (codes "li") ∷ start (codes "div") ∷ Text (codes "y") ∷ end (codes "li") ∷ end (codes "a") ∷ Text (codes "y") ∷ start (codes "a") ∷ start (codes "a") ∷ start (codes "a") ∷ start (codes "a") ∷ start (codes "a") ∷ start (codes "div") ∷ start (codes "ul") ∷ Text (codes "y") ∷ end (codes "a") ∷ end (codes "a") ∷ Text (codes "x") ∷ start (codes "a") ∷ start (codes "div") ∷ start (codes "li") ∷ Text (codes "x") ∷ end (codes "ul") ∷ Text (codes "x") ∷ start (codes "a") ∷ start (codes "li") ∷ start (codes "div") ∷ start (codes "ul") ∷ start (codes "div") ∷ start (codes "li") ∷ start (codes "li") ∷ start (codes "ul") ∷ start (codes "ul") ∷ Text (codes "y") ∷ end (codes "a") ∷ Text (codes "x") ∷ start (codes "a") ∷ start (codes "a") ∷ start (codes "a") ∷ start (codes "div") ∷ start (codes "ul") ∷ start (codes "li") ∷ start (codes "ul") ∷ start (codes "div") ∷ start (codes "div") ∷ start (codes "ul") ∷ start (codes "ul") ∷ Text (codes "x") ∷ end (codes "li") ∷ Text (codes "y") ∷ [])
+    ∷ (Text (codes "\n") ∷ StartTag (codes "figure") (attribute (codes "class") (codes "1") ∷ []) ∷ Text (codes "y") ∷ start (codes "dl") ∷ start (codes "details") ∷ StartTag (codes "table") (attribute (codes "id") (codes "1") ∷ attribute (codes "class") (codes "2") ∷ []) ∷ end (codes "table") ∷ start (codes "figure") ∷ Text (codes "x ") ∷ Text (codes "y") ∷ Text [] ∷ start (codes "table") ∷ start (codes "tbody") ∷ end (codes "tbody") ∷ end (codes "table") ∷ end (codes "figure") ∷ end (codes "details") ∷ end (codes "dl") ∷ end (codes "figure") ∷ [])
+    ∷ []
+
+normal_within_3_0_answers : List (List Item)
+normal_within_3_0_answers =
+    (start (codes "p") ∷ end (codes "p") ∷ start (codes "p") ∷ end (codes "p") ∷ Text (codes " ") ∷ start (codes "p") ∷ end (codes "p") ∷ StartTag (codes "p") (attribute (codes "class") (codes "1") ∷ []) ∷ end (codes "p") ∷ start (codes "table") ∷ start (codes "caption") ∷ Text (codes " ") ∷ start (codes "table") ∷ end (codes "table") ∷ StartTag (codes "table") (attribute (codes "id") (codes "1") ∷ attribute (codes "class") (codes "2") ∷ []) ∷ end (codes "table") ∷ end (codes "caption") ∷ end (codes "table") ∷ [])
+    ∷ (Text (codes "x") ∷ Text [] ∷ StartTag (codes "cite") (attribute (codes "class") (codes "1") ∷ []) ∷ Text (codes "\n") ∷ start (codes "dt") ∷ end (codes "dt") ∷ Text (codes "y") ∷ start (codes "cite") ∷ end (codes "cite") ∷ Text (codes "x y") ∷ end (codes "cite") ∷ [])
+    ∷ (Text (codes "\n\n") ∷ Text (codes " x") ∷ Text (codes "x y") ∷ Text (codes "x y") ∷ StartTag (codes "listing") (attribute (codes "id") (codes "1") ∷ attribute (codes "class") (codes "2") ∷ []) ∷ StartTag (codes "dt") (attribute (codes "class") (codes "2") ∷ attribute (codes "id") (codes "1") ∷ []) ∷ end (codes "dt") ∷ end (codes "listing") ∷ [])
+    ∷ (start (codes "u") ∷ start (codes "u") ∷ start (codes "b") ∷ Text (codes "y") ∷ end (codes "b") ∷ end (codes "u") ∷ Text (codes "x") ∷ end (codes "u") ∷ [])
+    ∷ (Text (codes "\nx") ∷ Text (codes "\n") ∷ Text (codes "\nx") ∷ start (codes "dl") ∷ Text (codes "\nx") ∷ start (codes "table") ∷ start (codes "tfoot") ∷ Text (codes "\n") ∷ end (codes "tfoot") ∷ end (codes "table") ∷ end (codes "dl") ∷ [])
+    ∷ (StartTag (codes "menu") (attribute (codes "class") (codes "1") ∷ []) ∷ start (codes "ins") ∷ StartTag (codes "menu") (attribute (codes "class") (codes "2") ∷ attribute (codes "id") (codes "1") ∷ []) ∷ end (codes "menu") ∷ end (codes "ins") ∷ start (codes "form") ∷ start (codes "p") ∷ end (codes "p") ∷ end (codes "form") ∷ end (codes "menu") ∷ Text (codes "y") ∷ start (codes "button") ∷ Text (codes " x") ∷ StartTag (codes "form") (attribute (codes "class") (codes "1") ∷ []) ∷ end (codes "form") ∷ end (codes "button") ∷ [])
+    ∷ (Text (codes "x") ∷ Text (codes "y") ∷ start (codes "div") ∷ Text (codes "\n\n") ∷ end (codes "div") ∷ Text (codes "x") ∷ Text (codes "x") ∷ StartTag (codes "table") (attribute (codes "class") (codes "2") ∷ attribute (codes "id") (codes "1") ∷ []) ∷ end (codes "table") ∷ start (codes "button") ∷ end (codes "button") ∷ [])
+    ∷ (start (codes "p") ∷ end (codes "p") ∷ start (codes "p") ∷ end (codes "p") ∷ start (codes "p") ∷ Text (codes "\nx") ∷ end (codes "p") ∷ start (codes "p") ∷ end (codes "p") ∷ start (codes "p") ∷ end (codes "p") ∷ Text (codes "\n\n") ∷ StartTag (codes "p") (attribute (codes "class") (codes "1") ∷ []) ∷ start (codes "rb") ∷ end (codes "rb") ∷ end (codes "p") ∷ [])
+    ∷ (start (codes "a") ∷ end (codes "a") ∷ start (codes "a") ∷ end (codes "a") ∷ start (codes "a") ∷ start (codes "li") ∷ start (codes "div") ∷ Text (codes "y") ∷ end (codes "div") ∷ end (codes "li") ∷ end (codes "a") ∷ Text (codes "y") ∷ start (codes "a") ∷ end (codes "a") ∷ start (codes "a") ∷ end (codes "a") ∷ start (codes "a") ∷ end (codes "a") ∷ start (codes "a") ∷ end (codes "a") ∷ start (codes "a") ∷ start (codes "div") ∷ start (codes "ul") ∷ Text (codes "y") ∷ end (codes "ul") ∷ end (codes "div") ∷ end (codes "a") ∷ Text (codes "x") ∷ start (codes "a") ∷ start (codes "div") ∷ start (codes "li") ∷ Text (codes "x") ∷ Text (codes "x") ∷ end (codes "li") ∷ end (codes "div") ∷ end (codes "a") ∷ start (codes "a") ∷ start (codes "li") ∷ start (codes "div") ∷ end (codes "div") ∷ end (codes "li") ∷ start (codes "li") ∷ end (codes "li") ∷ start (codes "li") ∷ start (codes "ul") ∷ Text (codes "y") ∷ end (codes "ul") ∷ end (codes "li") ∷ end (codes "a") ∷ Text (codes "x") ∷ start (codes "a") ∷ end (codes "a") ∷ start (codes "a") ∷ end (codes "a") ∷ start (codes "a") ∷ start (codes "div") ∷ start (codes "ul") ∷ Text (codes "x") ∷ Text (codes "y") ∷ end (codes "ul") ∷ end (codes "div") ∷ end (codes "a") ∷ [])
+    ∷ (Text (codes "\n") ∷ StartTag (codes "figure") (attribute (codes "class") (codes "1") ∷ []) ∷ Text (codes "y") ∷ start (codes "dl") ∷ start (codes "details") ∷ Text (codes "x ") ∷ Text (codes "y") ∷ Text [] ∷ end (codes "details") ∷ end (codes "dl") ∷ end (codes "figure") ∷ [])
+    ∷ []
+
+normal_within_3_0 : map (normal 3) normal_within_3_0_items ≡ normal_within_3_0_answers
+unfolding normal_within_3_0_items normal_within_3_0_answers is_among kind_in all_names kind_of near open_after leading_space after_space count_inside run_of opened plan_of normal_above
+normal_within_3_0 = refl

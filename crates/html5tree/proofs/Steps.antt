@@ -13,8 +13,9 @@ use Rattle.html5tree.specs.Items.{Attribute, Item, balanced}
 use Rattle.html5tree.specs.Items.Item.{EndTag, StartTag, Text}
 use Rattle.html5tree.specs.Lockstep.{AreNumbered, ArePlaced, IsInOrder, IsInStep, IsWithin, can_hold, form_of, nest, nest_all, parser, placed}
 use Rattle.html5tree.specs.Lockstep.IsWithin.{Done, Keep, Mark, Skip}
-use Rattle.html5tree.specs.Names.{Kind, ends_item_search, has_marker, is_anchor, is_button, is_description, is_form, is_formatting, is_heading, is_implied, is_list_item, is_no_break, is_paragraph, is_part, is_ruby, is_ruby_container, is_table, is_void, kind_of, named, no_kind, of_kind}
-use Rattle.html5tree.specs.Names.Kind.{Anchor, Block, Button, Caption, Cell, Column, ColumnGroup, Description, Dialog, Division, Form, Formatting, Heading, ListBlock, ListItem, NoBreak, Ordinary, Paragraph, Preformatted, Ruby, RubyBase, RubyContainer, RubyText, Rule, Search, Table, TableBody, TableRow, Unknown, Void}
+use Rattle.html5tree.specs.declared.kinds.Kind.{Kind}
+use Rattle.html5tree.specs.Names.{ends_item_search, has_marker, is_anchor, is_button, is_description, is_form, is_formatting, is_heading, is_implied, is_list_item, is_no_break, is_paragraph, is_part, is_ruby, is_ruby_container, is_table, is_void, kind_of, named, no_kind, of_kind}
+use Rattle.html5tree.specs.declared.kinds.Kind.TheVariants.{Anchor, Block, Button, Caption, Cell, Column, ColumnGroup, Description, Dialog, Division, Form, Formatting, Heading, ListBlock, ListItem, NoBreak, Ordinary, Paragraph, Preformatted, Ruby, RubyBase, RubyContainer, RubyText, Rule, Search, Table, TableBody, TableRow, Unknown, Void}
 use Rattle.html5tree.specs.Page.{Edit, Element, Page, inserted, made, names, popped, rest_of, start_page, texted}
 use Rattle.html5tree.specs.Parser.{Entry, Mode, Parser, cleared, has_entry, has_node, implied_ended, inside, is_bounded, last_named, outside, popped_until, pushed, without_entry, without_node}
 use Rattle.html5tree.specs.Parser.Entry.{Marker}

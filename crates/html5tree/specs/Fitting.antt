@@ -3,8 +3,9 @@
 -- near, no scope of the standard goes further than the row does.
 use Rattle.std.specs.Prelude.{ℕ, Bool, true, false, not, List, [], ◌∷◌, ◌&&◌, ◌||◌, ◌==◌, if◌then◌else◌}
 use Rattle.std.specs.List.{list_all}
-use Rattle.html5tree.specs.Names.{Kind, kind_of, of_kind, named, no_kind, is_anchor, is_no_break, is_paragraph, is_list_item, is_description, is_heading, is_ruby, is_button, is_form, is_implied, is_void, has_marker, is_part, ends_item_search}
-use Rattle.html5tree.specs.Names.Kind.{Ordinary, Ruby, Anchor, NoBreak, Formatting, Search, ListItem, Description, Heading, Void, RubyBase, RubyContainer, RubyText, Button, Form, Table, Caption, ColumnGroup, Column, TableBody, TableRow, Cell, Unknown}
+use Rattle.html5tree.specs.declared.kinds.Kind.{Kind}
+use Rattle.html5tree.specs.Names.{kind_of, of_kind, named, no_kind, is_anchor, is_no_break, is_paragraph, is_list_item, is_description, is_heading, is_ruby, is_button, is_form, is_implied, is_void, has_marker, is_part, ends_item_search}
+use Rattle.html5tree.specs.declared.kinds.Kind.TheVariants.{Ordinary, Ruby, Anchor, NoBreak, Formatting, Search, ListItem, Description, Heading, Void, RubyBase, RubyContainer, RubyText, Button, Form, Table, Caption, ColumnGroup, Column, TableBody, TableRow, Cell, Unknown}
 use Rattle.html5tree.specs.Items.{Item}
 use Rattle.html5tree.specs.Items.Item.{StartTag, EndTag, Text}
 use Rattle.html5tree.specs.Scopes.{near, top_is, top_of_kind, kind_on_top}

@@ -1,8 +1,9 @@
 -- Fragments in a host: open elements of a page in which items are put, and which stay open.
 use Rattle.std.specs.Prelude.{◌≡◌, ℕ, Bool, true, false, not, List, ◌&&◌, ◌||◌}
 use Rattle.std.specs.List.{list_all}
-use Rattle.html5tree.specs.Names.{Kind, no_kind, is_anchor, is_no_break, is_list_item, is_description, is_heading, is_ruby, is_button, is_form, has_marker, is_part, kind_of}
-use Rattle.html5tree.specs.Names.Kind.{Ordinary, Formatting, Paragraph, Division, Search, Dialog, ListBlock, Block, ListItem, Description, Heading, Preformatted, Rule, Form, Table, RubyBase, RubyContainer, RubyText, Unknown}
+use Rattle.html5tree.specs.declared.kinds.Kind.{Kind}
+use Rattle.html5tree.specs.Names.{no_kind, is_anchor, is_no_break, is_list_item, is_description, is_heading, is_ruby, is_button, is_form, has_marker, is_part, kind_of}
+use Rattle.html5tree.specs.declared.kinds.Kind.TheVariants.{Ordinary, Formatting, Paragraph, Division, Search, Dialog, ListBlock, Block, ListItem, Description, Heading, Preformatted, Rule, Form, Table, RubyBase, RubyContainer, RubyText, Unknown}
 use Rattle.html5tree.specs.Items.{Item}
 use Rattle.html5tree.specs.Items.Item.{StartTag}
 use Rattle.html5tree.specs.Scopes.{kind_on_top, top_of_kind}

@@ -1,8 +1,9 @@
 -- "The rules for parsing tokens in HTML content", "In body", for the names of Names. The document is not in quirks mode.
 use Rattle.std.specs.Prelude.{ℕ, Bool, not, List, [], ◌∷◌, ◌&&◌, Option, Some, None, codes, if◌then◌else◌}
 use Rattle.std.specs.Str.{bytes_eq}
-use Rattle.html5tree.specs.Names.{Kind, kind_of, of_kind, named, no_kind, is_anchor, is_no_break, is_paragraph, is_list_item, is_description, is_heading, is_ruby, is_ruby_container, is_button, ends_item_search}
-use Rattle.html5tree.specs.Names.Kind.{Ordinary, Ruby, Anchor, NoBreak, Formatting, Paragraph, Division, Search, Dialog, ListBlock, Block, ListItem, Description, Heading, Preformatted, Rule, Void, RubyBase, RubyContainer, RubyText, Button, Form, Table, Caption, ColumnGroup, Column, TableBody, TableRow, Cell, Unknown}
+use Rattle.html5tree.specs.declared.kinds.Kind.{Kind}
+use Rattle.html5tree.specs.Names.{kind_of, of_kind, named, no_kind, is_anchor, is_no_break, is_paragraph, is_list_item, is_description, is_heading, is_ruby, is_ruby_container, is_button, ends_item_search}
+use Rattle.html5tree.specs.declared.kinds.Kind.TheVariants.{Ordinary, Ruby, Anchor, NoBreak, Formatting, Paragraph, Division, Search, Dialog, ListBlock, Block, ListItem, Description, Heading, Preformatted, Rule, Void, RubyBase, RubyContainer, RubyText, Button, Form, Table, Caption, ColumnGroup, Column, TableBody, TableRow, Cell, Unknown}
 use Rattle.html5tree.specs.Items.{Attribute, Item}
 use Rattle.html5tree.specs.Items.Item.{StartTag, EndTag, Text}
 use Rattle.html5tree.specs.Scopes.{near, top_of_kind, ends_scope, ends_list_scope, ends_button_scope}

@@ -1,4 +1,6 @@
 pub mod Names
+pub mod Slots
+pub mod ElementNames
 pub mod Items
 pub mod Tree
 pub mod Scopes
@@ -9,6 +11,10 @@ pub mod Parser
 pub mod Adoption
 pub mod InBody
 pub mod Tables
+pub mod Normal
+pub mod Searches
+pub mod Planned
+pub mod Nested
 pub mod Construction
 pub mod Lockstep
 pub mod Shown

@@ -1,7 +1,8 @@
 -- What holds between the parser and nesting after each item that fits: vocabulary of the proofs. In a host it is also what the law asks of the
 -- parser before the items (Hosts).
 use Rattle.std.specs.Prelude.{◌≡◌, ℕ, ◌<◌, Bool, true, false, not, List, [], ◌∷◌, ⊤, Option, Some, None, if◌then◌else◌}
-use Rattle.html5tree.specs.Names.{Kind, kind_of, is_formatting, has_marker, is_form, is_part, is_void}
+use Rattle.html5tree.specs.declared.kinds.Kind.{Kind}
+use Rattle.html5tree.specs.Names.{kind_of, is_formatting, has_marker, is_form, is_part, is_void}
 use Rattle.html5tree.specs.Items.{Attribute, Item}
 use Rattle.html5tree.specs.Items.Item.{StartTag, EndTag, Text}
 use Rattle.html5tree.specs.Scopes.{kind_on_top}

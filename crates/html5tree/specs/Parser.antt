@@ -1,7 +1,8 @@
 -- "Parse state", and "Creating and inserting nodes": what tree construction keeps, the lists that it keeps, and how it puts nodes and texts.
 use Rattle.std.specs.Prelude.{ℕ, suc, Bool, true, false, not, List, [], ◌∷◌, ◌&&◌, ◌==◌, length, Option, Some, None, nat_le, if◌then◌else◌}
 use Rattle.std.specs.Str.{bytes_eq}
-use Rattle.html5tree.specs.Names.{Kind, kind_of, is_table, is_implied, is_fostering}
+use Rattle.html5tree.specs.declared.kinds.Kind.{Kind}
+use Rattle.html5tree.specs.Names.{kind_of, is_table, is_implied, is_fostering}
 use Rattle.html5tree.specs.Items.{Attribute}
 use Rattle.html5tree.specs.Scopes.{top_of_kind}
 use Rattle.html5tree.specs.Page.{Edit, Element, Page, current, made, popped, names, start_page}

@@ -4,8 +4,9 @@ use Rattle.std.specs.Prelude.{ℕ, Bool, true, false, List, [], ◌∷◌, ◌&&
 use Rattle.std.specs.Str.{bytes_eq}
 use Rattle.std.specs.List.{list_all}
 use Rattle.std.specs.Char.{to_ascii_lowercase}
-use Rattle.html5tree.specs.Names.{Kind, kind_of, of_kind, named, no_kind, is_table, is_caption, is_column_group, is_table_body, is_table_row, is_cell, is_part, is_fostering}
-use Rattle.html5tree.specs.Names.Kind.{Void, Form, Table, Caption, ColumnGroup, Column, TableBody, TableRow, Cell}
+use Rattle.html5tree.specs.declared.kinds.Kind.{Kind}
+use Rattle.html5tree.specs.Names.{kind_of, of_kind, named, no_kind, is_table, is_caption, is_column_group, is_table_body, is_table_row, is_cell, is_part, is_fostering}
+use Rattle.html5tree.specs.declared.kinds.Kind.TheVariants.{Void, Form, Table, Caption, ColumnGroup, Column, TableBody, TableRow, Cell}
 use Rattle.html5tree.specs.Items.{Attribute, Item}
 use Rattle.html5tree.specs.Items.Item.{StartTag, EndTag, Text}
 use Rattle.html5tree.specs.Scopes.{near, top_of_kind, ends_table_scope}

@@ -1,11 +1,14 @@
 //! What a browser builds of items that fit is the tree that their tags show.
-ghost use Rattle.std.specs.Prelude.{◌≡◌, ℕ, Bool, List, [], ◌∷◌, ◌++◌, false, not, true};
+ghost use Rattle.std.specs.Prelude.{◌≡◌, ℕ, ◌+◌, ◌*◌, ◌≤◌, Bool, List, [], ◌∷◌, ◌++◌, false, length, not, true};
 ghost use Rattle.html5tree.specs.Construction.{parsed, tree_in, tree_of};
-ghost use Rattle.html5tree.specs.Fitting.{all_fit, each_fits, none_near};
+ghost use Rattle.html5tree.specs.Fitting.{all_fit, all_open_after, each_fits, fits, none_near, open_after};
 ghost use Rattle.html5tree.specs.Hosts.{IsBack, IsHost, allows, closes_paragraph, is_flow_host, is_neutral, put_at, suits};
-ghost use Rattle.html5tree.specs.Items.{Item, balanced, keeps_newlines, read_items};
-ghost use Rattle.html5tree.specs.Names.{Kind, has_marker, is_anchor, is_form, is_list_item, kind_of, no_kind};
-ghost use Rattle.html5tree.specs.Names.Kind.{Anchor, ListItem, Paragraph};
+ghost use Rattle.html5tree.specs.Items.{Attribute, Item, balanced, keeps_newlines, read_items, whole_texts};
+ghost use Rattle.html5tree.specs.declared.kinds.Kind.{Kind};
+ghost use Rattle.html5tree.specs.declared.kinds.Kind.TheVariants.{Anchor, ListItem, Paragraph, Unknown};
+ghost use Rattle.html5tree.specs.Items.Item.{EndTag, StartTag};
+ghost use Rattle.html5tree.specs.Names.{has_marker, is_anchor, is_form, is_list_item, kind_of, no_kind};
+ghost use Rattle.html5tree.specs.Normal.{IsReady, fitted, normal, open_after_fitted, stays_within};
 ghost use Rattle.html5tree.specs.Page.{names};
 ghost use Rattle.html5tree.specs.Parser.{Parser, start_parser};
 ghost use Rattle.html5tree.specs.Tree.{Path, empty_path, nested, nesting, whole};
@@ -88,4 +91,51 @@ pub fn narrow_hosts()
         → is_flow_host stack ≡ true → allows (name ∷ stack) k ≡ not (is_anchor k) }
     ensures list_item { (k : Kind) (name : List ℕ) (stack : List (List ℕ)) → kind_of name ≡ ListItem
         → is_flow_host stack ≡ true → allows (name ∷ stack) k ≡ not (is_list_item k) }
+{}
+
+/// What the normaliser makes of items (`normal`, specs/Normal), with a limit of how many elements may be open. It
+/// all fits, and leaves no element open (`fits`); nowhere are more elements open than the limit (`within`). So
+/// tree construction builds it as it is nested (`tree`). Items of which this holds already are not changed
+/// (`unchanged`): made normal twice they are as once (`twice`). At most eight items are written for each
+/// that is read (`bound`).
+///
+/// How a text is cut into pieces, and where empty ones stand, changes nothing once pieces that stand together
+/// are read as one (`cut`). A newline straight after the start tag of a `pre` or a `listing` stays where it is.
+pub fn normal_items()
+    ensures fits { (limit : ℕ) (items : List Item) → all_fit [] (normal limit items) ≡ true }
+    ensures within { (limit : ℕ) (items : List Item) → stays_within limit [] (normal limit items) ≡ true }
+    ensures tree { (limit : ℕ) (items : List Item)
+        → tree_of (normal limit items) ≡ nesting (read_items false (normal limit items)) }
+    ensures unchanged { (limit : ℕ) (items : List Item) → all_fit [] items ≡ true
+        → stays_within limit [] items ≡ true → normal limit items ≡ items }
+    ensures twice { (limit : ℕ) (items : List Item) → normal limit (normal limit items) ≡ normal limit items }
+    ensures bound { (limit : ℕ) (items : List Item) → length (normal limit items) ≤ 8 * length items }
+    ensures cut { (limit : ℕ) (items others : List Item) → whole_texts items ≡ whole_texts others
+        → whole_texts (normal limit items) ≡ whole_texts (normal limit others) }
+{}
+
+/// The same of one item, above the names of the open elements: what is written for it fits there (`fits`), with
+/// no more elements open than the limit (`within`), and leaves these open (`after`). An item that fits is written
+/// as it is (`unchanged`). What is written, and the end tags of what is open then, are at most eight items more
+/// than the end tags before (`bound`). Of a tag of another name than the 94 nothing is written (`unknown_start`,
+/// `unknown_end`). Open elements that each fit where they stand, no more than the limit, are so
+/// afterwards (`ready`), and at first (`first`).
+pub fn normal_item()
+    ensures first { (limit : ℕ) → IsReady limit [] }
+    ensures ready { (limit : ℕ) (stack : List (List ℕ)) (item : Item) → IsReady limit stack
+        → IsReady limit (open_after_fitted limit stack item) }
+    ensures fits { (limit : ℕ) (stack : List (List ℕ)) (item : Item) → IsReady limit stack
+        → each_fits stack (fitted limit stack item) ≡ true }
+    ensures within { (limit : ℕ) (stack : List (List ℕ)) (item : Item) → IsReady limit stack
+        → stays_within limit stack (fitted limit stack item) ≡ true }
+    ensures after { (limit : ℕ) (stack : List (List ℕ)) (item : Item) → IsReady limit stack
+        → all_open_after stack (fitted limit stack item) ≡ open_after_fitted limit stack item }
+    ensures unchanged { (limit : ℕ) (stack : List (List ℕ)) (item : Item) → fits stack item ≡ true
+        → length (open_after stack item) ≤ limit → fitted limit stack item ≡ item ∷ [] }
+    ensures bound { (limit : ℕ) (stack : List (List ℕ)) (item : Item)
+        → length (fitted limit stack item) + length (open_after_fitted limit stack item) ≤ 8 + length stack }
+    ensures unknown_start { (limit : ℕ) (stack : List (List ℕ)) (name : List ℕ) (attributes : List Attribute)
+        → kind_of name ≡ Unknown → fitted limit stack (StartTag name attributes) ≡ [] }
+    ensures unknown_end { (limit : ℕ) (stack : List (List ℕ)) (name : List ℕ) → IsReady limit stack
+        → kind_of name ≡ Unknown → fitted limit stack (EndTag name) ≡ [] }
 {}
