@@ -1,1 +1,4 @@
 pub mod SameItems
+pub mod Added
+pub mod Spaces
+pub mod Nesting

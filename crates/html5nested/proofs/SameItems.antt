@@ -29,7 +29,7 @@ same-text (c ∷ text) items others same =
     ap (in_front (encode_utf8 c)) (same-text text items others same)
     ∙ front-twice (encode_utf8 c) (encode_utf8_all text) (whole_texts others)
 
-same-attributes : (attributes : List NameAndValue) → map attribute_told (map attribute_sent attributes) ≡ map attribute_item attributes
+pub same-attributes : (attributes : List NameAndValue) → map attribute_told (map attribute_sent attributes) ≡ map attribute_item attributes
 same-attributes [] = refl
 same-attributes (a ∷ attributes) = ap (λ l. attribute_item a ∷ l) (same-attributes attributes)
 

@@ -2,7 +2,7 @@
 -- their UTF-8, as they are in tokens.
 use Rattle.std.specs.Prelude.{ℕ, Bool, true, false, List, [], ◌∷◌, flat_map, map, encode_utf8_all}
 use Rattle.std.specs.List.{list_all}
-use Rattle.html5ever_interface.specs.Token.{Told, TagOf}
+use Rattle.html5ever_interface.specs.Token.{Told}
 use Rattle.html5ever_interface.specs.Token.Told.{Text as ToldText, Tag as ToldTag}
 use Rattle.html5ever_interface.specs.declared.interface.token.TagKind.{TagKind}
 use Rattle.html5ever_interface.specs.declared.interface.token.TagKind.TheVariants as kind
