@@ -1,14 +1,17 @@
 -- What a page tells has the items of its pieces, once texts that stand side by side are one.
-use Rattle.std.proofs.Common.{◌≡◌, ℕ, List, [], ◌∷◌, ◌++◌, refl, ap, sym, ◌∙◌, append-nil, append_assoc}
+use Rattle.std.proofs.Common.{◌≡◌, ℕ, Bool, List, [], ◌∷◌, ◌++◌, refl, ap, sym, ◌∙◌, append-nil, append_assoc}
 use Rattle.std.specs.Prelude.{flat_map, map, encode_utf8, encode_utf8_all}
 use Rattle.std.proofs.lemmas.List.Concat.{flat_map-append}
 use Rattle.html5ever_interface.specs.Token.{Told}
-use Rattle.html5ever_interface.specs.Token.Told.{Text as ToldText}
+use Rattle.html5ever_interface.specs.Sink.{Message, on_line}
+use Rattle.html5ever_interface.specs.Token.Told.{Text as ToldText, End}
+use Rattle.html5reading.specs.Start.{Input}
 use Rattle.html5tree.specs.Items.{Item, in_front, whole_texts}
 use Rattle.html5tree.specs.Items.Item.{EndTag, StartTag, Text}
 use Rattle.html5write.specs.Pieces.{NameAndValue, Piece}
 use Rattle.html5write.specs.Pieces.Piece.{TextPiece, StartTagPiece, EndTagPiece, CommentPiece}
-use Rattle.html5write.specs.Told.{attribute_told as attribute_sent, pieces_tokens, piece_tokens}
+use Rattle.html5write.specs.Told.{attribute_told as attribute_sent, pieces_messages, pieces_tokens, piece_tokens, proper, proper_token}
+use Rattle.html5write.proofs.ProperTokens.{proper-whole}
 use Rattle.html5nested.specs.PageItems.{attribute_item, attribute_told, items_of, items_of_piece, items_of_token, items_told}
 
 front-twice : (a b : List ℕ) (items : List Item) → in_front a (in_front b items) ≡ in_front (a ++ b) items
@@ -52,3 +55,15 @@ same-items (piece ∷ pieces) rest none =
     ap (λ l. whole_texts (flat_map items_of_token l)) (append_assoc (piece_tokens piece) (pieces_tokens pieces) rest)
     ∙ ap whole_texts (flat_map-append items_of_token (piece_tokens piece) (pieces_tokens pieces ++ rest))
     ∙ same-piece piece (items_told (pieces_tokens pieces ++ rest)) (items_of pieces) (same-items pieces rest none)
+
+-- what a part of a page tells
+pub same-part : (exact : Bool) (input : Input) (pieces : List Piece)
+    → whole_texts (items_told (proper (pieces_messages exact input pieces))) ≡ whole_texts (items_of pieces)
+unfolding items_told proper
+same-part exact input pieces =
+    let M : List Message = pieces_messages exact input pieces in
+    ap whole_texts
+    (sym (append-nil (flat_map items_of_token (proper M)))
+    ∙ (sym (flat_map-append items_of_token (proper M) (End ∷ []))
+    ∙ ap (flat_map items_of_token) (sym (flat_map-append (λ (m : Message). proper_token m.token) M (on_line 0 (End ∷ []))) ∙ proper-whole exact input pieces 0)))
+    ∙ same-items pieces (End ∷ []) refl
