@@ -6,6 +6,8 @@ pub mod laws;
 mod nested_writer;
 mod pieces;
 mod planned;
+#[cfg(test)]
+mod tests;
 mod white_space;
 
 pub use crate::nested_writer::NestedWriter;
