@@ -13,13 +13,15 @@ ghost use Rattle.html5tree.specs.Parser.{Parser};
 ghost use Rattle.html5tree.specs.Tree.{Path, nesting, whole};
 ghost use Rattle.html5write.specs.Pieces as pieces;
 ghost use Rattle.html5write.specs.Pieces.{pieces_text};
-ghost use Rattle.html5write.specs.Told.{IsReadBack, KeepsOn, pieces_messages, proper};
+ghost use Rattle.html5write.specs.Told.{IsOpen, IsReadBack, KeepsOn, pieces_messages, proper};
+ghost use Rattle.markup5ever.specs.NamedReferences.{IsTable};
 ghost use Rattle.html5nested.specs.NestedPages.{IsFinished};
 ghost use Rattle.html5nested.specs.PageItems.{has_no_comment, items_of, items_told};
 
 use html5ever_interface::interface::sink::TokenSink;
 use html5ever_interface::interface::token::Token;
 use html5tree::laws::{normal_items, tree_of_fitting, tree_of_fitting_in_host};
+use html5write::Writer;
 use html5write::laws::whole_text;
 use std::alloc::Allocator;
 
@@ -78,4 +80,17 @@ pub fn tree_of_nested_page<S: TokenSink<Token<A>>, A: Allocator>()
 {
     tree_of_written_page::<S, A>();
     normal_items();
+}
+
+/// The same of the page of a writer, wherever it is read in Data with no CR directly before, by any table and a
+/// sink that follows the standard.
+pub fn tree_of_finished_page<S: TokenSink<Token<A>>, A: Allocator + Copy>(writer: &Writer<A>)
+    ensures { (rules : Rules) (K : Start) (s : S.State) (limit : ℕ) (items : List Item) → IsTable rules.references → IsOpen K
+        → FollowsStandard {S = S.State} S.means.reply → IsFinished limit writer.now items
+        → tree_of (items_told (proper (all_messages S.means rules K s (pieces_text writer.now))))
+        ≡ nesting (read_items false (normal limit items)) }
+{
+    let _written = writer.as_str();
+    fitting_pieces_are_markup::<S, A>();
+    tree_of_nested_page::<S, A>();
 }
