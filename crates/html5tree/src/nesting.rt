@@ -71,6 +71,19 @@ impl<A: Allocator> Nesting<A> {
         }
     }
 
+    /// The same open elements again. None was closed for the last item.
+    pub fn try_clone(&self, alloc: A) -> Result<Nesting<A>, AllocError>
+    where
+        A: Copy,
+        ensures { IfOk result (λ other. other ≡ record self.now { closed = [] }) }
+    {
+        Ok(Nesting {
+            opened: Vec::from_slice(alloc, &self.opened)?,
+            closed: Vec::new(alloc),
+            limit: self.limit,
+        })
+    }
+
     /// How many elements are open.
     pub fn depth(&self) -> usize
         ensures value { result ≡ length self.now.opened }

@@ -1,0 +1,3 @@
+pub mod PageItems
+pub mod Adding
+pub mod NestedPages

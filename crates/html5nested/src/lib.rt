@@ -1,0 +1,13 @@
+//! Pages that are written so that the tree that a browser builds of them is the one that their tags show.
+#![tactic(auto)]
+
+mod item;
+pub mod laws;
+mod nested_writer;
+mod pieces;
+mod planned;
+#[cfg(test)]
+mod tests;
+mod white_space;
+
+pub use crate::nested_writer::NestedWriter;
