@@ -46,6 +46,11 @@ VARIANTS = {
     "UTF-16BE": "Utf16Be", "UTF-16LE": "Utf16Le", "x-user-defined": "XUserDefined",
 }
 
+# What heads the files.
+BY = "By tools/encodings.py."
+LISTS = "use Rattle.std.specs.Prelude.{ℕ, List, [], ◌∷◌}\n"
+DECLARED = "use Rattle.html5encodings.specs.declared.encoding"
+
 
 def after(path, mark):
     """The JSON value after a mark in a file of the package."""
@@ -95,10 +100,12 @@ def index_name(name):
     return "iso-8859-8" if name == "ISO-8859-8-I" else name.lower()
 
 
-def encoding_term(name, path, call):
-    if name in VARIANTS:
-        return f"{path}{VARIANTS[name]}"
-    return call(variant(name))
+def rust_encoding(name):
+    return f"Encoding::{VARIANTS[name]}" if name in VARIANTS else f"Encoding::SingleByte(SingleByte::{variant(name)})"
+
+
+def spec_encoding(name):
+    return f"encoding.{VARIANTS[name]}" if name in VARIANTS else f"encoding.SingleByte single.{variant(name)}"
 
 
 def rows_of(entries, width):
@@ -107,20 +114,118 @@ def rows_of(entries, width):
 
 def rust_table(name, entries):
     """A static of characters."""
-    lines = [f"#[rattlefmt::skip]\npub(crate) static {name}: [char; {len(entries)}] = [\n"]
-    for row in rows_of(entries, 8):
-        lines.append("    " + ", ".join("'\\u{%X}'" % code_point for code_point in row) + ",\n")
-    return "".join(lines) + "];\n"
+    rows = [", ".join("'\\u{%X}'" % code_point for code_point in row) for row in rows_of(entries, 8)]
+    lines = "".join(f"    {row},\n" for row in rows)
+    return f"#[rattlefmt::skip]\npub(crate) static {name}: [char; {len(entries)}] = [\n{lines}];\n"
 
 
 def spec_table(name, entries):
     """A list of code points."""
-    lines = [" ∷ ".join("0x%04X" % code_point for code_point in row) for row in rows_of(entries, 12)]
-    return f"unfoldable pub {name} : List ℕ\n{name} =\n    " + " ∷\n    ".join(lines) + " ∷ []\n"
+    rows = [" ∷ ".join("0x%04X" % code_point for code_point in row) for row in rows_of(entries, 12)]
+    return f"unfoldable pub {name} : List ℕ\n{name} =\n    " + " ∷\n    ".join(rows) + " ∷ []\n"
 
 
 def upper_camel(name):
     return "".join(part[0].upper() + part[1:] for part in name.split("-"))
+
+
+def table_files(lists):
+    """The indexes of more than a byte."""
+    files = {}
+    for name in TABLES:
+        module = f"index_{snake(name)}"
+        files[f"src/{module}.rt"] = (
+            f"//! The index {name}: the character of each pointer, and U+0000 where there is none. {BY}\n\n"
+            + rust_table(snake(name).upper(), lists[name])
+        )
+        files[f"specs/Index{upper_camel(name)}.antt"] = (
+            f'-- "Indexes": index {name}, the code point of each pointer, and 0 where there is none. {BY}\n'
+            f"{LISTS}\n" + spec_table(module, lists[name])
+        )
+    return files
+
+
+def range_files(ranges):
+    """The index gb18030 ranges."""
+    rust = "".join("    (%d, 0x%04X),\n" % row for row in ranges)
+    spec = "".join("    (%d, 0x%04X) ∷\n" % row for row in ranges)
+    return {
+        "src/index_gb18030_ranges.rt": (
+            f"//! The index gb18030 ranges: pointers, and the code point of each. {BY}\n\n"
+            f"#[rattlefmt::skip]\npub(crate) static GB18030_RANGES: [(u32, u32); {len(ranges)}] = [\n{rust}];\n"
+        ),
+        "specs/IndexGb18030Ranges.antt": (
+            f'-- "Indexes": index gb18030 ranges, pointers in order, and the code point of each. {BY}\n{LISTS}\n'
+            f"unfoldable pub index_gb18030_ranges : List (ℕ × ℕ)\nindex_gb18030_ranges =\n{spec}    []\n"
+        ),
+    }
+
+
+def single_byte_files(lists, singles):
+    """The indexes of the single-byte encodings, and that those of the program are those of the specs."""
+    own = [name for name in singles if index_name(name) == name.lower()]
+    statics, indexes_of_own = ", ".join(snake(name).upper() for name in own), ", ".join(f"index_{snake(name)}" for name in own)
+    tables = [rust_table(snake(name).upper(), lists[index_name(name)]) for name in own]
+    specs = [f"-- index {name}\n" + spec_table(f"index_{snake(name)}", lists[index_name(name)]) for name in own]
+    cases = "".join(f"index_of single.{variant(name)} = index_{snake(index_name(name))}\n" for name in singles)
+    same = "".join(
+        f"\npub {static}-is : {static} ≡ index_{static.lower()}\nunfolding index_{static.lower()}\n{static}-is = refl\n"
+        for static in statics.split(", ")
+    )
+    answers = "".join(
+        f"\npub returns-in-{it} : goal.returns-in-{it}\nreturns-in-{it} c = rw c.in-{it}.is {snake(index_name(name)).upper()}-is\n"
+        for name in singles
+        for it in [variant(name)]
+    )
+    return {
+        "src/index_single_byte.rt": (
+            "//! The indexes of the single-byte encodings: the characters of the bytes from 0x80 on, and U+0000 where there\n"
+            f"//! is none. {BY}\n\n" + "\n".join(tables)
+        ),
+        "specs/IndexSingleByte.antt": (
+            '-- "Legacy single-byte encodings": the index of each, the code points of the bytes from 0x80 on, and 0 where there is\n'
+            f"-- none. {BY}\n{LISTS}{DECLARED}.SingleByte.{{SingleByte}}\n{DECLARED}.SingleByte.TheVariants as single\n\n"
+            + "\n".join(specs)
+            + "\n-- the index of an encoding. ISO-8859-8 and ISO-8859-8-I share one.\n"
+            f"abbrev pub index_of : SingleByte → List ℕ\n{cases}"
+        ),
+        "proofs/SingleByteTables.antt": (
+            f"-- The tables of the single-byte encodings are the Standard's indexes. {BY}\n"
+            "use Rattle.std.specs.Prelude.{◌≡◌, refl}\n"
+            f"use Rattle.html5encodings.specs.IndexSingleByte.{{{indexes_of_own}}}\n"
+            f"use Rattle.html5encodings.specs.declared.index_single_byte.TheConstants.{{{statics}}}\n{same}"
+        ),
+        "proofs/single_byte/index_of/Answers.antt": (
+            f"-- {BY}\nuse Rattle.html5encodings.proofs.SingleByteTables.{{{statics.replace(',', '-is,')}-is}}\n"
+            f"use Rattle.html5encodings.proofs.single_byte.index_of.Goals as goal\n{answers}"
+        ),
+    }
+
+
+def label_files(rows, singles):
+    """The names and the labels."""
+    labelled = [(label, name) for name, labels in rows for label in labels]
+    rust = "".join(f'    ("{label}", {rust_encoding(name)}),\n' for label, name in labelled)
+    spec = "".join(f'    (codes "{label}", {spec_encoding(name)}) ∷\n' for label, name in labelled)
+    single_names = "".join(f'single_byte_name_of single.{variant(name)} = codes "{name}"\n' for name in singles)
+    names = "".join(f'name_of encoding.{VARIANTS[name]} = codes "{name}"\n' for name, _ in rows if name in VARIANTS)
+    return {
+        "src/label_list.rt": (
+            f"//! The labels of the encodings. {BY}\n\nuse crate::encoding::{{Encoding, SingleByte}};\n\n"
+            f"#[rattlefmt::skip]\npub(crate) const LABELS: [(&str, Encoding); {len(labelled)}] = [\n{rust}];\n"
+        ),
+        "specs/Labels.antt": (
+            f'-- "Names and labels". {BY}\n'
+            "use Rattle.std.specs.Prelude.{ℕ, List, [], ◌∷◌, codes}\n"
+            f"{DECLARED}.Encoding.{{Encoding}}\n{DECLARED}.Encoding.TheVariants as encoding\n"
+            f"{DECLARED}.SingleByte.{{SingleByte}}\n{DECLARED}.SingleByte.TheVariants as single\n\n"
+            f"-- the name of a single-byte encoding\nabbrev pub single_byte_name_of : SingleByte → List ℕ\n{single_names}"
+            "\n-- the name of an encoding\nabbrev pub name_of : Encoding → List ℕ\n"
+            f"name_of (encoding.SingleByte s) = single_byte_name_of s\n{names}"
+            "\n-- the labels, each with its encoding\nunfoldable pub labels : List (List ℕ × Encoding)\n"
+            f"labels =\n{spec}    []\n"
+        ),
+    }
 
 
 def sources():
@@ -128,93 +233,8 @@ def sources():
     lists, ranges = indexes()
     rows = encodings()
     singles = [name for name, _ in rows if name not in VARIANTS]
-    single_indexes = [name for name in singles if name != "ISO-8859-8-I"]
-    files = {}
-    for name in TABLES:
-        static, index, module = snake(name).upper(), f"index_{snake(name)}", f"index_{snake(name)}"
-        files[f"src/{module}.rt"] = (
-            f"//! The index {name}: the character of each pointer, and U+0000 where there is none. By tools/encodings.py.\n\n"
-            + rust_table(static, lists[name])
-        )
-        files[f"specs/Index{upper_camel(name)}.antt"] = (
-            f'-- "Indexes": index {name}, the code point of each pointer, and 0 where there is none. By tools/encodings.py.\n'
-            "use Rattle.std.specs.Prelude.{ℕ, List, [], ◌∷◌}\n\n" + spec_table(index, lists[name])
-        )
-    files["src/index_gb18030_ranges.rt"] = (
-        "//! The index gb18030 ranges: pointers, and the code point of each. By tools/encodings.py.\n\n"
-        f"#[rattlefmt::skip]\npub(crate) static GB18030_RANGES: [(u32, u32); {len(ranges)}] = [\n"
-        + "".join("    (%d, 0x%04X),\n" % row for row in ranges) + "];\n"
-    )
-    files["specs/IndexGb18030Ranges.antt"] = (
-        '-- "Indexes": index gb18030 ranges, pointers in order, and the code point of each. By tools/encodings.py.\n'
-        "use Rattle.std.specs.Prelude.{ℕ, List, [], ◌∷◌}\n\n"
-        "unfoldable pub index_gb18030_ranges : List (ℕ × ℕ)\nindex_gb18030_ranges =\n"
-        + "".join("    (%d, 0x%04X) ∷\n" % row for row in ranges) + "    []\n"
-    )
-    files["src/index_single_byte.rt"] = (
-        "//! The indexes of the single-byte encodings: the characters of the bytes from 0x80 on, and U+0000 where there\n"
-        "//! is none. By tools/encodings.py.\n\n"
-        + "\n".join(rust_table(snake(name).upper(), lists[index_name(name)]) for name in single_indexes)
-    )
-    files["specs/IndexSingleByte.antt"] = (
-        '-- "Legacy single-byte encodings": the index of each, the code points of the bytes from 0x80 on, and 0 where there is\n'
-        "-- none. By tools/encodings.py.\n"
-        "use Rattle.std.specs.Prelude.{ℕ, List, [], ◌∷◌}\n"
-        "use Rattle.html5encodings.specs.declared.encoding.SingleByte.{SingleByte}\n"
-        "use Rattle.html5encodings.specs.declared.encoding.SingleByte.TheVariants as single\n\n"
-        + "\n".join(f"-- index {name}\n" + spec_table(f"index_{snake(name)}", lists[index_name(name)]) for name in single_indexes)
-        + "\n-- the index of an encoding. ISO-8859-8 and ISO-8859-8-I share one.\n"
-        "abbrev pub index_of : SingleByte → List ℕ\n"
-        + "".join(f"index_of single.{variant(name)} = index_{snake(index_name(name))}\n" for name in singles)
-    )
-    files["proofs/SingleByteTables.antt"] = (
-        "-- The tables of the single-byte encodings are the Standard's indexes. By tools/encodings.py.\n"
-        "use Rattle.std.specs.Prelude.{◌≡◌, refl}\n"
-        "use Rattle.html5encodings.specs.IndexSingleByte.{" + ", ".join(f"index_{snake(name)}" for name in single_indexes) + "}\n"
-        "use Rattle.html5encodings.specs.declared.index_single_byte.TheConstants.{" + ", ".join(snake(name).upper() for name in single_indexes) + "}\n"
-        + "".join(
-            f"\npub {snake(name).upper()}-is : {snake(name).upper()} ≡ index_{snake(name)}\nunfolding index_{snake(name)}\n{snake(name).upper()}-is = refl\n"
-            for name in single_indexes
-        )
-    )
-    files["proofs/single_byte/index_of/Answers.antt"] = (
-        "-- By tools/encodings.py.\n"
-        "use Rattle.html5encodings.proofs.SingleByteTables.{" + ", ".join(f"{snake(name).upper()}-is" for name in single_indexes) + "}\n"
-        "use Rattle.html5encodings.proofs.single_byte.index_of.Goals as goal\n"
-        + "".join(
-            f"\npub returns-in-{variant(name)} : goal.returns-in-{variant(name)}\nreturns-in-{variant(name)} c = rw c.in-{variant(name)}.is {snake(index_name(name)).upper()}-is\n"
-            for name in singles
-        )
-    )
-    count = sum(len(labels) for _, labels in rows)
-    files["src/label_list.rt"] = (
-        "//! The labels of the encodings. By tools/encodings.py.\n\n"
-        "use crate::encoding::{Encoding, SingleByte};\n\n"
-        f"#[rattlefmt::skip]\npub(crate) const LABELS: [(&str, Encoding); {count}] = [\n"
-        + "".join(
-            f'    ("{label}", {encoding_term(name, "Encoding::", lambda v: f"Encoding::SingleByte(SingleByte::{v})")}),\n'
-            for name, labels in rows
-            for label in labels
-        )
-        + "];\n"
-    )
-    files["specs/Labels.antt"] = (
-        '-- "Names and labels". By tools/encodings.py.\n'
-        "use Rattle.std.specs.Prelude.{ℕ, List, [], ◌∷◌, codes}\n"
-        "use Rattle.html5encodings.specs.declared.encoding.Encoding.{Encoding}\n"
-        "use Rattle.html5encodings.specs.declared.encoding.Encoding.TheVariants as encoding\n"
-        "use Rattle.html5encodings.specs.declared.encoding.SingleByte.{SingleByte}\n"
-        "use Rattle.html5encodings.specs.declared.encoding.SingleByte.TheVariants as single\n\n"
-        "-- the name of a single-byte encoding\nabbrev pub single_byte_name_of : SingleByte → List ℕ\n"
-        + "".join(f'single_byte_name_of single.{variant(name)} = codes "{name}"\n' for name in singles)
-        + "\n-- the name of an encoding\nabbrev pub name_of : Encoding → List ℕ\n"
-        + "name_of (encoding.SingleByte s) = single_byte_name_of s\n"
-        + "".join(f'name_of encoding.{VARIANTS[name]} = codes "{name}"\n' for name, _ in rows if name in VARIANTS)
-        + "\n-- the labels, each with its encoding\nunfoldable pub labels : List (List ℕ × Encoding)\nlabels =\n"
-        + "".join(f'    (codes "{label}", {encoding_term(name, "encoding.", lambda v: f"encoding.SingleByte single.{v}")}) ∷\n' for name, labels in rows for label in labels)
-        + "    []\n"
-    )
-    return files
+    parts = [table_files(lists), range_files(ranges), single_byte_files(lists, singles), label_files(rows, singles)]
+    return {path: text for part in parts for path, text in part.items()}
 
 
 def check():

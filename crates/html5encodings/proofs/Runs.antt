@@ -27,7 +27,7 @@ use Rattle.html5encodings.specs.Gb18030 as gb18030
 use Rattle.html5encodings.specs.Iso2022Jp as iso_2022_jp
 use Rattle.html5encodings.specs.ShiftJis as shift_jis
 use Rattle.html5encodings.specs.SingleByte as single_byte
-use Rattle.html5encodings.specs.Small.{user_defined}
+use Rattle.html5encodings.specs.Miscellaneous.{user_defined}
 use Rattle.html5encodings.specs.declared.encoding.SingleByte.{SingleByte}
 
 -- ---- bytes after bytes

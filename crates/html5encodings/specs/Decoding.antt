@@ -15,7 +15,7 @@ use Rattle.html5encodings.specs.Gb18030 as gb18030
 use Rattle.html5encodings.specs.Iso2022Jp as iso_2022_jp
 use Rattle.html5encodings.specs.ShiftJis as shift_jis
 use Rattle.html5encodings.specs.SingleByte as single_byte
-use Rattle.html5encodings.specs.Small.{replaced, user_defined}
+use Rattle.html5encodings.specs.Miscellaneous.{replaced, user_defined}
 use Rattle.html5encodings.specs.Utf8 as utf8
 use Rattle.html5encodings.specs.Utf16 as utf16
 

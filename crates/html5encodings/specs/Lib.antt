@@ -13,9 +13,9 @@ pub mod IndexJis0212
 pub mod IndexSingleByte
 pub mod Iso2022Jp
 pub mod Labels
+pub mod Miscellaneous
 pub mod ShiftJis
 pub mod SingleByte
-pub mod Small
 pub mod Steps
 pub mod Utf16
 pub mod Utf8

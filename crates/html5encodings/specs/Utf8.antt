@@ -7,16 +7,32 @@ use Rattle.html5encodings.specs.declared.utf8.Partial.{Partial}
 abbrev pub Handled : Type 0
 Handled = List ℕ × Option Partial
 
+-- what the first byte of two, of three and of four bytes leaves
+abbrev pub of_two : ℕ → Partial
+of_two byte = record { code_point = byte - 0xC0; needed = 1; lower = 0x80; upper = 0xBF }
+
+abbrev pub of_three : ℕ → Partial
+of_three byte = record {
+  code_point = byte - 0xE0;
+  needed = 2;
+  lower = if byte == 0xE0 then 0xA0 else 0x80;
+  upper = if byte == 0xED then 0x9F else 0xBF;
+}
+
+abbrev pub of_four : ℕ → Partial
+of_four byte = record {
+  code_point = byte - 0xF0;
+  needed = 3;
+  lower = if byte == 0xF0 then 0x90 else 0x80;
+  upper = if byte == 0xF4 then 0x8F else 0xBF;
+}
+
 -- a byte where none is needed
 abbrev pub alone : ℕ → Handled
 alone byte = if nat_lt byte 0x80 then (byte ∷ [], None)
-    else (if is_in_range 0xC2 0xDF byte
-    then ([], Some (record { code_point = byte - 0xC0; needed = 1; lower = 0x80; upper = 0xBF }))
-    else (if is_in_range 0xE0 0xEF byte
-    then ([], Some (record { code_point = byte - 0xE0; needed = 2; lower = if byte == 0xE0 then 0xA0 else 0x80; upper = if byte == 0xED then 0x9F else 0xBF }))
-    else (if is_in_range 0xF0 0xF4 byte
-    then ([], Some (record { code_point = byte - 0xF0; needed = 3; lower = if byte == 0xF0 then 0x90 else 0x80; upper = if byte == 0xF4 then 0x8F else 0xBF }))
-    else (0xFFFD ∷ [], None))))
+    else (if is_in_range 0xC2 0xDF byte then ([], Some (of_two byte))
+    else (if is_in_range 0xE0 0xEF byte then ([], Some (of_three byte))
+    else (if is_in_range 0xF0 0xF4 byte then ([], Some (of_four byte)) else (0xFFFD ∷ [], None))))
 
 -- the code point with one more byte
 abbrev pub joined : Partial → ℕ → ℕ

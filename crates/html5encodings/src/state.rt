@@ -6,7 +6,7 @@ ghost use Rattle.html5encodings.specs.Steps.{Adds};
 use crate::encoding::{Encoding, SingleByte};
 use crate::front::{ascii_len, plain_len, text_len};
 use crate::iso_2022_jp::{self, Begun, Charset, Iso2022Jp};
-use crate::small::{append_replaced, append_user_defined};
+use crate::miscellaneous::{append_replaced, append_user_defined};
 use crate::steps::error_if;
 use crate::utf8::{self, Partial};
 use crate::utf16::{self, SharedUtf16};

@@ -1,6 +1,6 @@
 //! The UTF-8 decoder.
 ghost use Rattle.std.specs.Prelude.{◌≡◌, ◌≤◌, ◌<◌, ◌+◌, ◌*◌, ◌-◌, IfOk, IfSome, OnOk};
-ghost use Rattle.html5encodings.specs.Utf8.{IsPartial, alone, handled, joined};
+ghost use Rattle.html5encodings.specs.Utf8.{IsPartial, alone, handled, joined, of_four, of_three, of_two};
 ghost use Rattle.html5encodings.specs.Steps.{Adds};
 
 use std::alloc::{AllocError, Allocator};
@@ -68,25 +68,56 @@ fn begun(byte: u8) -> Option<Partial>
     ensures partial { IfSome result IsPartial }
 {
     match byte {
-        0xC2..=0xDF => Some(Partial {
-            code_point: byte as u32 - 0xC0,
-            needed: 1,
-            lower: 0x80,
-            upper: 0xBF,
-        }),
-        0xE0..=0xEF => Some(Partial {
-            code_point: byte as u32 - 0xE0,
-            needed: 2,
-            lower: if byte == 0xE0 { 0xA0 } else { 0x80 },
-            upper: if byte == 0xED { 0x9F } else { 0xBF },
-        }),
-        0xF0..=0xF4 => Some(Partial {
-            code_point: byte as u32 - 0xF0,
-            needed: 3,
-            lower: if byte == 0xF0 { 0x90 } else { 0x80 },
-            upper: if byte == 0xF4 { 0x8F } else { 0xBF },
-        }),
+        0xC2..=0xDF => Some(of_two(byte)),
+        0xE0..=0xEF => Some(of_three(byte)),
+        0xF0..=0xF4 => Some(of_four(byte)),
         _ => None,
+    }
+}
+
+// What the first byte of two leaves.
+fn of_two(byte: u8) -> Partial
+    requires from { 0xC2 ≤ byte }
+    requires to { byte ≤ 0xDF }
+    ensures value { result ≡ of_two byte }
+    ensures partial { IsPartial result }
+{
+    Partial {
+        code_point: byte as u32 - 0xC0,
+        needed: 1,
+        lower: 0x80,
+        upper: 0xBF,
+    }
+}
+
+// What the first byte of three leaves: no character is written with more bytes than it needs, and none
+// is a surrogate.
+fn of_three(byte: u8) -> Partial
+    requires from { 0xE0 ≤ byte }
+    requires to { byte ≤ 0xEF }
+    ensures value { result ≡ of_three byte }
+    ensures partial { IsPartial result }
+{
+    Partial {
+        code_point: byte as u32 - 0xE0,
+        needed: 2,
+        lower: if byte == 0xE0 { 0xA0 } else { 0x80 },
+        upper: if byte == 0xED { 0x9F } else { 0xBF },
+    }
+}
+
+// What the first byte of four leaves: no number is past U+10FFFF.
+fn of_four(byte: u8) -> Partial
+    requires from { 0xF0 ≤ byte }
+    requires to { byte ≤ 0xF4 }
+    ensures value { result ≡ of_four byte }
+    ensures partial { IsPartial result }
+{
+    Partial {
+        code_point: byte as u32 - 0xF0,
+        needed: 3,
+        lower: if byte == 0xF0 { 0x90 } else { 0x80 },
+        upper: if byte == 0xF4 { 0x8F } else { 0xBF },
     }
 }
 

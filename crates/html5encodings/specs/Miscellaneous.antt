@@ -1,4 +1,4 @@
--- "replacement decoder" and "x-user-defined decoder"
+-- "Legacy miscellaneous encodings": "replacement decoder" and "x-user-defined decoder"
 use Rattle.std.specs.Prelude.{ℕ, ◌+◌, ◌-◌, nat_lt, Bool, not, List, [], ◌∷◌, if◌then◌else◌}
 use Rattle.html5encodings.specs.Steps.{error_if}
 

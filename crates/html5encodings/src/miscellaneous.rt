@@ -1,6 +1,6 @@
 //! The replacement decoder and x-user-defined.
 ghost use Rattle.std.specs.Prelude.{◌≡◌, ◌+◌, ◌-◌, ◌≤◌, OnOk};
-ghost use Rattle.html5encodings.specs.Small.{replaced, user_defined};
+ghost use Rattle.html5encodings.specs.Miscellaneous.{replaced, user_defined};
 ghost use Rattle.html5encodings.specs.Steps.{Adds};
 
 use std::alloc::{AllocError, Allocator};
