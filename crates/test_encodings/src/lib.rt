@@ -1,10 +1,12 @@
 //! Worked cases of encodings: names and labels, byte order marks, texts of bytes that are cut anywhere,
-//! and refused growths. What is expected is from the Encoding Standard, by hand.
+//! sources, and refused growths. What is expected is from the Encoding Standard, by hand.
 #![tactic(auto)]
 
 #[cfg(test)]
 mod labels;
 #[cfg(test)]
 mod refused;
+#[cfg(test)]
+mod sources;
 #[cfg(test)]
 mod texts;
