@@ -52,6 +52,25 @@ fn texts_of_sources(rt: HostRuntime) {
     }
 }
 
+// The text of a source in the encoding that a label names.
+fn text_of<S: Source + Drop>(
+    alloc: Global,
+    label: &str,
+    source: S,
+) -> Option<Result<Vec<u8>, Fault>> {
+    let encoding = Encoding::for_label(label)?;
+    let mut text = DecodedSource::new(alloc, source, encoding);
+    Some(read_to_end(alloc, &mut text))
+}
+
+#[test]
+fn a_text_of_a_source(rt: HostRuntime) {
+    match text_of(rt.alloc(), " Latin1", PieceSource::new(b"caf\xe9", 1)) {
+        Some(Ok(text)) => assert_eq!(rt; text.as_slice(), "caf\u{e9}".as_bytes()),
+        _ => panic!(rt; "no text"),
+    }
+}
+
 // Characters longer than there is room for are given by parts, the one at the end too.
 #[test]
 fn characters_are_given_by_parts(rt: HostRuntime) {
