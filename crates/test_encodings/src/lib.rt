@@ -1,9 +1,11 @@
 //! Worked cases of encodings: names and labels, byte order marks, texts of bytes that are cut anywhere,
-//! sources, and refused growths. What is expected is from the Encoding Standard, by hand.
+//! sources, a page, and refused growths. What is expected is from the Encoding Standard, by hand.
 #![tactic(auto)]
 
 #[cfg(test)]
 mod labels;
+#[cfg(test)]
+mod pages;
 #[cfg(test)]
 mod refused;
 #[cfg(test)]
