@@ -121,9 +121,8 @@ html5_status html5_insert(html5_handle *handle, const uint8_t *text, size_t len)
 
 /*
  * Reads what follows in a state (one of enum html5_state), as a tree builder asks after a start tag. Raw text is read up to
- * the end tag of the last start tag. It answers HTML5_ITEM_OPEN, and changes nothing, within a tag or another item, which
- * is never so after a pause; HTML5_OVER where nothing more is read, whatever the state; and else HTML5_BAD_OPTION where
- * the state is none.
+ * the end tag of the last start tag. It changes nothing, and answers HTML5_OVER, where nothing more is read, whatever the
+ * state; else HTML5_BAD_OPTION, where the state is none; else HTML5_ITEM_OPEN, within a tag or another item.
  */
 html5_status html5_reply(html5_handle *handle, uint32_t state);
 
