@@ -85,9 +85,56 @@ static void says_where_bytes_are_no_text(void) {
     CHECK(feed(&handle, "<b>") == HTML5_DONE);
     CHECK(feed(&handle, "c\xff") == HTML5_NOT_UTF8);
     CHECK(html5_error_at(&handle) == 4);
-    CHECK(TAKES(&handle, 8, "\x03<b>"));
-    CHECK(feed(&handle, "c") == HTML5_DONE);
+    CHECK(TAKES(&handle, 8, "\x03<b>c"));
+    CHECK(feed(&handle, "d") == HTML5_DONE);
     CHECK(html5_end(&handle) == HTML5_DONE);
+    html5_free(&handle);
+}
+
+static void pauses_before_bytes_that_are_no_text(void) {
+    html5_handle handle = {0};
+    html5_options options = {.replies = HTML5_PAUSING_REPLIES};
+    CHECK(open_after(&handle, "", options) == HTML5_DONE);
+    CHECK(feed(&handle, "<script></script>a\xff") == HTML5_SCRIPT);
+    CHECK(html5_end(&handle) == HTML5_WAITING);
+    CHECK(feed(&handle, "b") == HTML5_NOT_UTF8);
+    CHECK(html5_error_at(&handle) == 18);
+    CHECK(feed(&handle, "<meta charset=x>\xff") == HTML5_ENCODING);
+    CHECK(html5_end(&handle) == HTML5_NOT_UTF8);
+    CHECK(html5_error_at(&handle) == 34);
+    CHECK(html5_end(&handle) == HTML5_DONE);
+    html5_free(&handle);
+}
+
+/* Takes all that waits. */
+static void take_all(html5_handle *handle) {
+    uint8_t out[256];
+    while (html5_take(handle, out, sizeof out)) {
+    }
+}
+
+static void holds_no_more_than_its_limit(void) {
+    html5_handle handle = {0};
+    html5_options options = {0};
+    CHECK(html5_set_limit(&handle, 10) == HTML5_CLOSED);
+    CHECK(open_after(&handle, "", options) == HTML5_DONE);
+    CHECK(html5_set_limit(&handle, 10) == HTML5_DONE);
+    CHECK(feed(&handle, "<a href=abc") == HTML5_LIMIT);
+    CHECK(feed(&handle, "<a href=ab") == HTML5_DONE);
+    CHECK(feed(&handle, ">") == HTML5_LIMIT);
+    CHECK(html5_set_limit(&handle, 11) == HTML5_DONE);
+    CHECK(feed(&handle, ">") == HTML5_DONE);
+    CHECK(feed(&handle, "x") == HTML5_LIMIT);
+    take_all(&handle);
+    CHECK(feed(&handle, "0123456789a") == HTML5_DONE);
+    CHECK(insert(&handle, "\xff") == HTML5_LIMIT);
+    take_all(&handle);
+    CHECK(insert(&handle, "\xff") == HTML5_NOT_UTF8);
+    CHECK(insert(&handle, "0123456789ab") == HTML5_LIMIT);
+    CHECK(insert(&handle, "0123456789a") == HTML5_DONE);
+    CHECK(html5_feed(&handle, NULL, 0) == HTML5_DONE);
+    CHECK(html5_end(&handle) == HTML5_DONE);
+    CHECK(feed(&handle, "0123456789ab") == HTML5_OVER);
     html5_free(&handle);
 }
 
@@ -183,6 +230,8 @@ int main(void) {
     reads_a_page_in_pieces();
     pauses_and_lets_text_in();
     says_where_bytes_are_no_text();
+    pauses_before_bytes_that_are_no_text();
+    holds_no_more_than_its_limit();
     says_why_there_is_no_token();
     lets_the_caller_reply();
     is_closed_until_it_is_opened();

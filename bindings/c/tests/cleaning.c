@@ -65,9 +65,29 @@ static void says_where_bytes_are_no_text(void) {
     CHECK(feed(&cleaner, "c\xff") == HTML5_NOT_UTF8);
     CHECK(html5_cleaner_error_at(&cleaner) == 6);
     CHECK(!html5_cleaner_is_over(&cleaner));
-    CHECK(feed(&cleaner, "c") == HTML5_DONE);
+    CHECK(feed(&cleaner, "d") == HTML5_DONE);
     CHECK(html5_cleaner_end(&cleaner) == HTML5_DONE);
-    CHECK(takes(&cleaner, 256, "<p>abc"));
+    CHECK(takes(&cleaner, 256, "<p>abcd"));
+    html5_free(&cleaner);
+}
+
+static void holds_no_more_than_its_limit(void) {
+    html5_handle cleaner = {0};
+    uint64_t place;
+    CHECK(open_by(&cleaner, "allow b\n", &place) == HTML5_DONE);
+    CHECK(html5_set_limit(&cleaner, 4) == HTML5_DONE);
+    CHECK(feed(&cleaner, "<b>12") == HTML5_LIMIT);
+    CHECK(feed(&cleaner, "<b>1") == HTML5_DONE);
+    CHECK(feed(&cleaner, "<i") == HTML5_LIMIT);
+    CHECK(takes(&cleaner, 256, "<b>"));
+    CHECK(feed(&cleaner, "<i x") == HTML5_DONE);
+    CHECK(feed(&cleaner, "y") == HTML5_LIMIT);
+    CHECK(html5_cleaner_restart(&cleaner) == HTML5_DONE);
+    CHECK(feed(&cleaner, "12345") == HTML5_LIMIT);
+    CHECK(html5_set_limit(&cleaner, UINT64_MAX) == HTML5_DONE);
+    CHECK(feed(&cleaner, "12345") == HTML5_DONE);
+    CHECK(html5_cleaner_end(&cleaner) == HTML5_DONE);
+    CHECK(takes(&cleaner, 256, "12345"));
     html5_free(&cleaner);
 }
 
@@ -127,6 +147,7 @@ static void is_of_one_kind_at_a_time(void) {
 int main(void) {
     cleans_a_page_in_pieces();
     says_where_bytes_are_no_text();
+    holds_no_more_than_its_limit();
     says_which_rule_is_wrong();
     is_closed_until_it_is_opened();
     is_of_one_kind_at_a_time();

@@ -21,6 +21,7 @@ from firnuubal import Comment, Doctype, End, EndTag, Fed, Instruction, NullChara
 _PIECE = 1 << 16
 _SPACES = "".join(spaceCharacters)
 _CHARACTERS, _SPACE_CHARACTERS = tokenTypes["Characters"], tokenTypes["SpaceCharacters"]
+_START_TAG, _END_TAG = tokenTypes["StartTag"], tokenTypes["EndTag"]
 
 
 def _texts(text):
@@ -36,7 +37,7 @@ def _texts(text):
 
 def _tag(kind, tag, attributes):
     return {
-        "type": tokenTypes[kind],
+        "type": kind,
         "name": tag.name,
         "data": attributes,
         "selfClosing": tag.self_closing,
@@ -57,8 +58,8 @@ def _doctype(token):
 # The tokens of html5lib that a token is, by its kind.
 _MADE = {
     Text: lambda token: _texts(token.text),
-    StartTag: lambda token: [_tag("StartTag", token, dict(token.attributes))],
-    EndTag: lambda token: [_tag("EndTag", token, [])],
+    StartTag: lambda token: [_tag(_START_TAG, token, dict(token.attributes))],
+    EndTag: lambda token: [_tag(_END_TAG, token, [])],
     Comment: lambda token: [{"type": tokenTypes["Comment"], "data": token.text}],
     Instruction: lambda token: [{"type": tokenTypes["Comment"], "data": "?" + token.content}],
     Doctype: lambda token: [_doctype(token)],
@@ -100,24 +101,22 @@ class HTMLTokenizer:
         options = {"replies": Replies.CALLER, "state": self._state, "keep_bom": True}
         self._foreign = False
         with firnuubal.Tokenizer(**options) as self._tokenizer:
-            feed = self._tokenizer.feed
+            feed, tokens = self._tokenizer.feed, self._tokenizer.tokens
             while piece := self.stream.dataStream.read(_PIECE):
                 fed = feed(piece.encode(errors="replace"))
-                yield from self._told()
+                for token in tokens():
+                    self._line = token.line
+                    yield from _MADE[type(token)](token)
                 while fed is Fed.TAG:
                     self._follow_foreign()
                     fed = feed(b"")
-                    for token in self._tokenizer.tokens():
+                    for token in tokens():
                         self._line = token.line
                         yield from _MADE[type(token)](token)
             self._tokenizer.end()
-            yield from self._told()
+            for token in tokens():
+                yield from _MADE[type(token)](token)
         self._tokenizer = None
-
-    def _told(self):
-        for token in self._tokenizer.tokens():
-            self._line = token.line
-            yield from _MADE[type(token)](token)
 
     def _follow_foreign(self):
         """Says whether content is foreign, by the tree that the tags so far have made."""

@@ -55,7 +55,19 @@ class Cleaning(unittest.TestCase):
             with self.assertRaises(TokenizerError) as refused:
                 cleaner.feed(b"c\xff")
             self.assertEqual((refused.exception.status, refused.exception.at), (Status.NOT_UTF8, 6))
+            self.assertEqual(cleaner.feed("<b>"), "<p>abc<b>")
             self.assertEqual(cleaner.clean("<p>1"), "<p>1")
+
+    def test_a_limit(self):
+        with Cleaner(limit=5) as cleaner:
+            with self.assertRaises(TokenizerError) as refused:
+                cleaner.feed(b"<p>ab1")
+            self.assertEqual(refused.exception.status, Status.LIMIT)
+            self.assertEqual(cleaner.feed(b"<p>ab"), "<p>")
+            with self.assertRaises(TokenizerError) as refused:
+                cleaner.feed(b"<i x=1")
+            self.assertEqual(refused.exception.status, Status.LIMIT)
+            self.assertEqual(cleaner.feed(b"<i x="), "")
 
     def test_a_character_that_is_cut(self):
         with self.assertRaises(TokenizerError) as refused:

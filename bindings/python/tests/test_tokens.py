@@ -66,6 +66,30 @@ class Calls(unittest.TestCase):
                 tokenizer.feed(b"c\xff")
             self.assertEqual((refused.exception.status, refused.exception.at), (Status.NOT_UTF8, 6))
             self.assertIsInstance(next(tokenizer.tokens()), StartTag)
+            tokenizer.feed("\ufffd")
+            tokenizer.end()
+            self.assertEqual(next(tokenizer.tokens()), Text(1, "abc\ufffd"))
+
+    def test_a_pause_before_bytes_that_are_no_text(self):
+        with Tokenizer(replies=Replies.PAUSING) as tokenizer:
+            self.assertEqual(tokenizer.feed(b"<meta charset=x>a\xff"), Fed.ENCODING)
+            with self.assertRaises(TokenizerError) as refused:
+                tokenizer.feed(b"")
+            self.assertEqual((refused.exception.status, refused.exception.at), (Status.NOT_UTF8, 17))
+
+    def test_tokens_come_before_the_error(self):
+        read = tokens(b"<p>a\xffb")
+        self.assertEqual(next(read), StartTag(1, "p", (), False, False))
+        with self.assertRaises(TokenizerError):
+            next(read)
+
+    def test_a_limit(self):
+        with Tokenizer(limit=10) as tokenizer:
+            tokenizer.feed(b"<a href=ab")
+            with self.assertRaises(TokenizerError) as refused:
+                tokenizer.feed(b"c")
+            self.assertEqual(refused.exception.status, Status.LIMIT)
+            self.assertFalse(tokenizer.is_over())
 
     def test_a_character_that_is_cut(self):
         with Tokenizer() as tokenizer:

@@ -197,7 +197,14 @@ impl Cleaner {
         }
     }
 
-    /// Reads the next bytes, in pieces of any size.
+    /// Sets how many bytes may be held: what was fed since all was read and no item was open, and what was not taken. A
+    /// piece that goes past it is [`Error::Limit`].
+    pub fn set_limit(&mut self, limit: u64) -> Result<(), Error> {
+        let status = unsafe { raw::html5_set_limit(&mut self.handle, limit) };
+        self.done_or_error(status)
+    }
+
+    /// Reads the next bytes, in pieces of any size. Where bytes are no UTF-8, all before them is read.
     pub fn feed(&mut self, bytes: &[u8]) -> Result<(), Error> {
         let status = unsafe { raw::html5_cleaner_feed(&mut self.handle, bytes.as_ptr(), bytes.len()) };
         self.done_or_error(status)

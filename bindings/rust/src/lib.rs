@@ -85,6 +85,9 @@ pub struct Options<'o> {
     pub keep_bom: bool,
     /// All content is foreign: `<![CDATA[` opens a section.
     pub foreign: bool,
+    /// How many bytes may be held: what was fed since all was read and no item was open, and the records of tokens that
+    /// were not read. A piece that goes past it is [`Error::Limit`].
+    pub limit: Option<u64>,
 }
 
 /// What a feed came to.
@@ -105,7 +108,7 @@ pub enum Fed {
 pub enum Error {
     /// A request for memory was refused.
     NoMemory,
-    /// The byte at this place, counted from the page's first, is no UTF-8.
+    /// The byte at this place, counted from the first that was fed, is no UTF-8. All before it was read.
     NotUtf8 {
         /// The place.
         at: u64,
@@ -116,6 +119,8 @@ pub enum Error {
     Waiting,
     /// A tag or another item is open, so no state can be set.
     ItemOpen,
+    /// More bytes would be held than the limit. The piece was not taken.
+    Limit,
     /// The page has ended, or an earlier call was refused for good.
     Over,
     /// A policy takes no such rule as the one on this line.
@@ -134,6 +139,7 @@ impl Error {
             5 => Error::Cut,
             6 => Error::Waiting,
             13 => Error::ItemOpen,
+            14 => Error::Limit,
             _ => Error::Over,
         }
     }
@@ -147,6 +153,7 @@ impl fmt::Display for Error {
             Error::Cut => f.write_str("the input ends within a character"),
             Error::Waiting => f.write_str("text waits after a pause"),
             Error::ItemOpen => f.write_str("a tag or another item is open"),
+            Error::Limit => f.write_str("more bytes would be held than the limit"),
             Error::Over => f.write_str("the reading is over"),
             Error::BadPolicy { line } => write!(f, "line {line} is no rule that a policy takes"),
         }
@@ -184,10 +191,17 @@ impl Tokenizer {
         let last = options.last_start_tag;
         let status = unsafe { raw::html5_new(&mut tokenizer.handle, last.as_ptr(), last.len(), &raw) };
         tokenizer.fed_or_error(status)?;
+        if let Some(limit) = options.limit {
+            let status = unsafe { raw::html5_set_limit(&mut tokenizer.handle, limit) };
+            tokenizer.fed_or_error(status)?;
+        }
         Ok(tokenizer)
     }
 
     /// Reads the next bytes, in pieces of any size. After a pause it goes on, with what waits and these bytes.
+    ///
+    /// Where bytes are no UTF-8, all before them is read, and then it is refused. A pause before them comes first: then no
+    /// feed takes anything until that was said.
     pub fn feed(&mut self, bytes: &[u8]) -> Result<Fed, Error> {
         let status = unsafe { raw::html5_feed(&mut self.handle, bytes.as_ptr(), bytes.len()) };
         self.fed_or_error(status)

@@ -30,6 +30,7 @@ extern "C" {
     pub(crate) fn html5_insert(handle: *mut Handle, text: *const u8, len: usize) -> u32;
     pub(crate) fn html5_reply(handle: *mut Handle, state: u32) -> u32;
     pub(crate) fn html5_set_foreign(handle: *mut Handle, foreign: bool) -> u32;
+    pub(crate) fn html5_set_limit(handle: *mut Handle, limit: u64) -> u32;
     pub(crate) fn html5_end(handle: *mut Handle) -> u32;
     pub(crate) fn html5_take(handle: *mut Handle, out: *mut u8, len: usize) -> usize;
     pub(crate) fn html5_error_at(handle: *mut Handle) -> u64;

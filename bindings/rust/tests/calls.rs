@@ -51,6 +51,8 @@ fn refusals() -> Result<(), Error> {
     let mut tokenizer = Tokenizer::new(&Options::default())?;
     tokenizer.feed(b"<p>ab")?;
     assert_eq!(tokenizer.feed(b"c\xFF"), Err(Error::NotUtf8 { at: 6 }));
+    tokenizer.end()?;
+    assert_eq!(shown(&mut tokenizer), "<p>[abc]end 1");
     let mut tokenizer = Tokenizer::new(&Options::default())?;
     tokenizer.feed(&[0xC3])?;
     assert_eq!(tokenizer.end(), Err(Error::Cut));
@@ -59,6 +61,15 @@ fn refusals() -> Result<(), Error> {
     tokenizer.end()?;
     assert!(tokenizer.is_over());
     assert_eq!(tokenizer.feed(b"x"), Err(Error::Over));
+    Ok(())
+}
+
+#[test]
+fn a_limit() -> Result<(), Error> {
+    let mut tokenizer = Tokenizer::new(&Options { limit: Some(10), ..Options::default() })?;
+    tokenizer.feed(b"<a href=ab")?;
+    assert_eq!(tokenizer.feed(b">"), Err(Error::Limit));
+    assert!(!tokenizer.is_over());
     Ok(())
 }
 

@@ -55,7 +55,10 @@ fn refusals() -> Result<(), Error> {
     assert_eq!(cleaner.feed(b"c\xFF"), Err(Error::NotUtf8 { at: 6 }));
     cleaner.feed(&[0xC3])?;
     assert_eq!(cleaner.end(), Err(Error::Cut));
+    assert_eq!(cleaner.take(), "<p>");
     cleaner.restart()?;
+    cleaner.set_limit(4)?;
+    assert_eq!(cleaner.feed(b"<p>ab"), Err(Error::Limit));
     cleaner.end()?;
     assert_eq!(cleaner.feed(b"x"), Err(Error::Over));
     Ok(())

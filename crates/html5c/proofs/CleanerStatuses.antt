@@ -1,71 +1,83 @@
 -- What a call of the cleaner did, by the status that it answers.
-use Rattle.std.proofs.Common.{◌≡◌, ◌↔◌, ℕ, true, false, List, ◌++◌, Option, None, Some, refl, inl, inr, arith}
-use Rattle.utf8_pieces.specs.Pieces.{IsNeverUtf8}
+use Rattle.std.proofs.Common.{◌≡◌, ◌↔◌, ℕ, true, false, List, length, Option, None, Some, refl, inl, inr, arith}
 use Rattle.html5c.proofs.Going.{over_is, refused_going}
-use Rattle.html5c.specs.CleanerCalls.{CleanerEndSays, CleanerFeedSays, IsCleanerStart, NewCleanerSays, PolicyFails, cleaning_status, fault_place, fault_status}
+use Rattle.html5c.specs.CleanerCalls.{CleanerEndSays, CleanerFeedSays, IsCleanerStart, NewCleanerSays, PolicyFails, fault_place, fault_status}
 use Rattle.html5c.specs.Slots.{cleaner_of}
 use Rattle.html5c.specs.declared.cleaner_opening.PolicyFault.{PolicyFault}
 use Rattle.html5c.specs.declared.cleaner_opening.PolicyFault.TheVariants as fault
 use Rattle.html5c.specs.declared.slot.PageSlot.{PageSlot}
 use Rattle.html5c.specs.declared.slot.PageSlot.TheVariants.{Tokenizer, Cleaner, Lent}
-use Rattle.html5cleaning.specs.Cleaning.{CleaningOf, EndRefused, EndsPage, FeedRefused, FeedsPiece, IsNotUtf8, is_over}
-use Rattle.html5cleaning.specs.declared.error.CleaningError.{CleaningError}
-use Rattle.html5cleaning.specs.declared.error.CleaningError.TheVariants.{Memory, NotUtf8, Cut, Over}
-
-memory_no_over : ◌≡◌ {A = CleaningError} Memory Over → ⊥
-memory_no_over same = cc
-
-not_utf8_no_over : (place : ℕ) → ◌≡◌ {A = CleaningError} (NotUtf8 place) Over → ⊥
-not_utf8_no_over place same = cc
-
-cut_no_over : ◌≡◌ {A = CleaningError} Cut Over → ⊥
-cut_no_over same = cc
+use Rattle.html5cleaning.specs.Cleaning.{CleaningOf, EndRefused, EndsPage, FeedRefused, FeedsPiece, fits_in}
+use Rattle.html5c.proofs.Statuses.{cut_no_over, either, memory_no_over, not_utf8_no_over}
+use Rattle.html5c.specs.Calls.{error_status}
+use Rattle.html5session.specs.Session.{is_over}
+use Rattle.html5session.specs.declared.error.SessionError.{SessionError}
+use Rattle.html5session.specs.declared.error.SessionError.TheVariants.{Memory, NotUtf8, Cut, Waiting, ItemOpen, Over}
 
 -- the status of a feed that was answered, or refused
 
-pub feed_says-done : (old new : CleaningOf) (bytes : List ℕ) → FeedsPiece old new bytes → is_over old ≡ false
-    → ¬ (IsNeverUtf8 (old.decoder.held ++ bytes)) → CleanerFeedSays old new bytes 0
-feed_says-done old new bytes feeds going possible = record {
+pub feed_says-done : (old new : CleaningOf) (bytes : List ℕ) → FeedsPiece old new bytes → is_over old ≡ false → fits_in old (length bytes) ≡ true
+    → CleanerFeedSays old new bytes 0
+feed_says-done old new bytes feeds going room = record {
   done = λ _. feeds;
   no_memory = λ e. absurd (omega (arith, e));
-  not_utf8 = (λ e. absurd (omega (arith, e)), λ is. absurd (possible is.1));
-  place = λ e. absurd (omega (arith, e));
+  not_utf8 = λ e. absurd (omega (arith, e));
+  limit = (λ e. absurd (omega (arith, e)), λ is. absurd (over_is (fits_in old (length bytes)) is.1 room));
   over = (λ e. absurd (omega (arith, e)), λ was. absurd (over_is (is_over old) going was));
-  unchanged = λ was. absurd (over_is (is_over old) going was);
+  unchanged = either (λ e. absurd (omega (arith, e))) (λ e. absurd (omega (arith, e)));
   only = inl refl;
 }
 
-pub feed_says-error : (old new : CleaningOf) (bytes : List ℕ) (error : CleaningError) → FeedRefused old new bytes error
-    → ((error ≡ Over) ↔ (is_over old ≡ true))
-    → (is_over old ≡ false → IsNeverUtf8 (old.decoder.held ++ bytes) → IsNotUtf8 error)
-    → CleanerFeedSays old new bytes (cleaning_status error)
-feed_says-error old new bytes Memory refused over never = record {
-  done = λ e. absurd (omega (arith, e));
-  no_memory = λ _. refused;
-  not_utf8 = (λ e. absurd (omega (arith, e)), λ is. absurd (never is.0 is.1));
-  place = λ e. absurd (omega (arith, e));
-  over = (λ e. absurd (omega (arith, e)), λ was. absurd (memory_no_over (over.1 was)));
-  unchanged = λ was. absurd (memory_no_over (over.1 was));
-  only = inr (inl refl);
-}
-feed_says-error old new bytes (NotUtf8 place) refused over never = record {
+pub feed_says-limit : (old new : CleaningOf) (bytes : List ℕ) → is_over old ≡ false → fits_in old (length bytes) ≡ false → new ≡ old
+    → CleanerFeedSays old new bytes 14
+feed_says-limit old new bytes going full same = record {
   done = λ e. absurd (omega (arith, e));
   no_memory = λ e. absurd (omega (arith, e));
-  not_utf8 = (λ _. (refused_going (NotUtf8 place) Over (is_over old) over (not_utf8_no_over place), refused.never), λ _. refl);
-  place = λ _. (place, refused);
-  over = (λ e. absurd (omega (arith, e)), λ was. absurd (not_utf8_no_over place (over.1 was)));
-  unchanged = λ was. absurd (not_utf8_no_over place (over.1 was));
-  only = inr (inr (inl refl));
+  not_utf8 = λ e. absurd (omega (arith, e));
+  limit = (λ _. (going, full), λ _. refl);
+  over = (λ e. absurd (omega (arith, e)), λ was. absurd (over_is (is_over old) going was));
+  unchanged = λ _. same;
+  only = inr (inr (inr (inr refl)));
 }
-feed_says-error old new bytes Cut refused over never = absurd refused
-feed_says-error old new bytes Over refused over never = record {
+
+pub feed_says-error : (old new : CleaningOf) (bytes : List ℕ) (error : SessionError) → FeedRefused old new bytes error
+    → ((error ≡ Over) ↔ (is_over old ≡ true)) → (is_over old ≡ false → fits_in old (length bytes) ≡ true)
+    → CleanerFeedSays old new bytes (error_status error)
+feed_says-error old new bytes Memory refused over fits =
+    let going = refused_going Memory Over (is_over old) over memory_no_over in
+    let room = fits going in
+    record {
+      done = λ e. absurd (omega (arith, e));
+      no_memory = λ _. refused;
+      not_utf8 = λ e. absurd (omega (arith, e));
+      limit = (λ e. absurd (omega (arith, e)), λ is. absurd (over_is (fits_in old (length bytes)) is.1 room));
+      over = (λ e. absurd (omega (arith, e)), λ was. absurd (over_is (is_over old) going was));
+      unchanged = either (λ e. absurd (omega (arith, e))) (λ e. absurd (omega (arith, e)));
+      only = inr (inl refl);
+    }
+feed_says-error old new bytes (NotUtf8 place) refused over fits =
+    let going = refused_going (NotUtf8 place) Over (is_over old) over (not_utf8_no_over place) in
+    let room = fits going in
+    record {
+      done = λ e. absurd (omega (arith, e));
+      no_memory = λ e. absurd (omega (arith, e));
+      not_utf8 = λ _. (place, refused);
+      limit = (λ e. absurd (omega (arith, e)), λ is. absurd (over_is (fits_in old (length bytes)) is.1 room));
+      over = (λ e. absurd (omega (arith, e)), λ was. absurd (over_is (is_over old) going was));
+      unchanged = either (λ e. absurd (omega (arith, e))) (λ e. absurd (omega (arith, e)));
+      only = inr (inr (inl refl));
+    }
+feed_says-error old new bytes Cut refused over fits = absurd refused
+feed_says-error old new bytes Waiting refused over fits = absurd refused
+feed_says-error old new bytes ItemOpen refused over fits = absurd refused
+feed_says-error old new bytes Over refused over fits = record {
   done = λ e. absurd (omega (arith, e));
   no_memory = λ e. absurd (omega (arith, e));
-  not_utf8 = (λ e. absurd (omega (arith, e)), λ is. absurd (never is.0 is.1));
-  place = λ e. absurd (omega (arith, e));
+  not_utf8 = λ e. absurd (omega (arith, e));
+  limit = (λ e. absurd (omega (arith, e)), λ is. absurd (over_is (is_over old) is.0 (over.0 refl)));
   over = (λ _. over.0 refl, λ _. refl);
   unchanged = λ _. refused.unchanged;
-  only = inr (inr (inr refl));
+  only = inr (inr (inr (inl refl)));
 }
 
 -- the status of an end that was answered, or refused
@@ -74,37 +86,43 @@ pub end_says-done : (old new : CleaningOf) → EndsPage old new → is_over old 
 end_says-done old new ends going = record {
   done = λ _. ends;
   no_memory = λ e. absurd (omega (arith, e));
-  cut = (λ e. absurd (omega (arith, e)), λ is. absurd (is.1 ends.whole));
+  cut = (λ e. absurd (omega (arith, e)), λ is. absurd (is.1 ends.read.whole));
   over = (λ e. absurd (omega (arith, e)), λ was. absurd (over_is (is_over old) going was));
-  unchanged = λ other _. absurd (other refl);
+  unchanged = either (λ e. absurd (omega (arith, e))) (λ e. absurd (omega (arith, e)));
   only = inl refl;
 }
 
-pub end_says-error : (old new : CleaningOf) (error : CleaningError) → EndRefused old new error
-    → ((error ≡ Over) ↔ (is_over old ≡ true)) → CleanerEndSays old new (cleaning_status error)
-end_says-error old new Memory refused over = record {
-  done = λ e. absurd (omega (arith, e));
-  no_memory = λ _. refused;
-  cut = (λ e. absurd (omega (arith, e)), λ is. absurd (is.1 refused.whole));
-  over = (λ e. absurd (omega (arith, e)), λ was. absurd (memory_no_over (over.1 was)));
-  unchanged = λ _ other. absurd (other refl);
-  only = inr (inl refl);
-}
+pub end_says-error : (old new : CleaningOf) (error : SessionError) → EndRefused old new error
+    → ((error ≡ Over) ↔ (is_over old ≡ true)) → CleanerEndSays old new (error_status error)
+end_says-error old new Memory refused over =
+    let going = refused_going Memory Over (is_over old) over memory_no_over in
+    record {
+      done = λ e. absurd (omega (arith, e));
+      no_memory = λ _. refused;
+      cut = (λ e. absurd (omega (arith, e)), λ is. absurd (is.1 refused.loses.read.whole));
+      over = (λ e. absurd (omega (arith, e)), λ was. absurd (over_is (is_over old) going was));
+      unchanged = either (λ e. absurd (omega (arith, e))) (λ e. absurd (omega (arith, e)));
+      only = inr (inl refl);
+    }
 end_says-error old new (NotUtf8 place) refused over = absurd refused
-end_says-error old new Cut refused over = record {
-  done = λ e. absurd (omega (arith, e));
-  no_memory = λ e. absurd (omega (arith, e));
-  cut = (λ _. (refused_going Cut Over (is_over old) over cut_no_over, refused.1), λ _. refl);
-  over = (λ e. absurd (omega (arith, e)), λ was. absurd (cut_no_over (over.1 was)));
-  unchanged = λ _ _. refused.0;
-  only = inr (inr (inl refl));
-}
+end_says-error old new Cut refused over =
+    let going = refused_going Cut Over (is_over old) over cut_no_over in
+    record {
+      done = λ e. absurd (omega (arith, e));
+      no_memory = λ e. absurd (omega (arith, e));
+      cut = (λ _. (going, refused.1.held), λ _. refl);
+      over = (λ e. absurd (omega (arith, e)), λ was. absurd (over_is (is_over old) going was));
+      unchanged = λ _. refused.0;
+      only = inr (inr (inl refl));
+    }
+end_says-error old new Waiting refused over = absurd refused
+end_says-error old new ItemOpen refused over = absurd refused
 end_says-error old new Over refused over = record {
   done = λ e. absurd (omega (arith, e));
   no_memory = λ e. absurd (omega (arith, e));
   cut = (λ e. absurd (omega (arith, e)), λ is. absurd (over_is (is_over old) is.0 (over.0 refl)));
   over = (λ _. over.0 refl, λ _. refl);
-  unchanged = λ _ _. refused.unchanged;
+  unchanged = λ _. refused.unchanged;
   only = inr (inr (inr refl));
 }
 

@@ -1,34 +1,38 @@
 -- What each call of the tokenizer makes of the session that a handle is of. A handle has none where it is closed, or has a cleaner.
 use Rattle.std.specs.Prelude.{◌≡◌, ◌≢◌, ◌↔◌, ◌⊎◌, ◌&&◌, ℕ, Bool, true, false, List, [], ◌++◌, length, take, drop, min, Option, None, Some, is_some}
-use Rattle.std.specs.Str.{IsUtf8, chars}
-use Rattle.utf8_pieces.specs.Pieces.{IsNeverUtf8}
+use Rattle.std.specs.Str.{IsUtf8}
 use Rattle.html5c.specs.Said.{options_said, replies_said, state_said}
 use Rattle.html5c.specs.Slots.{WhereOpen, place_in, session_of}
 use Rattle.html5c.specs.declared.opening.OpenError.{OpenError}
 use Rattle.html5c.specs.declared.opening.OpenError.TheVariants as opening
 use Rattle.html5c.specs.declared.options.Options.{Options}
 use Rattle.html5c.specs.declared.slot.PageSlot.{PageSlot}
-use Rattle.html5records.specs.Recording.{recorded_means, none_recorded, nothing_recorded, waiting}
+use Rattle.html5records.specs.Recording.{recorded_means, none_recorded, nothing_recorded, waiting, WritesOn}
 use Rattle.html5records.specs.declared.record_sink.Replies.{Replies}
 use Rattle.html5ever.specs.Tokenizer.{StandsAt, rules_of}
 use Rattle.html5ever_interface.specs.declared.states.State.{State}
 use Rattle.html5reading.specs.Start.{start_of}
 use Rattle.html5entities.specs.Standard.{standard_list}
-use Rattle.html5session.specs.Session.{SessionOf, tokenizer_of, recorded_by, is_over, nothing_open_in, after_session_takes, StandsOn, SetsForeign, SetsState, FeedsPiece, LosesPiece, RefusesBytes, EndsSession, LosesEnd}
+use Rattle.html5ever_interface.specs.Token.{Reply}
+use Rattle.html5ever_interface.specs.Token.Reply.{KeepOn, RunScript, SwitchEncoding}
+use Rattle.html5records.specs.declared.record_sink.PausedAt.{PausedAt}
+use Rattle.html5records.specs.declared.record_sink.PausedAt.TheVariants as paused
+use Rattle.html5session.specs.Intake.{gains_front, has_room, nothing_taken}
+use Rattle.html5session.specs.RecordSessions.{RecordSessionOf, SetsForeign, StandsOn, after_session_takes, recorded_by}
+use Rattle.html5session.specs.Session.{tokenizer_of, is_over, nothing_open_in, EndSaysFault, FeedRefused, SetsState, FeedsPiece, SaysFault, EndsSession, LosesEnd}
 use Rattle.html5session.specs.declared.error.SessionError.{SessionError}
 use Rattle.html5session.specs.declared.error.SessionError.TheVariants.{Memory, NotUtf8, Cut, Waiting, ItemOpen, Over}
-use Rattle.html5session.specs.declared.fed.Fed.{Fed}
-use Rattle.html5session.specs.declared.fed.Fed.TheVariants.{Done, Script, Encoding, Tag}
 use Rattle.html5table.specs.Listed.{entries_in}
 use Rattle.markup5ever.specs.NamedReferences.{table_of}
 
 -- ---- the numbers of statuses
 
-abbrev pub fed_status : Fed → ℕ
-fed_status Done = 0
-fed_status Script = 1
-fed_status Encoding = 2
-fed_status Tag = 12
+-- of a feed that hands this reply on
+abbrev pub fed_status : Reply PausedAt → ℕ
+fed_status (RunScript paused.Script) = 1
+fed_status (RunScript paused.Tag) = 12
+fed_status (SwitchEncoding text) = 2
+fed_status other = 0
 
 abbrev pub error_status : SessionError → ℕ
 error_status Memory = 3
@@ -45,23 +49,20 @@ abbrev pub are_named : Options → Bool
 are_named o = is_some (replies_said o.replies) && is_some (state_said o.state)
 
 -- it stands at the start of a page, by these options, and reads references by the standard's names
-pub record Starts (s : SessionOf) (name : List ℕ) (o : Options) : Type 0 where
+pub record Starts (s : RecordSessionOf) (name : List ℕ) (o : Options) : Type 0 where
   pub replies : Replies
   pub said : replies_said o.replies ≡ Some replies
   pub stands : StandsAt recorded_means (tokenizer_of s) (start_of (options_said o name)) (none_recorded replies o.foreign) []
   pub rules : (tokenizer_of s).rules ≡ rules_of (options_said o name) (table_of (entries_in standard_list))
   pub sink : s.detached.sink ≡ nothing_recorded replies o.foreign
   pub references : s.references ≡ table_of (entries_in standard_list)
-  pub held : s.decoder.held ≡ []
-  pub place : s.decoder.taken ≡ 0
-  pub text : s.text ≡ []
+  pub intake : s.intake ≡ nothing_taken
   pub going_on : is_over s ≡ false
-  pub error_at : s.error_at ≡ None
   pub named : are_named o ≡ true
   pub utf8 : IsUtf8 name
 
 -- there is a session, and it is at the start of a page
-abbrev pub IsStart : Option SessionOf → List ℕ → Options → Type 0
+abbrev pub IsStart : Option RecordSessionOf → List ℕ → Options → Type 0
 IsStart None name o = ⊥
 IsStart (Some s) name o = Starts s name o
 
@@ -91,39 +92,50 @@ pub record NewSays (now : Option PageSlot) (name : List ℕ) (o : Options) (stat
 
 -- ---- what a status of each call says of a handle that has a session
 
-pub record FeedSays (old new : SessionOf) (bytes : List ℕ) (status : ℕ) : Type 0 where
-  pub done : status ≡ 0 → FeedsPiece old new bytes Done
-  pub script : status ≡ 1 → FeedsPiece old new bytes Script
-  pub encoding : status ≡ 2 → FeedsPiece old new bytes Encoding
-  pub tag : status ≡ 12 → FeedsPiece old new bytes Tag
-  pub no_memory : status ≡ 3 → (new ≡ old) ⊎ LosesPiece old new bytes
-  pub not_utf8 : (status ≡ 4) ↔ ((is_over old ≡ false) × IsNeverUtf8 (old.decoder.held ++ bytes))
-  pub place : status ≡ 4 → (place : ℕ) × RefusesBytes old new bytes place
-  pub over : (status ≡ 7) ↔ (is_over old ≡ true)
-  -- where nothing more is read, nothing changes
-  pub unchanged : is_over old ≡ true → new ≡ old
-  pub only : (status ≡ 0) ⊎ (status ≡ 1) ⊎ (status ≡ 2) ⊎ (status ≡ 3) ⊎ (status ≡ 4) ⊎ (status ≡ 7) ⊎ (status ≡ 12)
+-- so many bytes more are within the limit
+abbrev pub fits_in : RecordSessionOf → ℕ → Bool
+fits_in s more = has_room s.intake (length (waiting (recorded_by s))) more
 
-pub record InsertSays (old new : SessionOf) (text : List ℕ) (status : ℕ) : Type 0 where
-  pub done : status ≡ 0 → IsUtf8 text × (new ≡ record old { text = chars text ++ old.text })
+pub record FeedSays (old new : RecordSessionOf) (bytes : List ℕ) (status : ℕ) : Type 0 where
+  pub done : status ≡ 0 → FeedsPiece recorded_means old new bytes KeepOn
+  pub script : status ≡ 1 → FeedsPiece recorded_means old new bytes (RunScript paused.Script)
+  pub encoding : status ≡ 2 → (text : List ℕ) × FeedsPiece recorded_means old new bytes (SwitchEncoding text)
+  pub tag : status ≡ 12 → FeedsPiece recorded_means old new bytes (RunScript paused.Tag)
+  pub no_memory : status ≡ 3 → FeedRefused recorded_means old new bytes Memory
+  pub not_utf8 : status ≡ 4 → (place : ℕ) × SaysFault recorded_means old new bytes place
+  pub limit : (status ≡ 14) ↔ ((is_over old ≡ false) × (fits_in old (length bytes) ≡ false))
+  pub over : (status ≡ 7) ↔ (is_over old ≡ true)
+  -- at those two nothing changes
+  pub unchanged : (status ≡ 7) ⊎ (status ≡ 14) → new ≡ old
+  -- no records are taken, and more come after them
+  pub records : WritesOn (recorded_by old) (recorded_by new)
+  pub only : (status ≡ 0) ⊎ (status ≡ 1) ⊎ (status ≡ 2) ⊎ (status ≡ 3) ⊎ (status ≡ 4) ⊎ (status ≡ 7) ⊎ (status ≡ 12) ⊎ (status ≡ 14)
+
+pub record InsertSays (old new : RecordSessionOf) (text : List ℕ) (status : ℕ) : Type 0 where
+  pub done : status ≡ 0 → IsUtf8 text × (new ≡ record old { intake = gains_front old.intake text })
   pub refused : status ≢ 0 → new ≡ old
-  pub not_utf8 : (status ≡ 4) ↔ ((is_over old ≡ false) × ¬ (IsUtf8 text))
+  pub limit : (status ≡ 14) ↔ ((is_over old ≡ false) × (fits_in old (length text) ≡ false))
+  pub not_utf8 : (status ≡ 4) ↔ ((is_over old ≡ false) × (fits_in old (length text) ≡ true) × ¬ (IsUtf8 text))
   pub over : (status ≡ 7) ↔ (is_over old ≡ true)
-  pub only : (status ≡ 0) ⊎ (status ≡ 3) ⊎ (status ≡ 4) ⊎ (status ≡ 7)
+  pub only : (status ≡ 0) ⊎ (status ≡ 3) ⊎ (status ≡ 4) ⊎ (status ≡ 7) ⊎ (status ≡ 14)
 
-pub record EndSays (old new : SessionOf) (status : ℕ) : Type 0 where
-  pub done : status ≡ 0 → EndsSession old new
-  pub no_memory : status ≡ 3 → LosesEnd old new
-  pub waiting : (status ≡ 6) ↔ ((is_over old ≡ false) × (old.text ≢ []))
-  pub cut : (status ≡ 5) ↔ ((is_over old ≡ false) × (old.text ≡ []) × (old.decoder.held ≢ []))
+pub record EndSays (old new : RecordSessionOf) (status : ℕ) : Type 0 where
+  pub done : status ≡ 0 → EndsSession recorded_means old new
+  pub no_memory : status ≡ 3 → LosesEnd recorded_means old new
+  pub waiting : (status ≡ 6) ↔ ((is_over old ≡ false) × (old.intake.text ≢ []))
+  -- a fault that was still to be said
+  pub not_utf8 : (status ≡ 4) ↔ ((is_over old ≡ false) × (old.intake.text ≡ []) × (old.intake.fault ≡ true))
+  pub place : status ≡ 4 → (place : ℕ) × EndSaysFault old new place
+  pub cut : (status ≡ 5) ↔ ((is_over old ≡ false) × (old.intake.text ≡ []) × (old.intake.fault ≡ false) × (old.intake.decoder.held ≢ []))
   pub over : (status ≡ 7) ↔ (is_over old ≡ true)
   -- at those three nothing changes
-  pub unchanged : status ≢ 0 → status ≢ 3 → new ≡ old
-  pub only : (status ≡ 0) ⊎ (status ≡ 3) ⊎ (status ≡ 5) ⊎ (status ≡ 6) ⊎ (status ≡ 7)
+  pub unchanged : (status ≡ 5) ⊎ (status ≡ 6) ⊎ (status ≡ 7) → new ≡ old
+  pub records : WritesOn (recorded_by old) (recorded_by new)
+  pub only : (status ≡ 0) ⊎ (status ≡ 3) ⊎ (status ≡ 4) ⊎ (status ≡ 5) ⊎ (status ≡ 6) ⊎ (status ≡ 7)
 
 -- a reply of the caller: what follows is read in the state that the number names
-pub record ReplySays (old new : SessionOf) (number status : ℕ) : Type 0 where
-  pub done : status ≡ 0 → (state : State) × (state_said number ≡ Some state) × SetsState old new state
+pub record ReplySays (old new : RecordSessionOf) (number status : ℕ) : Type 0 where
+  pub done : status ≡ 0 → (state : State) × (state_said number ≡ Some state) × SetsState recorded_means old new state
   pub refused : status ≢ 0 → new ≡ old
   pub over : (status ≡ 7) ↔ (is_over old ≡ true)
   pub bad_option : (status ≡ 9) ↔ ((is_over old ≡ false) × (is_some (state_said number) ≡ false))
@@ -131,12 +143,12 @@ pub record ReplySays (old new : SessionOf) (number status : ℕ) : Type 0 where
   pub only : (status ≡ 0) ⊎ (status ≡ 7) ⊎ (status ≡ 9) ⊎ (status ≡ 13)
 
 -- the answer about foreign content was set, and what follows is read by it
-pub record ForeignSays (old new : SessionOf) (foreign : Bool) (status : ℕ) : Type 0 where
+pub record ForeignSays (old new : RecordSessionOf) (foreign : Bool) (status : ℕ) : Type 0 where
   pub done : status ≡ 0
   pub sets : SetsForeign old new foreign
 
 -- the next bytes of the records that wait were copied, as many as there was room for, and let go; nothing else changed
-pub record TakeSays (old new : SessionOf) (room out : List ℕ) (n : ℕ) : Type 0 where
+pub record TakeSays (old new : RecordSessionOf) (room out : List ℕ) (n : ℕ) : Type 0 where
   pub count : n ≡ min (length room) (length (waiting (recorded_by old)))
   pub copied : out ≡ take n (waiting (recorded_by old)) ++ drop n room
   pub taken : new ≡ after_session_takes old n
@@ -145,30 +157,30 @@ pub record TakeSays (old new : SessionOf) (room out : List ℕ) (n : ℕ) : Type
 
 -- ---- the same, of a handle that has a session or none
 
-abbrev pub Feeds : Option SessionOf → Option SessionOf → List ℕ → ℕ → Type 0
+abbrev pub Feeds : Option RecordSessionOf → Option RecordSessionOf → List ℕ → ℕ → Type 0
 Feeds old new bytes status = WhereOpen (λ s t. FeedSays s t bytes status) (status ≡ 8) old new
 
-abbrev pub Inserts : Option SessionOf → Option SessionOf → List ℕ → ℕ → Type 0
+abbrev pub Inserts : Option RecordSessionOf → Option RecordSessionOf → List ℕ → ℕ → Type 0
 Inserts old new text status = WhereOpen (λ s t. InsertSays s t text status) (status ≡ 8) old new
 
-abbrev pub Ends : Option SessionOf → Option SessionOf → ℕ → Type 0
+abbrev pub Ends : Option RecordSessionOf → Option RecordSessionOf → ℕ → Type 0
 Ends old new status = WhereOpen (λ s t. EndSays s t status) (status ≡ 8) old new
 
-abbrev pub RepliesTo : Option SessionOf → Option SessionOf → ℕ → ℕ → Type 0
+abbrev pub RepliesTo : Option RecordSessionOf → Option RecordSessionOf → ℕ → ℕ → Type 0
 RepliesTo old new number status = WhereOpen (λ s t. ReplySays s t number status) (status ≡ 8) old new
 
-abbrev pub TellsForeign : Option SessionOf → Option SessionOf → Bool → ℕ → Type 0
+abbrev pub TellsForeign : Option RecordSessionOf → Option RecordSessionOf → Bool → ℕ → Type 0
 TellsForeign old new foreign status = WhereOpen (λ s t. ForeignSays s t foreign status) (status ≡ 8) old new
 
-abbrev pub Takes : Option SessionOf → Option SessionOf → List ℕ → List ℕ → ℕ → Type 0
+abbrev pub Takes : Option RecordSessionOf → Option RecordSessionOf → List ℕ → List ℕ → ℕ → Type 0
 Takes old new room out n = WhereOpen (λ s t. TakeSays s t room out n) ((n ≡ 0) × (out ≡ room)) old new
 
 -- where the bytes of the last refused piece stop being UTF-8
-abbrev pub error_place : Option SessionOf → ℕ
+abbrev pub error_place : Option RecordSessionOf → ℕ
 error_place None = 0
-error_place (Some s) = place_in s.error_at
+error_place (Some s) = place_in s.intake.error_at
 
 -- whether nothing more is read of the page
-abbrev pub over_in : Option SessionOf → Bool
+abbrev pub over_in : Option RecordSessionOf → Bool
 over_in None = false
 over_in (Some s) = is_over s

@@ -1,16 +1,15 @@
 -- What each call of the cleaner makes of the page that a handle is of. A handle has none where it is closed, or has a session of the
 -- tokenizer.
-use Rattle.std.specs.Prelude.{◌≡◌, ◌≢◌, ◌↔◌, ◌⊎◌, ℕ, Bool, true, false, List, [], ◌∷◌, ◌++◌, length, take, drop, min, Option, None, Some, Ok, Err}
+use Rattle.std.specs.Prelude.{◌≡◌, ◌≢◌, ◌↔◌, ◌⊎◌, ◌-◌, ◌^◌, ℕ, Bool, true, false, List, [], ◌∷◌, ◌++◌, length, take, drop, min, Option, None, Some, Ok, Err}
 use Rattle.std.specs.Str.{IsUtf8}
 use Rattle.std.specs.Str.Lossy.{utf8_valid_len}
-use Rattle.utf8_pieces.specs.Pieces.{IsNeverUtf8}
 use Rattle.html5c.specs.Slots.{WhereOpen, cleaner_of, place_in}
 use Rattle.html5c.specs.declared.cleaner_opening.PolicyFault.{PolicyFault}
 use Rattle.html5c.specs.declared.cleaner_opening.PolicyFault.TheVariants as fault
 use Rattle.html5c.specs.declared.slot.PageSlot.{PageSlot}
-use Rattle.html5cleaning.specs.Cleaning.{CleaningOf, EndsPage, FeedsPiece, LosesEnd, LosesPiece, RefusesBytes, StartsPage, StaysFed, after_session_takes, buffer_of, is_over, waiting_in}
-use Rattle.html5cleaning.specs.declared.error.CleaningError.{CleaningError}
-use Rattle.html5cleaning.specs.declared.error.CleaningError.TheVariants.{Memory, NotUtf8, Cut, Over}
+use Rattle.html5cleaning.specs.Cleaning.{CleaningOf, EndsPage, FeedRefused, FeedsPiece, LosesEnd, SaysFault, StartsPage, StaysFed, after_session_takes, buffer_of, fits_in, waiting_in}
+use Rattle.html5session.specs.Session.{is_over}
+use Rattle.html5session.specs.declared.error.SessionError.TheVariants.{Memory}
 use Rattle.html5entities.specs.Standard.{standard_list}
 use Rattle.html5policy.specs.Policy.{PolicyOf}
 use Rattle.html5policy.specs.Standard.{standard_policy}
@@ -18,12 +17,6 @@ use Rattle.html5policy.specs.Text.{policy_said}
 use Rattle.html5policy.specs.declared.error.PolicyError.{PolicyError}
 use Rattle.html5table.specs.Listed.{entries_in}
 use Rattle.markup5ever.specs.NamedReferences.{table_of}
-
-abbrev pub cleaning_status : CleaningError → ℕ
-cleaning_status Memory = 3
-cleaning_status (NotUtf8 place) = 4
-cleaning_status Cut = 5
-cleaning_status Over = 7
 
 -- ---- a new page
 
@@ -36,7 +29,7 @@ PolicyGiven (b ∷ bytes) policy = policy_said (b ∷ bytes) ≡ Ok policy
 pub record StartsCleaner (s : CleaningOf) (rules : List ℕ) : Type 0 where
   pub policy : PolicyOf
   pub given : PolicyGiven rules policy
-  pub starts : StartsPage policy (table_of (entries_in standard_list)) s
+  pub starts : StartsPage policy (table_of (entries_in standard_list)) (2 ^ 64 - 1) s
   pub utf8 : IsUtf8 rules
 
 abbrev pub IsCleanerStart : Option CleaningOf → List ℕ → Type 0
@@ -77,28 +70,28 @@ pub record NewCleanerSays (now : Option PageSlot) (rules : List ℕ) (place stat
 
 -- ---- what a status of each call says of a handle that has a page
 
--- another page is at its start, by the same policy and table
+-- another page is at its start, by the same policy, table and limit
 pub record RestartSays (old new : CleaningOf) (status : ℕ) : Type 0 where
   pub done : status ≡ 0
-  pub starts : StartsPage (buffer_of old).policy old.references new
+  pub starts : StartsPage (buffer_of old).policy old.references old.intake.limit new
 
 pub record CleanerFeedSays (old new : CleaningOf) (bytes : List ℕ) (status : ℕ) : Type 0 where
   pub done : status ≡ 0 → FeedsPiece old new bytes
-  pub no_memory : status ≡ 3 → (new ≡ old) ⊎ LosesPiece old new bytes
-  pub not_utf8 : (status ≡ 4) ↔ ((is_over old ≡ false) × IsNeverUtf8 (old.decoder.held ++ bytes))
-  pub place : status ≡ 4 → (place : ℕ) × RefusesBytes old new bytes place
+  pub no_memory : status ≡ 3 → FeedRefused old new bytes Memory
+  pub not_utf8 : status ≡ 4 → (place : ℕ) × SaysFault old new bytes place
+  pub limit : (status ≡ 14) ↔ ((is_over old ≡ false) × (fits_in old (length bytes) ≡ false))
   pub over : (status ≡ 7) ↔ (is_over old ≡ true)
-  -- where nothing more is read, nothing changes
-  pub unchanged : is_over old ≡ true → new ≡ old
-  pub only : (status ≡ 0) ⊎ (status ≡ 3) ⊎ (status ≡ 4) ⊎ (status ≡ 7)
+  -- at those two nothing changes
+  pub unchanged : (status ≡ 7) ⊎ (status ≡ 14) → new ≡ old
+  pub only : (status ≡ 0) ⊎ (status ≡ 3) ⊎ (status ≡ 4) ⊎ (status ≡ 7) ⊎ (status ≡ 14)
 
 pub record CleanerEndSays (old new : CleaningOf) (status : ℕ) : Type 0 where
   pub done : status ≡ 0 → EndsPage old new
   pub no_memory : status ≡ 3 → LosesEnd old new
-  pub cut : (status ≡ 5) ↔ ((is_over old ≡ false) × (old.decoder.held ≢ []))
+  pub cut : (status ≡ 5) ↔ ((is_over old ≡ false) × (old.intake.decoder.held ≢ []))
   pub over : (status ≡ 7) ↔ (is_over old ≡ true)
   -- at those two nothing changes
-  pub unchanged : status ≢ 0 → status ≢ 3 → new ≡ old
+  pub unchanged : (status ≡ 5) ⊎ (status ≡ 7) → new ≡ old
   pub only : (status ≡ 0) ⊎ (status ≡ 3) ⊎ (status ≡ 5) ⊎ (status ≡ 7)
 
 -- the next bytes of what was kept were copied, as many as wait and as there was room for, and let go; nothing else changed
@@ -126,7 +119,7 @@ CleanerTakes old new room out n = WhereOpen (λ s t. CleanerTakeSays s t room ou
 -- where the bytes of the last refused piece stop being UTF-8
 abbrev pub cleaner_error_place : Option CleaningOf → ℕ
 cleaner_error_place None = 0
-cleaner_error_place (Some s) = place_in s.error_at
+cleaner_error_place (Some s) = place_in s.intake.error_at
 
 -- whether nothing more is read of the page
 abbrev pub cleaner_over_in : Option CleaningOf → Bool

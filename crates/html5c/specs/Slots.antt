@@ -1,11 +1,12 @@
 -- What a handle is of: a session of the tokenizer, a page that is cleaned, or, where it is closed, neither.
-use Rattle.std.specs.Prelude.{ℕ, Option, None, Some}
+use Rattle.std.specs.Prelude.{◌||◌, ℕ, Option, None, Some, is_some, if◌then◌else◌}
 use Rattle.html5c.specs.declared.slot.PageSlot.{PageSlot}
 use Rattle.html5c.specs.declared.slot.PageSlot.TheVariants.{Tokenizer, Cleaner}
 use Rattle.html5cleaning.specs.Cleaning.{CleaningOf}
+use Rattle.html5session.specs.RecordSessions.{RecordSessionOf}
 use Rattle.html5session.specs.Session.{SessionOf}
 
-abbrev pub session_in : PageSlot → Option SessionOf
+abbrev pub session_in : PageSlot → Option RecordSessionOf
 session_in (Tokenizer s) = Some s
 session_in other = None
 
@@ -14,7 +15,7 @@ cleaner_in (Cleaner s) = Some s
 cleaner_in other = None
 
 -- the session of what a handle owns
-abbrev pub session_of : Option PageSlot → Option SessionOf
+abbrev pub session_of : Option PageSlot → Option RecordSessionOf
 session_of None = None
 session_of (Some slot) = session_in slot
 
@@ -33,3 +34,13 @@ WhereOpen says closed _ _ = ⊥
 abbrev pub place_in : Option ℕ → ℕ
 place_in None = 0
 place_in (Some place) = place
+
+-- ---- the limit, of either kind
+
+-- a session that may hold so many bytes
+abbrev pub limited : {X : Type 0} → ℕ → SessionOf X → SessionOf X
+limited limit s = record s { intake = record s.intake { limit = limit } }
+
+-- what a call answers that can be made on either: that the handle is closed, where there is none
+abbrev pub status_where_open : {S C : Type 0} → Option S → Option C → ℕ
+status_where_open session cleaner = if is_some session || is_some cleaner then 0 else 8

@@ -1,7 +1,7 @@
 //! The calls of the tokenizer.
-ghost use Rattle.std.specs.Prelude.{◌≡◌, None};
+ghost use Rattle.std.specs.Prelude.{◌≡◌, None, option_map};
 ghost use Rattle.html5c.specs.Calls.{NewSays, Feeds, Inserts, RepliesTo, TellsForeign, Ends, Takes, error_place, over_in};
-ghost use Rattle.html5c.specs.Slots.{cleaner_of, session_of};
+ghost use Rattle.html5c.specs.Slots.{cleaner_of, limited, session_of, status_where_open};
 
 use crate::handle::Handle;
 use crate::opening::slot_of;
@@ -31,7 +31,8 @@ pub extern "C" fn html5_new(
 }
 
 /// Takes a piece of the page, cut anywhere, and reads on, up to a pause. What is left of it is kept:
-/// the next feed goes on with it, also one of no bytes.
+/// the next feed goes on with it, also one of no bytes. Where bytes of it are no UTF-8, those before them are taken and
+/// read, and then the answer is `NOT_UTF8`. A pause comes before that: then no feed takes anything until it was answered.
 #[unsafe(no_mangle)]
 pub extern "C" fn html5_feed(alloc: Global, h: &mut Handle, bytes: &[u8]) -> u32
     ensures feeds { Feeds (session_of h.old.owned.value) (session_of h.new.owned.value) bytes.now result }
@@ -90,6 +91,22 @@ pub extern "C" fn html5_set_foreign(alloc: Global, h: &mut Handle, foreign: bool
     status
 }
 
+/// Sets how many bytes a handle of either kind may hold: what was fed since all was read and nothing was open, and what
+/// waits to be taken. A piece that would go past that is answered `LIMIT`, and not taken.
+#[unsafe(no_mangle)]
+pub extern "C" fn html5_set_limit(alloc: Global, h: &mut Handle, limit: u64) -> u32
+    ensures session { session_of h.new.owned.value ≡ option_map (limited limit) (session_of h.old.owned.value) }
+    ensures cleaner { cleaner_of h.new.owned.value ≡ option_map (limited limit) (cleaner_of h.old.owned.value) }
+    ensures status { result ≡ status_where_open (session_of h.old.owned.value) (cleaner_of h.old.owned.value) }
+{
+    let Some(mut slot) = h.take(alloc) else {
+        return status::CLOSED;
+    };
+    let status = slot.set_limit(limit);
+    h.put(slot);
+    status
+}
+
 /// Ends the page.
 #[unsafe(no_mangle)]
 pub extern "C" fn html5_end(alloc: Global, h: &mut Handle) -> u32
@@ -119,8 +136,8 @@ pub extern "C" fn html5_take(alloc: Global, h: &mut Handle, out: &mut [u8]) -> u
     count
 }
 
-/// The place of the first byte that is no UTF-8, after a feed answered `NOT_UTF8`, counted from the
-/// first byte that was fed.
+/// The place of the first byte that is no UTF-8, after `NOT_UTF8` was answered, counted from the first byte that was
+/// fed. All bytes before it were taken, and none from it on.
 #[unsafe(no_mangle)]
 pub extern "C" fn html5_error_at(alloc: Global, h: &mut Handle) -> u64
     ensures place { result ≡ error_place (session_of h.old.owned.value) }

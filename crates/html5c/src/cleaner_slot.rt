@@ -1,25 +1,13 @@
 //! What the cleaner's calls make of what a handle is of.
 ghost use Rattle.std.specs.Prelude.{◌≡◌, IsNone};
-ghost use Rattle.html5c.specs.CleanerCalls.{CleanerEnds, CleanerFeeds, CleanerTakes, Restarts, cleaner_error_place, cleaner_over_in, cleaning_status};
+ghost use Rattle.html5c.specs.CleanerCalls.{CleanerEnds, CleanerFeeds, CleanerTakes, Restarts, cleaner_error_place, cleaner_over_in};
 ghost use Rattle.html5c.specs.Slots.{cleaner_in, session_in};
 
-use crate::slot::PageSlot;
+use crate::slot::{PageSlot, status_of_error};
 use crate::status;
-use html5cleaning::{CleaningError, CleaningSession};
+use html5cleaning::CleaningSession;
 use std::alloc::Global;
 use std::mem;
-
-// The status of a call that was refused.
-fn status_of_refusal(error: CleaningError) -> u32
-    ensures { result ≡ cleaning_status error }
-{
-    match error {
-        CleaningError::Memory => status::NO_MEMORY,
-        CleaningError::NotUtf8 { .. } => status::NOT_UTF8,
-        CleaningError::Cut => status::CUT,
-        CleaningError::Over => status::OVER,
-    }
-}
 
 impl PageSlot {
     // The page that is cleaned, if it has one: then it is lent out.
@@ -56,11 +44,15 @@ impl PageSlot {
         let Some(session) = self.take_cleaner() else {
             return status::CLOSED;
         };
+        if !session.is_over() && !session.has_room(bytes.len()) {
+            *self = PageSlot::Cleaner(session);
+            return status::LIMIT;
+        }
         let (session, result) = session.feed(bytes);
         *self = PageSlot::Cleaner(session);
         match result {
             Ok(()) => status::DONE,
-            Err(error) => status_of_refusal(error),
+            Err(error) => status_of_error(error),
         }
     }
 
@@ -76,7 +68,7 @@ impl PageSlot {
         *self = PageSlot::Cleaner(session);
         match result {
             Ok(()) => status::DONE,
-            Err(error) => status_of_refusal(error),
+            Err(error) => status_of_error(error),
         }
     }
 

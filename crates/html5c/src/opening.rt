@@ -9,7 +9,8 @@ use crate::options::Options;
 use crate::slot::PageSlot;
 use crate::status;
 use html5entities::standard_references;
-use html5session::Session;
+use html5records::record_sink::RecordSink;
+use html5session::{RecordSession, Session};
 use std::alloc::Global;
 use std::str;
 
@@ -60,7 +61,7 @@ fn session_at_start(
     alloc: Global,
     last_start_tag: &[u8],
     options: &Options,
-) -> Result<Session<Global>, OpenError>
+) -> Result<RecordSession<Global>, OpenError>
     ensures starts { IfOk result (λ session. Starts session last_start_tag.now options.now) }
     ensures refused { IfErr result (λ error. OpenFails last_start_tag.now options.now error) }
 {
@@ -79,7 +80,8 @@ fn session_at_start(
         return Err(OpenError::Memory);
     };
     let opts = options.opts(start, name);
-    Ok(Session::new(alloc, references, opts, events))
+    let sink = RecordSink::new(alloc, events);
+    Ok(Session::new(alloc, references, opts, sink))
 }
 
 /// A page at its start, in its box.

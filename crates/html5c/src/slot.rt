@@ -1,12 +1,15 @@
 //! What a handle is of, over C's memory, and what the tokenizer's calls make of it.
-ghost use Rattle.std.specs.Prelude.{◌≡◌, IsNone};
-ghost use Rattle.html5c.specs.Calls.{Feeds, Inserts, RepliesTo, TellsForeign, Ends, Takes, fed_status, error_status, error_place, over_in};
-ghost use Rattle.html5c.specs.Slots.{cleaner_in, session_in};
+ghost use Rattle.std.specs.Prelude.{◌≡◌, IsNone, option_map, string_bytes};
+ghost use Rattle.html5c.specs.Calls.{Feeds, Inserts, RepliesTo, TellsForeign, Ends, Takes, fed_status, error_status, error_place, fits_in, over_in};
+ghost use Rattle.html5c.specs.Slots.{cleaner_in, limited, session_in, status_where_open};
+ghost use Rattle.html5feed.specs.Feed.{reply_in};
 
 use crate::options::state_of;
 use crate::status;
 use html5cleaning::CleaningSession;
-use html5session::{Fed, Session, SessionError};
+use html5records::record_sink::PausedAt;
+use html5session::{RecordSession, SessionError};
+use markup5ever::tokenizer_result::TokenizerResult;
 use std::alloc::Global;
 use std::{mem, str};
 
@@ -14,7 +17,7 @@ use std::{mem, str};
 #[derive(Drop)]
 pub enum PageSlot {
     /// A page whose tokens are recorded.
-    Tokenizer(Session<Global>),
+    Tokenizer(RecordSession<Global>),
     /// A page that is cleaned.
     Cleaner(CleaningSession<Global>),
     /// Nothing, for the time of a call.
@@ -22,19 +25,19 @@ pub enum PageSlot {
 }
 
 // The status of a feed that was not refused.
-fn status_of_fed(fed: Fed) -> u32
-    ensures { result ≡ fed_status fed }
+fn status_of_answer(answer: &TokenizerResult<PausedAt, String<Global>>) -> u32
+    ensures { result ≡ fed_status (reply_in string_bytes answer.now) }
 {
-    match fed {
-        Fed::Done => status::DONE,
-        Fed::Script => status::SCRIPT,
-        Fed::Encoding => status::ENCODING,
-        Fed::Tag => status::TAG,
+    match answer {
+        TokenizerResult::Done => status::DONE,
+        TokenizerResult::Script(PausedAt::Script) => status::SCRIPT,
+        TokenizerResult::Script(PausedAt::Tag) => status::TAG,
+        TokenizerResult::EncodingIndicator(_) => status::ENCODING,
     }
 }
 
 // The status of a call that was refused.
-fn status_of_error(error: SessionError) -> u32
+pub(crate) fn status_of_error(error: SessionError) -> u32
     ensures { result ≡ error_status error }
 {
     match error {
@@ -47,9 +50,16 @@ fn status_of_error(error: SessionError) -> u32
     }
 }
 
+// Whether so many bytes more are within the limit of a session.
+fn fits_in(session: &RecordSession<Global>, more: usize) -> bool
+    ensures { result ≡ fits_in session.now more }
+{
+    session.has_room(session.waiting_len(), more)
+}
+
 impl PageSlot {
     // The session, if it has one: then it is lent out.
-    fn take_session(&mut self) -> Option<Session<Global>>
+    fn take_session(&mut self) -> Option<RecordSession<Global>>
         ensures session { result ≡ session_in self.old }
         ensures none { IsNone result → self.new ≡ self.old }
     {
@@ -70,10 +80,14 @@ impl PageSlot {
         let Some(session) = self.take_session() else {
             return status::CLOSED;
         };
+        if !session.is_over() && !fits_in(&session, bytes.len()) {
+            *self = PageSlot::Tokenizer(session);
+            return status::LIMIT;
+        }
         let (session, result) = session.feed(bytes);
         *self = PageSlot::Tokenizer(session);
         match result {
-            Ok(fed) => status_of_fed(fed),
+            Ok(answer) => status_of_answer(&answer),
             Err(error) => status_of_error(error),
         }
     }
@@ -88,6 +102,9 @@ impl PageSlot {
         };
         if session.is_over() {
             return status::OVER;
+        }
+        if !fits_in(session, text.len()) {
+            return status::LIMIT;
         }
         let Ok(text) = str::from_utf8(text) else {
             return status::NOT_UTF8;
@@ -125,6 +142,20 @@ impl PageSlot {
             return status::CLOSED;
         };
         session.set_foreign(foreign);
+        status::DONE
+    }
+
+    /// Sets how many bytes may be held.
+    pub fn set_limit(&mut self, limit: u64) -> u32
+        ensures session { session_in self.new ≡ option_map (limited limit) (session_in self.old) }
+        ensures cleaner { cleaner_in self.new ≡ option_map (limited limit) (cleaner_in self.old) }
+        ensures status { result ≡ status_where_open (session_in self.old) (cleaner_in self.old) }
+    {
+        match self {
+            PageSlot::Tokenizer(session) => session.set_limit(limit),
+            PageSlot::Cleaner(session) => session.set_limit(limit),
+            PageSlot::Lent => return status::CLOSED,
+        }
         status::DONE
     }
 

@@ -41,3 +41,6 @@ pub const TAG: u32 = 12;
 
 /// A tag or another item is open, so no state can be set.
 pub const ITEM_OPEN: u32 = 13;
+
+/// More bytes would be held than the limit: the piece was not taken.
+pub const LIMIT: u32 = 14;

@@ -7,8 +7,9 @@ use Rattle.markup5ever.specs.NamedReferences.{NamedReference}
 use Rattle.html5ever_interface.specs.Options.{OptionsOf, default_options}
 use Rattle.html5ever_interface.specs.Token.{Told}
 use Rattle.html5ever_interface.specs.Token.Told.{Text, Error}
-use Rattle.html5ever.specs.Detached.{tokenizing}
-use Rattle.html5ever.specs.Tokenizer.{Tokenizing, StandsAt, Finishes, rules_of, state_at_end}
+use Rattle.html5session.specs.Intake.{IntakeOf, nothing_taken}
+use Rattle.html5session.specs.Session.{tokenizer_of}
+use Rattle.html5ever.specs.Tokenizer.{StandsAt, Finishes, ReadsOn, rules_of, state_at_end}
 use Rattle.html5reading.specs.Start.{Rules, start_of}
 use Rattle.html5sinks.specs.Runs.{RunSink, Running, runs_step}
 use Rattle.html5stream.specs.Pages.{runs_after, runs_handed, runs_page, runs_start}
@@ -16,59 +17,54 @@ use Rattle.html5session.proofs.SameReadings.{StandsAt-same}
 use Rattle.html5policy.specs.Policy.{PolicyOf}
 use Rattle.html5cleaner.specs.Buffering.{Buffered, after_taking, buffer_start, buffered_step}
 use Rattle.html5cleaner.proofs.Buffers.{buffered-page}
-use Rattle.html5cleaning.specs.Cleaning.{CleaningOf, Ended, Fed, ReadsText, StaysFed, after_session_takes, buffer_means, buffer_of, cleaning_run, tokenizer_of}
+use Rattle.html5cleaning.specs.Cleaning.{CleaningOf, Ended, Fed, StaysFed, after_session_takes, buffer_means, buffer_of, cleaning_run}
 
 abbrev S : Type 0
 S = Running Buffered
 
-abbrev T : Type 0
-T = Tokenizing (RunSink Buffered)
-
 -- ---- the start
 
-pub fed_none : (policy : PolicyOf) (references : List NamedReference) (s : CleaningOf) (t : T) (opts : OptionsOf) (sink : RunSink Buffered)
-    → s.decoder.held ≡ [] → tokenizing s.detached t.rules.references ≡ t → s.references ≡ references → opts ≡ default_options
-    → StandsAt buffer_means t (start_of opts) (cleaning_run sink) [] → cleaning_run sink ≡ runs_start (buffer_start policy 0)
-    → (buffer_of s).out.taken ≡ 0 → t.rules ≡ rules_of opts references
+pub fed_none : (policy : PolicyOf) (references : List NamedReference) (s : CleaningOf) (opts : OptionsOf) (sink : RunSink Buffered)
+    → s.intake ≡ nothing_taken → opts ≡ default_options → StandsAt buffer_means (tokenizer_of s) (start_of opts) (cleaning_run sink) []
+    → cleaning_run sink ≡ runs_start (buffer_start policy 0) → (buffer_of s).out.taken ≡ 0 → (tokenizer_of s).rules ≡ rules_of opts references
     → Fed policy references s []
-fed_none policy references s t opts sink none rested by chosen stands begun untaken rules =
-    let same : tokenizer_of s ≡ t =
-    subst (λ (n : List NamedReference). tokenizing s.detached n ≡ t) (ap (λ (w : Rules). w.references) rules ∙ sym by) rested in
+fed_none policy references s opts sink none chosen stands begun untaken rules =
     let K = start_of default_options in
-    let from : StandsAt buffer_means t K (runs_start (buffer_start policy 0)) [] =
-    subst (λ (k : S). StandsAt buffer_means t K k []) begun
-    (subst (λ (o : OptionsOf). StandsAt buffer_means t (start_of o) (cleaning_run sink) []) chosen stands) in
+    let from : StandsAt buffer_means (tokenizer_of s) K (runs_start (buffer_start policy 0)) [] =
+    subst (λ (k : S). StandsAt buffer_means (tokenizer_of s) K k []) begun
+    (subst (λ (o : OptionsOf). StandsAt buffer_means (tokenizer_of s) (start_of o) (cleaning_run sink) []) chosen stands) in
     let here : StandsAt buffer_means (tokenizer_of s) K (runs_start (buffer_start policy (buffer_of s).out.taken)) [] =
-    subst (λ (n : ℕ). StandsAt buffer_means (tokenizer_of s) K (runs_start (buffer_start policy n)) []) (sym untaken)
-    (subst (λ (w : T). StandsAt buffer_means w K (runs_start (buffer_start policy 0)) []) (sym same) from) in
+    subst (λ (n : ℕ). StandsAt buffer_means (tokenizer_of s) K (runs_start (buffer_start policy n)) []) (sym untaken) from in
     record {
       text = [];
-      parts = sym none;
+      parts = sym (ap (λ (i : IntakeOf). i.decoder.held) none);
       utf8 = IsUtf8-nil;
       stands = rw chars-nil here;
-      rules = ap (λ (w : T). w.rules) same ∙ rules ∙ ap (λ (o : OptionsOf). rules_of o references) chosen;
+      rules = rules ∙ ap (λ (o : OptionsOf). rules_of o references) chosen;
     }
 
--- ---- a piece more
+-- ---- a text more
 
-pub fed_more : (policy : PolicyOf) (references : List NamedReference) (old new : CleaningOf) (before bytes text : List ℕ)
-    → old.decoder.held ++ bytes ≡ text ++ new.decoder.held → IsUtf8 text
-    → ReadsText (tokenizer_of old) (tokenizer_of new) (chars text)
-    → Fed policy references old before → Fed policy references new (before ++ bytes)
-fed_more policy references old new before bytes text parts utf8 reads fed =
+pub fed_text : (policy : PolicyOf) (references : List NamedReference) (old new : CleaningOf) (before text : List ℕ) → IsUtf8 text
+    → ReadsOn buffer_means (tokenizer_of old) (tokenizer_of new) (chars text)
+    → (buffer_of new).out.taken ≡ (buffer_of old).out.taken → (tokenizer_of new).rules ≡ (tokenizer_of old).rules
+    → (fed : Fed policy references old before) → Fed policy references new ((fed.text ++ text) ++ new.intake.decoder.held)
+fed_text policy references old new before text utf8 reads untaken same fed =
     let K = start_of default_options in
-    let further = reads.reads K (runs_start (buffer_start policy (buffer_of old).out.taken)) (chars fed.text) fed.stands in
+    let further = reads K (runs_start (buffer_start policy (buffer_of old).out.taken)) (chars fed.text) fed.stands in
     record {
       text = fed.text ++ text;
-      parts = ap (λ l. l ++ bytes) fed.parts
-          ∙ append_assoc fed.text old.decoder.held bytes
-          ∙ ap (λ l. fed.text ++ l) parts
-          ∙ sym (append_assoc fed.text text new.decoder.held);
+      parts = refl;
       utf8 = IsUtf8-append _ _ fed.utf8 utf8;
       stands = subst (λ (n : ℕ). StandsAt buffer_means (tokenizer_of new) K (runs_start (buffer_start policy n)) (chars (fed.text ++ text)))
-          (sym reads.waits.taken) (rw (chars-append fed.text text fed.utf8) further);
-      rules = reads.rules ∙ fed.rules;
+          (sym untaken) (rw (chars-append fed.text text fed.utf8) further);
+      rules = same ∙ fed.rules;
     }
+
+-- what was fed, what was held of it, and a piece, where a text of them was read
+pub fed_parts : (before text held bytes more rest : List ℕ) → before ≡ text ++ held → held ++ bytes ≡ more ++ rest → before ++ bytes ≡ (text ++ more) ++ rest
+fed_parts before text held bytes more rest was is =
+    ap (λ l. l ++ bytes) was ∙ append_assoc text held bytes ∙ ap (λ l. text ++ l) is ∙ sym (append_assoc text more rest)
 
 -- ---- a take
 
@@ -107,7 +103,7 @@ read_by_runs : (policy : PolicyOf) (references : List NamedReference) (taken : �
 unfolding runs_page runs_handed
 read_by_runs policy references taken text state is = ap (λ (s : S). s.joined.handler) is
 
-pub page_ends : (policy : PolicyOf) (references : List NamedReference) (old new : CleaningOf) (bytes : List ℕ) → old.decoder.held ≡ []
+pub page_ends : (policy : PolicyOf) (references : List NamedReference) (old new : CleaningOf) (bytes : List ℕ) → old.intake.decoder.held ≡ []
     → Finishes buffer_means (tokenizer_of old) (cleaning_run new.detached.sink) → Fed policy references old bytes → Ended policy references new bytes
 page_ends policy references old new bytes none finishes fed =
     let text = fed.text in

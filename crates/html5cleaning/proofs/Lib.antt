@@ -1,3 +1,4 @@
+pub mod Unpaused
 pub mod Waiting
 pub mod Fed
 pub mod Calls

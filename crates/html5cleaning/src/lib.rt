@@ -1,12 +1,11 @@
-//! A page that is cleaned as its bytes arrive, and whose kept bytes are taken as they come. It owns all that it needs, so
-//! it can be kept between two calls.
+//! A cleaner that takes the bytes of a page as they arrive, and whose page is taken as it comes. It owns all that it
+//! needs, so it can be kept between two calls.
 #![tactic(auto)]
 
-mod error;
 mod session;
 
-pub use crate::error::CleaningError;
 pub use crate::session::CleaningSession;
+pub use html5session::SessionError;
 
 #[cfg(test)]
 mod tests;

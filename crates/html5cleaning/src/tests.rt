@@ -1,4 +1,4 @@
-use crate::{CleaningError, CleaningSession};
+use crate::{CleaningSession, SessionError};
 use html5ever::tokenizer::NamedReferences;
 use html5policy::Policy;
 use std::alloc::{AllocError, Global};
@@ -62,22 +62,47 @@ fn another_page_by_the_same_policy(rt: HostRuntime) {
 }
 
 #[test]
-fn bytes_that_are_no_text_change_nothing_else(rt: HostRuntime) {
+fn all_before_bytes_that_are_no_text_is_cleaned(rt: HostRuntime) {
     let mut page = Vec::new(rt.alloc());
     let session = session(&rt, rt.alloc(), "allow b");
     let (session, fed) = session.feed(b"ab\xc3");
     assert!(rt; fed == Ok(()));
     let (session, ended) = session.end();
-    assert!(rt; ended == Err(CleaningError::Cut));
-    let (session, fed) = session.feed(b"\xa9c\xffd");
-    assert!(rt; fed == Err(CleaningError::NotUtf8 { valid_up_to: 5 }));
-    assert!(rt; session.error_at() == Some(5));
-    let (session, fed) = session.feed(b"\xa9c");
+    assert!(rt; ended == Err(SessionError::Cut));
+    let (session, fed) = session.feed(b"\xa9c<b\xff>d");
+    assert!(rt; fed == Err(SessionError::NotUtf8 { valid_up_to: 7 }));
+    assert!(rt; session.error_at() == Some(7));
+    let (session, fed) = session.feed(b">e<i>");
     assert!(rt; fed == Ok(()));
     let (session, ended) = session.end();
     assert!(rt; ended == Ok(()));
-    let (mut session, fed) = session.feed(b"d");
-    assert!(rt; fed == Err(CleaningError::Over));
+    let (mut session, fed) = session.feed(b"f");
+    assert!(rt; fed == Err(SessionError::Over));
     take_all(&mut session, &mut page).expect(&rt, "memory");
-    assert_eq!(rt; page.as_slice(), b"ab\xc3\xa9c".as_slice());
+    assert_eq!(rt; page.as_slice(), b"ab\xc3\xa9c<b>e".as_slice());
+}
+
+#[test]
+fn what_waits_counts_against_the_limit(rt: HostRuntime) {
+    let mut page = Vec::new(rt.alloc());
+    let mut session = session(&rt, rt.alloc(), "allow b");
+    session.set_limit(5);
+    assert!(rt; session.has_room(5));
+    assert!(rt; !session.has_room(6));
+    let (session, fed) = session.feed(b"<b>");
+    assert!(rt; fed == Ok(()));
+    let (mut session, fed) = session.feed(b"<i>");
+    assert!(rt; fed == Ok(()));
+    assert!(rt; session.has_room(2));
+    assert!(rt; !session.has_room(3));
+    take_all(&mut session, &mut page).expect(&rt, "memory");
+    assert!(rt; session.has_room(5));
+    let (session, fed) = session.feed(b"<i x");
+    assert!(rt; fed == Ok(()));
+    assert!(rt; session.has_room(1));
+    assert!(rt; !session.has_room(2));
+    let session = session.restart();
+    assert!(rt; session.has_room(5));
+    assert!(rt; !session.has_room(6));
+    assert_eq!(rt; page.as_slice(), b"<b>".as_slice());
 }

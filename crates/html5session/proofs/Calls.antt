@@ -1,27 +1,27 @@
 -- What a call of the tokenizer between `attach` and `detach` says of the session around it.
-use Rattle.std.proofs.Common.{◌≡◌, ◌≢◌, ◌⊎◌, ℕ, ◌<◌, ◌||◌, Bool, true, false, List, [], ◌++◌, length, Some, Result, Ok, Err, refl, sym, ap, ◌∙◌, subst, inl, inr}
-use Rattle.std.proofs.lemmas.List.{append-nil}
-use Rattle.std.specs.Prelude.{IfOk, IfErr, OnErr, is_err}
-use Rattle.std.specs.Str.{chars}
-use Rattle.utf8_pieces.specs.Pieces.{Decoding, IsFault, IsNeverUtf8}
-use Rattle.utf8_pieces.specs.declared.error.DecodeError.{DecodeError}
-use Rattle.utf8_pieces.specs.declared.error.DecodeError.TheVariants as decoder
+use Rattle.std.proofs.Common.{◌≡◌, ◌≢◌, ℕ, ◌<◌, ◌||◌, Bool, true, false, List, [], ◌++◌, length, Result, Ok, Err, String, string_bytes, refl, sym, ap, ◌∙◌, subst, inl, inr}
+use Rattle.std.specs.Prelude.{IfErr, IfOk, OnErr, OnOk, is_err}
+use Rattle.utf8_pieces.specs.Pieces.{Decoding, EndsAtFault, IsNeverUtf8}
+use Rattle.html5ever_interface.specs.Sink.{Means}
 use Rattle.html5ever_interface.specs.Token.{Reply}
-use Rattle.html5reading.specs.Start.{Rules}
-use Rattle.html5partial.specs.declared.error.TokenizerError.{TokenizerError}
-use Rattle.html5records.specs.declared.record_sink.PausedAt.{PausedAt}
-use Rattle.html5records.specs.Recording.{Recording, Recorded, recorded_means, WritesOn}
-use Rattle.html5ever.specs.Detached.{DetachedOf, tokenizing}
+use Rattle.html5ever_interface.specs.Token.Reply.{KeepOn, ReadPlainText, ReadRawData, RunScript, SwitchEncoding}
 use Rattle.html5ever_interface.specs.declared.states.State.{State}
+use Rattle.html5reading.specs.Start.{Rules, nothing_open}
+use Rattle.html5partial.specs.declared.error.TokenizerError.{TokenizerError}
+use Rattle.html5ever.proofs.Standing.{StandsAt-start}
+use Rattle.html5ever.specs.Detached.{DetachedOf, tokenizing}
 use Rattle.html5ever.specs.Tokenizer.{Tokenizing, StandsAt, Feeds, FeedsItems, StopsFeeding, Finishes, FinishesItems, StopsEnding}
+use Rattle.html5feed.specs.Feed.{reply_in}
 use Rattle.html5feed.specs.Starting.{in_state}
-use Rattle.html5session.specs.Session.{SessionOf, tokenizer_of, recorded_by, is_over, after_foreign, SetsForeign, SetsState, Completes, TakesPiece, RefusesBytes, FeedsText, fed_by, StopsText, FeedsPiece, LosesPiece, FeedRefused, EndsText, StopsTextEnd, EndRefused}
+use Rattle.html5session.specs.Intake.{Completes, Decoded, IntakeOf, PieceRefused, Takes, TakesPiece, fault_said}
+use Rattle.html5session.specs.Intake.Decoded.{All, UpToFault}
+use Rattle.html5session.specs.Intake.Takes.{Whole, Front, Nothing}
+use Rattle.html5session.specs.Session.{AllRead, EndSaysFault, EndsSession, EndsText, FeedsPiece, FeedsText, FeedRefused, IsCutShort, LosesEnd, LosesPiece, SaysFault, SessionOf, SetsState, Settles, StopsPiece, StopsText, StopsTextEnd, intake_after, is_over, keeps_on, nothing_open_in, tokenizer_of, unsettled_after}
 use Rattle.html5session.specs.declared.error.SessionError.{SessionError}
-use Rattle.html5session.specs.declared.error.SessionError.TheVariants.{Memory, NotUtf8, Cut, Waiting, ItemOpen, Over}
-use Rattle.html5session.specs.declared.fed.Fed.{Fed}
-use Rattle.html5session.specs.declared.fed.Fed.TheVariants.{Done}
-use Rattle.html5session.proofs.Writing.{stands_here, writes_on-feed, writes_on-stopped, writes_on-end, writes_on-ending}
+use Rattle.html5session.specs.declared.error.SessionError.TheVariants.{Memory, NotUtf8}
 use Rattle.markup5ever.specs.NamedReferences.{NamedReference}
+use Rattle.markup5ever.specs.declared.tokenizer_result.TokenizerResult.{TokenizerResult}
+use Rattle.markup5ever.specs.declared.tokenizer_result.TokenizerResult.TheVariants.{Done, Script, EncodingIndicator}
 
 -- ---- sessions that are not over
 
@@ -31,234 +31,382 @@ goes_on false true ended is = absurd cc
 goes_on false false true is = absurd cc
 goes_on false false false is = (refl, refl, refl)
 
-over-none : (lost failed ended : Bool) → lost ≡ false → failed ≡ false → ended ≡ false → (lost || (failed || ended)) ≡ false
+pub over-none : (lost failed ended : Bool) → lost ≡ false → failed ≡ false → ended ≡ false → (lost || (failed || ended)) ≡ false
 over-none lost failed ended l f e = rw (l, f, e) refl
+
+pub over-ended : (lost failed ended : Bool) → ended ≡ true → (lost || (failed || ended)) ≡ true
+over-ended true failed ended is = refl
+over-ended false true ended is = refl
+over-ended false false ended is = is
+
+-- ---- answers
+
+-- no reply that pauses is handed on where all was read
+pub done_of : {H T : Type 0} (bytes : T → List ℕ) (answer : TokenizerResult H T) → reply_in bytes answer ≡ KeepOn → answer ≡ Done
+done_of bytes Done is = refl
+done_of bytes (Script handle) is = absurd cc
+done_of bytes (EncodingIndicator text) is = absurd cc
+
+other_reply : {H : Type 0} (reply : Reply H) → reply ≢ KeepOn → keeps_on reply ≡ false
+other_reply KeepOn other = absurd (other refl)
+other_reply ReadPlainText other = refl
+other_reply (ReadRawData kind) other = refl
+other_reply (RunScript handle) other = refl
+other_reply (SwitchEncoding text) other = refl
 
 -- ---- the tokenizer
 
 -- after a call it rests, and goes on by the same table
-rests : (r out : DetachedOf Recording) (references : List NamedReference) (t u : Tokenizing Recording)
+rests : {X : Type 0} (r out : DetachedOf X) (references : List NamedReference) (t u : Tokenizing X)
     → t ≡ tokenizing r references → u.rules ≡ t.rules → tokenizing out u.rules.references ≡ u → tokenizing out references ≡ u
-rests r out references t u begins rules rested =
-    subst (λ (n : List NamedReference). tokenizing out n ≡ u) (ap (λ (w : Rules). w.references) rules ∙ ap (λ (w : Tokenizing Recording). w.rules.references) begins) rested
+rests {X} r out references t u begins rules rested =
+    subst (λ (n : List NamedReference). tokenizing out n ≡ u) (ap (λ (w : Rules). w.references) rules ∙ ap (λ (w : Tokenizing X). w.rules.references) begins) rested
 
--- what was fed between `attach` and `detach`
-feeds_between : (s t u v : Tokenizing Recording) (text left : List ℕ) (reply : Reply PausedAt) → t ≡ s → v ≡ u
-    → Feeds recorded_means t u text left reply → Feeds recorded_means s v text left reply
-feeds_between s t u v text left reply begins ends feeds =
-    subst (λ (w : Tokenizing Recording). Feeds recorded_means w v text left reply) begins
-    (subst (λ (w : Tokenizing Recording). Feeds recorded_means t w text left reply) (sym ends) feeds)
+-- what is taken of a piece loses nothing
+takes_lost : (old new : IntakeOf) (bytes text : List ℕ) → Takes old new bytes text → new.lost ≡ old.lost
+takes_lost old new bytes text (Whole silent completes is) = ap (λ (i : IntakeOf). i.lost) is
+takes_lost old new bytes text (Front silent never ends is) = ap (λ (i : IntakeOf). i.lost) is
+takes_lost old new bytes text (Nothing fault none is) = ap (λ (i : IntakeOf). i.lost) is
 
-items_between : (s t u v : Tokenizing Recording) (text left : List ℕ) (reply : Reply PausedAt) → t ≡ s → v ≡ u
-    → FeedsItems recorded_means t u text left reply → FeedsItems recorded_means s v text left reply
-items_between s t u v text left reply begins ends items =
-    subst (λ (w : Tokenizing Recording). FeedsItems recorded_means w v text left reply) begins
-    (subst (λ (w : Tokenizing Recording). FeedsItems recorded_means t w text left reply) (sym ends) items)
+-- ---- results that are known
 
--- a feed of the tokenizer is a feed of the session
-pub feeds_text : (r out : DetachedOf Recording) (references : List NamedReference) (t u : Tokenizing Recording) (text left : List ℕ) (fed : Fed) (reply : Reply PausedAt)
-    → r.failed ≡ false → r.ended ≡ false
-    → t ≡ tokenizing r references → u.rules ≡ t.rules → tokenizing out u.rules.references ≡ u
-    → Feeds recorded_means t u text left reply → FeedsItems recorded_means t u text left reply
-    → fed ≡ fed_by reply → (fed ≡ Done → left ≡ []) → (fed ≢ Done → length left < length text)
-    → u.failed ≡ false → u.ended ≡ false
-    → FeedsText (tokenizing r references) (tokenizing out references) text left fed
-feeds_text r out references t u text left fed reply was_not_failed was_going_on begins rules rested reads items pause all shorter not_failed going_on =
-    let ends = rests r out references t u begins rules rested in
-    let feeds = feeds_between (tokenizing r references) t u (tokenizing out references) text left reply begins ends reads in
+pub answered : {T E : Type 0} (result : Result T E) (a x : T) (P : T → Type 0) → result ≡ Ok a → a ≡ x → IfOk result P → P x
+answered result a x P is same holds = subst P same (subst (λ (r : Result _ _). IfOk r P) is holds)
+
+pub errored : {T E : Type 0} (result : Result T E) (e : E) (P : E → Type 0) → result ≡ Err e → IfErr result P → P e
+errored result e P is holds = subst (λ (r : Result _ _). IfErr r P) is holds
+
+pub on_errored : {T E : Type 0} (result : Result T E) (e : E) (P : Type 0) → result ≡ Err e → OnErr result P → P
+on_errored result e P is holds = subst (λ (r : Result _ _). OnErr r P) is holds
+
+-- what a reading left of an intake
+pub left_by : {T E : Type 0} (result other : Result T E) (i j : IntakeOf) → result ≡ other → j ≡ record i { text = j.text; lost = is_err result }
+    → j ≡ record i { text = j.text; lost = is_err other }
+left_by result other i j is intake = intake ∙ ap (λ (r : Result _ _). record i { text = j.text; lost = is_err r }) is
+
+-- ---- what arrives: an intake `s` that is seen as `t`
+
+pub decoded_all : (s t : IntakeOf) (d : Decoding) (bytes text : List ℕ) → s ≡ t → Completes s.decoder d bytes text
+    → Decoded t (record s { decoder = d }) bytes text
+decoded_all s t d bytes text same completes =
+    All (subst (λ (w : IntakeOf). Completes w.decoder d bytes text) same completes) (ap (λ (w : IntakeOf). record w { decoder = d }) same)
+
+pub decoded_front : (s t : IntakeOf) (e d : Decoding) (bytes text : List ℕ) → s ≡ t → e ≡ s.decoder → IsNeverUtf8 (s.decoder.held ++ bytes)
+    → EndsAtFault e d (e.held ++ bytes) text → Decoded t (record s { decoder = d; fault = true }) bytes text
+decoded_front s t e d bytes text same unchanged never ends =
+    UpToFault (subst (λ (w : IntakeOf). IsNeverUtf8 (w.decoder.held ++ bytes)) same never)
+    (subst (λ (w : IntakeOf). EndsAtFault w.decoder d (w.decoder.held ++ bytes) text) same
+    (subst (λ (w : Decoding). EndsAtFault w d (w.held ++ bytes) text) unchanged ends))
+    (ap (λ (w : IntakeOf). record w { decoder = d; fault = true }) same)
+
+-- ---- a session `s` that is seen as `t`
+
+pub settles : {X : Type 0} (s t : SessionOf X) (j i : IntakeOf) (n : Bool) → s ≡ t → n ≡ nothing_open_in s
+    → j ≡ record s.intake { unsettled = unsettled_after n s.intake.unsettled } → (j.fault ≡ true → i ≡ fault_said j) → (j.fault ≡ false → i ≡ j)
+    → Settles t (record s { intake = i })
+settles {X} s t j i n same is settled some none =
+    let here : j ≡ record t.intake { unsettled = unsettled_after (nothing_open_in t) t.intake.unsettled } =
+    settled ∙ ap (λ (b : Bool). record s.intake { unsettled = unsettled_after b s.intake.unsettled }) is
+    ∙ ap (λ (w : SessionOf X). record w.intake { unsettled = unsettled_after (nothing_open_in w) w.intake.unsettled }) same in
+    let fault : j.fault ≡ t.intake.fault = ap (λ (w : IntakeOf). w.fault) here in
     record {
-      reply = reply;
-      feeds = feeds;
-      items = items_between (tokenizing r references) t u (tokenizing out references) text left reply begins ends items;
-      pause = pause;
-      all = all;
-      shorter = shorter;
-      records = writes_on-feed (tokenizing r references) (tokenizing out references) text left reply was_not_failed was_going_on feeds;
-      rules = ap (λ (w : Tokenizing Recording). w.rules) ends ∙ rules ∙ ap (λ (w : Tokenizing Recording). w.rules) begins;
-      not_failed = ap (λ (w : Tokenizing Recording). w.failed) ends ∙ not_failed;
-      going_on = ap (λ (w : Tokenizing Recording). w.ended) ends ∙ going_on;
+      kept = ap (λ (w : SessionOf X). record w { intake = i }) same;
+      silent = λ was. none (fault ∙ was) ∙ here;
+      said = λ was. some (fault ∙ was) ∙ ap fault_said here;
     }
 
-pub stops_text : (t s : Tokenizing Recording) (text left : List ℕ) (error : TokenizerError) (v told : Recorded) → t ≡ s → v ≡ told
-    → StopsFeeding recorded_means error t text left v → StopsText s text left told
-stops_text t s text left error v told begins same stops = (
-  error,
-  subst (λ (w : Tokenizing Recording). StopsFeeding recorded_means error w text left told) begins
-      (subst (λ (w : Recorded). StopsFeeding recorded_means error t text left w) same stops),
+pub end_says : {X : Type 0} (s t : SessionOf X) (i : IntakeOf) (place : ℕ) → s ≡ t → s.intake.text ≡ [] → s.intake.fault ≡ true
+    → place ≡ s.intake.decoder.taken → i ≡ fault_said s.intake → EndSaysFault t (record s { intake = i }) place
+end_says {X} s t i place same read fault is said = record {
+  read = subst (λ (w : SessionOf X). w.intake.text ≡ []) same read;
+  fault = subst (λ (w : SessionOf X). w.intake.fault ≡ true) same fault;
+  place_is = is ∙ ap (λ (w : SessionOf X). w.intake.decoder.taken) same;
+  kept = ap (λ (j : IntakeOf). record s { intake = j }) said ∙ ap (λ (w : SessionOf X). record w { intake = fault_said w.intake }) same;
+}
+
+pub cut_short : {X : Type 0} (s t : SessionOf X) (i : IntakeOf) → s ≡ t → s.intake.text ≡ [] → s.intake.fault ≡ false → i ≡ s.intake
+    → i.decoder.held ≢ [] → (record s { intake = i } ≡ t) × IsCutShort t.intake
+cut_short {X} s t i same read silent is held = (
+  ap (λ (j : IntakeOf). record s { intake = j }) is ∙ same,
+  record {
+    read = subst (λ (w : SessionOf X). w.intake.text ≡ []) same read;
+    no_fault = subst (λ (w : SessionOf X). w.intake.fault ≡ false) same silent;
+    held = λ none. held (ap (λ (j : IntakeOf). j.decoder.held) is ∙ ap (λ (w : SessionOf X). w.intake.decoder.held) same ∙ none);
+  },
 )
 
--- what was told between `attach` and `detach`
-finishes_between : (t s : Tokenizing Recording) (v told : Recorded) → t ≡ s → v ≡ told → Finishes recorded_means t v → Finishes recorded_means s told
-finishes_between t s v told begins same finishes =
-    subst (λ (w : Tokenizing Recording). Finishes recorded_means w told) begins (subst (λ (w : Recorded). Finishes recorded_means t w) same finishes)
+pub goes_same : {X : Type 0} (s t : SessionOf X) (i : IntakeOf) → s ≡ t → i ≡ s.intake → is_over t ≡ false → is_over (record s { intake = i }) ≡ false
+goes_same {X} s t i same is going = ap (λ (j : IntakeOf). is_over (record s { intake = j })) is ∙ ap is_over same ∙ going
 
-finished_between : (t s : Tokenizing Recording) (v told : Recorded) → t ≡ s → v ≡ told → FinishesItems recorded_means t v → FinishesItems recorded_means s told
-finished_between t s v told begins same items =
-    subst (λ (w : Tokenizing Recording). FinishesItems recorded_means w told) begins (subst (λ (w : Recorded). FinishesItems recorded_means t w) same items)
-
-pub ends_text : (t s : Tokenizing Recording) (v : Recorded) (new : Recording) → s.failed ≡ false → s.ended ≡ false → t ≡ s → v ≡ new.recorded
-    → Finishes recorded_means t v → FinishesItems recorded_means t v → EndsText s new
-ends_text t s v new not_failed going_on begins same tells items =
-    let finishes = finishes_between t s v new.recorded begins same tells in
-    record {
-      finishes = finishes;
-      items = finished_between t s v new.recorded begins same items;
-      records = writes_on-end s new.recorded not_failed going_on finishes;
-    }
-
-pub stops_end : (t s : Tokenizing Recording) (error : TokenizerError) (v told : Recorded) → t ≡ s → v ≡ told
-    → StopsEnding recorded_means error t v → StopsTextEnd s told
-stops_end t s error v told begins same stops = (
-  error,
-  subst (λ (w : Tokenizing Recording). StopsEnding recorded_means error w told) begins
-      (subst (λ (w : Recorded). StopsEnding recorded_means error t w) same stops),
-)
-
--- ---- pieces
-
--- a session `s` that is seen as `t`
-pub takes_piece : (s t : SessionOf) (d : Decoding) (queue bytes text : List ℕ) → s ≡ t → Completes s.decoder d bytes text → queue ≡ s.text ++ chars text
-    → TakesPiece t (record s { decoder = d; text = queue }) bytes
-takes_piece s t d queue bytes text same completes gains = record {
-  text = text;
-  completes = subst (λ (w : SessionOf). Completes w.decoder d bytes text) same completes;
-  taken = ap (λ (w : SessionOf). record w { decoder = d; text = queue }) same
-      ∙ ap (λ (l : List ℕ). record t { decoder = d; text = l }) (gains ∙ ap (λ (w : SessionOf). w.text ++ chars text) same);
+pub all_read : (s i : IntakeOf) → i ≡ s → s.text ≡ [] → s.fault ≡ false → i.decoder.held ≡ [] → AllRead i
+all_read s i is read silent whole = record {
+  read = ap (λ (j : IntakeOf). j.text) is ∙ read;
+  no_fault = ap (λ (j : IntakeOf). j.fault) is ∙ silent;
+  whole = whole;
 }
 
-pub loses_piece : (s t : SessionOf) (d : Decoding) (queue bytes text : List ℕ) → s ≡ t → Completes s.decoder d bytes text
-    → LosesPiece t (record s { decoder = d; text = queue; lost = true }) bytes
-loses_piece s t d queue bytes text same completes = record {
-  text = text;
-  completes = subst (λ (w : SessionOf). Completes w.decoder d bytes text) same completes;
-  stops = inl (ap recorded_by same);
-  records = subst (λ (w : SessionOf). WritesOn (recorded_by t) (recorded_by w)) (sym same) (record { taken = refl; bytes = record { rest = []; parts = sym (append-nil t.detached.sink.recorded.bytes) } });
-  kept = ap (λ (w : SessionOf). record w { detached = s.detached; decoder = d; text = queue; lost = true }) same;
-}
+module _ {X S H : Type 0} (means : Means X S H) where
+  -- it stands where it is
+  pub stands_here : (t : Tokenizing X) → t.failed ≡ false → t.ended ≡ false → StandsAt means t t.position (means.state t.sink) []
+  stands_here t not_failed going_on = StandsAt-start means t t.position refl not_failed going_on
 
--- bytes that are no UTF-8 are refused, at their place
-pub refuses_bytes : (s t : SessionOf) (d : Decoding) (bytes : List ℕ) (place : ℕ) (error : DecodeError) → s ≡ t → d ≡ s.decoder → error ≡ decoder.NotUtf8 place
-    → (error ≡ decoder.Memory) ⊎ IsFault s.decoder.taken (s.decoder.held ++ bytes) error
-    → (error ≢ decoder.Memory → IsNeverUtf8 (s.decoder.held ++ bytes))
-    → RefusesBytes t (record s { decoder = d; error_at = Some place }) bytes place
-refuses_bytes s t d bytes place error same unchanged is (inl memory) never = absurd cc
-refuses_bytes s t d bytes place error same unchanged is (inr fault) never = record {
-  unchanged = ap (λ (w : Decoding). record s { decoder = w; error_at = Some place }) unchanged ∙ ap (λ (w : SessionOf). record w { error_at = Some place }) same;
-  fault = subst (λ (w : SessionOf). IsFault w.decoder.taken (w.decoder.held ++ bytes) (decoder.NotUtf8 place)) same
-      (subst (IsFault s.decoder.taken (s.decoder.held ++ bytes)) is fault);
-  never = subst (λ (w : SessionOf). IsNeverUtf8 (w.decoder.held ++ bytes)) same (never (λ memory. cc));
-}
+  -- a feed of the tokenizer is a feed of the session
+  pub feeds_text : (r out : DetachedOf X) (references : List NamedReference) (t u : Tokenizing X) (text left : List ℕ) (reply : Reply H)
+      → t ≡ tokenizing r references → u.rules ≡ t.rules → tokenizing out u.rules.references ≡ u
+      → Feeds means t u text left reply → FeedsItems means t u text left reply
+      → (reply ≡ KeepOn → left ≡ []) → (reply ≢ KeepOn → length left < length text)
+      → u.failed ≡ false → u.ended ≡ false
+      → FeedsText means (tokenizing r references) (tokenizing out references) text left reply
+  feeds_text r out references t u text left reply begins rules rested reads items all shorter not_failed going_on =
+      let ends = rests r out references t u begins rules rested in
+      record {
+        feeds = subst (λ (w : Tokenizing X). Feeds means w (tokenizing out references) text left reply) begins
+            (subst (λ (w : Tokenizing X). Feeds means t w text left reply) (sym ends) reads);
+        items = subst (λ (w : Tokenizing X). FeedsItems means w (tokenizing out references) text left reply) begins
+            (subst (λ (w : Tokenizing X). FeedsItems means t w text left reply) (sym ends) items);
+        all = all;
+        shorter = shorter;
+        rules = ap (λ (w : Tokenizing X). w.rules) ends ∙ rules ∙ ap (λ (w : Tokenizing X). w.rules) begins;
+        not_failed = ap (λ (w : Tokenizing X). w.failed) ends ∙ not_failed;
+        going_on = ap (λ (w : Tokenizing X). w.ended) ends ∙ going_on;
+      }
 
--- bytes that no further ones make UTF-8, where a session `s` is seen as `t`
-pub never_before : (s t : SessionOf) (bytes : List ℕ) → s ≡ t → IsNeverUtf8 (t.decoder.held ++ bytes) → IsNeverUtf8 (s.decoder.held ++ bytes)
-never_before s t bytes same never = subst (λ (w : SessionOf). IsNeverUtf8 (w.decoder.held ++ bytes)) (sym same) never
+  pub stops_text : (t s : Tokenizing X) (text left : List ℕ) (error : TokenizerError) (v told : S) → t ≡ s → v ≡ told
+      → StopsFeeding means error t text left v → StopsText means s text left told
+  stops_text t s text left error v told begins same stops = (
+    error,
+    subst (λ (w : Tokenizing X). StopsFeeding means error w text left told) begins
+        (subst (λ (w : S). StopsFeeding means error t text left w) same stops),
+  )
 
--- ---- whole calls
+  -- what was told between `attach` and `detach`
+  pub ends_text : (t s : Tokenizing X) (v told : S) → t ≡ s → v ≡ told → Finishes means t v → FinishesItems means t v → EndsText means s told
+  ends_text t s v told begins same tells items = record {
+    finishes = subst (λ (w : Tokenizing X). Finishes means w told) begins (subst (λ (w : S). Finishes means t w) same tells);
+    items = subst (λ (w : Tokenizing X). FinishesItems means w told) begins (subst (λ (w : S). FinishesItems means t w) same items);
+  }
 
-pub text_stops : (result : Result Fed SessionError) (s t : SessionOf) (left : List ℕ) (v : Recorded) → s ≡ t
-    → OnErr result (StopsText (tokenizer_of s) s.text left v) → OnErr result (StopsText (tokenizer_of t) t.text left v)
-text_stops result s t left v same stops = subst (λ (w : SessionOf). OnErr result (StopsText (tokenizer_of w) w.text left v)) same stops
+  pub stops_end : (t s : Tokenizing X) (error : TokenizerError) (v told : S) → t ≡ s → v ≡ told → StopsEnding means error t v → StopsTextEnd means s told
+  stops_end t s error v told begins same stops = (
+    error,
+    subst (λ (w : Tokenizing X). StopsEnding means error w told) begins (subst (λ (w : S). StopsEnding means error t w) same stops),
+  )
 
--- what a piece left, and what was then read: the decoder and all else but the tokenizer and the text are as the piece left them
-kept_piece : (s mid t : SessionOf) (bytes : List ℕ) (lost : Bool) → TakesPiece s mid bytes
-    → t ≡ record mid { detached = t.detached; text = t.text; lost = lost }
-    → t ≡ record s { detached = t.detached; decoder = t.decoder; text = t.text; lost = lost }
-kept_piece s mid t bytes lost takes kept =
-    kept
-    ∙ ap (λ (w : SessionOf). record w { detached = t.detached; text = t.text; lost = lost }) takes.taken
-    ∙ ap (λ (d : Decoding). record s { detached = t.detached; decoder = d; text = t.text; lost = lost }) (sym (ap (λ (w : SessionOf). w.decoder) kept))
+  -- ---- a feed
 
-completes_piece : (s mid t : SessionOf) (bytes : List ℕ) (lost : Bool) (takes : TakesPiece s mid bytes)
-    → t ≡ record mid { detached = t.detached; text = t.text; lost = lost } → Completes s.decoder t.decoder bytes takes.text
-completes_piece s mid t bytes lost takes kept =
-    subst (λ (d : Decoding). Completes s.decoder d bytes takes.text) (sym (ap (λ (w : SessionOf). w.decoder) kept)) takes.completes
+  -- a piece that was taken, of which all that waits or a part of it was read
+  fed_piece : (old new : SessionOf X) (taken : IntakeOf) (bytes : List ℕ) (reply : Reply H) → is_over old ≡ false → TakesPiece old.intake taken bytes
+      → FeedsText means (tokenizer_of old) (tokenizing new.detached old.references) taken.text new.intake.text reply
+      → (reply ≡ KeepOn → taken.fault ≡ false) → new.intake ≡ intake_after (keeps_on reply) new taken new.intake.text
+      → new.references ≡ old.references → FeedsPiece means old new bytes reply
+  fed_piece old new taken bytes reply going takes feeds whole intake same = record {
+    text = takes.text;
+    taken = taken;
+    takes = takes.takes;
+    feeds = subst (λ (l : List NamedReference). FeedsText means (tokenizer_of old) (tokenizing new.detached l) taken.text new.intake.text reply) (sym same) feeds;
+    whole = whole;
+    intake = intake;
+    kept = ap (λ (l : List NamedReference). record new { references = l }) same;
+    going_on = over-none new.intake.lost new.detached.failed new.detached.ended
+        (ap (λ (i : IntakeOf). i.lost) intake ∙ takes_lost old.intake taken bytes takes.text takes.takes ∙ (goes_on old.intake.lost old.detached.failed old.detached.ended going).0)
+        feeds.not_failed feeds.going_on;
+  }
 
--- a piece that was decoded and fed was fed to the session
-pub feeds_piece : (result : Result Fed SessionError) (s mid t : SessionOf) (bytes : List ℕ) → is_over s ≡ false → TakesPiece s mid bytes
-    → t ≡ record mid { detached = t.detached; text = t.text; lost = is_err result }
-    → IfOk result (λ fed. FeedsText (tokenizer_of mid) (tokenizer_of t) mid.text t.text fed)
-    → IfOk result (λ fed. FeedsPiece s t bytes fed)
-feeds_piece (Err error) s mid t bytes going takes kept feeds = tt
-feeds_piece (Ok fed) s mid t bytes going takes kept feeds = record {
-  text = takes.text;
-  completes = completes_piece s mid t bytes false takes kept;
-  feeds = subst (λ (w : SessionOf). FeedsText (tokenizer_of w) (tokenizer_of t) w.text t.text fed) takes.taken feeds;
-  kept = kept_piece s mid t bytes false takes kept
-      ∙ ap (λ (l : Bool). record s { detached = t.detached; decoder = t.decoder; text = t.text; lost = l }) (sym (goes_on s.lost s.detached.failed s.detached.ended going).0);
-  going_on = over-none t.lost t.detached.failed t.detached.ended (ap (λ (w : SessionOf). w.lost) kept) feeds.not_failed feeds.going_on;
-}
+  -- what was read of a session that is all as before but for the piece that was taken
+  from_old : (old mid t : SessionOf X) (left : List ℕ) (reply : Reply H) → mid ≡ record old { intake = mid.intake } → t.references ≡ mid.references
+      → FeedsText means (tokenizer_of mid) (tokenizer_of t) mid.intake.text left reply
+      → FeedsText means (tokenizer_of old) (tokenizing t.detached old.references) mid.intake.text left reply
+  from_old old mid t left reply kept same feeds =
+      subst (λ (l : List NamedReference). FeedsText means (tokenizer_of old) (tokenizing t.detached l) mid.intake.text left reply)
+      (same ∙ ap (λ (w : SessionOf X). w.references) kept)
+      (subst (λ (w : Tokenizing X). FeedsText means w (tokenizer_of t) mid.intake.text left reply) (ap tokenizer_of kept) feeds)
 
--- a piece that was decoded, and whose feed was refused, was refused by the session
-pub feed_refused : (result : Result Fed SessionError) (s mid t : SessionOf) (bytes : List ℕ) → is_over s ≡ false → TakesPiece s mid bytes
-    → t ≡ record mid { detached = t.detached; text = t.text; lost = is_err result }
-    → OnErr result (StopsText (tokenizer_of mid) mid.text t.text (recorded_by t))
-    → IfErr result (λ error. error ≡ Memory)
-    → IfErr result (λ error. FeedRefused s t bytes error)
-feed_refused (Ok fed) s mid t bytes going takes kept stops memory = tt
-feed_refused (Err Memory) s mid t bytes going takes kept stops memory =
-    let goes = goes_on s.lost s.detached.failed s.detached.ended going in
-    let stopped = subst (λ (w : SessionOf). StopsText (tokenizer_of w) w.text t.text (recorded_by t)) takes.taken stops in
-    inr (record {
+  -- nothing was lost before
+  mid_lost : (old mid : SessionOf X) (bytes : List ℕ) → is_over old ≡ false → TakesPiece old.intake mid.intake bytes → mid.intake.lost ≡ false
+  mid_lost old mid bytes going takes =
+      takes_lost old.intake mid.intake bytes takes.text takes.takes ∙ (goes_on old.intake.lost old.detached.failed old.detached.ended going).0
+
+  -- up to a pause
+  pub pauses_piece : (old mid t : SessionOf X) (bytes : List ℕ) (reply : Reply H) → is_over old ≡ false → TakesPiece old.intake mid.intake bytes
+      → mid ≡ record old { intake = mid.intake } → t.references ≡ mid.references
+      → t.intake ≡ record mid.intake { text = t.intake.text; lost = false }
+      → reply ≢ KeepOn → FeedsText means (tokenizer_of mid) (tokenizer_of t) mid.intake.text t.intake.text reply
+      → FeedsPiece means old t bytes reply
+  pauses_piece old mid t bytes reply going takes kept same intake pause feeds =
+      fed_piece old t mid.intake bytes reply going takes (from_old old mid t t.intake.text reply kept same feeds)
+      (λ keeps. absurd (pause keeps))
+      (subst (λ (b : Bool). t.intake ≡ intake_after b t mid.intake t.intake.text) (sym (other_reply reply pause))
+      (intake ∙ ap (λ (b : Bool). record mid.intake { text = t.intake.text; lost = b }) (sym (mid_lost old mid bytes going takes))))
+      (same ∙ ap (λ (w : SessionOf X). w.references) kept)
+
+  -- what a feed that read all that waited left, as the piece that was taken left it
+  settled : (old mid t u : SessionOf X) (bytes : List ℕ) → is_over old ≡ false → TakesPiece old.intake mid.intake bytes
+      → t.intake ≡ record mid.intake { text = t.intake.text; lost = false } → u.detached ≡ t.detached
+      → record t.intake { unsettled = unsettled_after (nothing_open_in t) t.intake.unsettled } ≡ intake_after true u mid.intake t.intake.text
+  settled old mid t u bytes going takes intake d =
+      let now : List ℕ → Bool → Bool → ℕ → IntakeOf = λ l b o n. record mid.intake { text = l; lost = b; unsettled = unsettled_after o n } in
+      let l = t.intake.text in
+      ap (λ (i : IntakeOf). record i { unsettled = unsettled_after (nothing_open_in t) t.intake.unsettled }) intake
+      ∙ ap (now l false (nothing_open_in t)) (ap (λ (i : IntakeOf). i.unsettled) intake)
+      ∙ ap (λ (b : Bool). now l b (nothing_open_in t) mid.intake.unsettled) (sym (mid_lost old mid bytes going takes))
+      ∙ ap (λ (w : DetachedOf X). now l mid.intake.lost (nothing_open w.position.opened) mid.intake.unsettled) (sym d)
+
+  -- all that waited was read, and there was no fault
+  pub reads_piece : (old mid t u : SessionOf X) (bytes : List ℕ) → is_over old ≡ false → TakesPiece old.intake mid.intake bytes
+      → mid ≡ record old { intake = mid.intake } → t.references ≡ mid.references
+      → t.intake ≡ record mid.intake { text = t.intake.text; lost = false }
+      → FeedsText means (tokenizer_of mid) (tokenizer_of t) mid.intake.text t.intake.text KeepOn
+      → Settles t u → t.intake.fault ≡ false → FeedsPiece means old u bytes KeepOn
+  reads_piece old mid t u bytes going takes kept same intake feeds settles silent =
+      let said = settles.silent silent in
+      let text : u.intake.text ≡ t.intake.text = ap (λ (i : IntakeOf). i.text) said in
+      let d : u.detached ≡ t.detached = ap (λ (w : SessionOf X). w.detached) settles.kept in
+      let read : FeedsText means (tokenizer_of old) (tokenizing t.detached old.references) mid.intake.text t.intake.text KeepOn =
+      from_old old mid t t.intake.text KeepOn kept same feeds in
+      fed_piece old u mid.intake bytes KeepOn going takes
+      (subst (λ (l : List ℕ). FeedsText means (tokenizer_of old) (tokenizing u.detached old.references) mid.intake.text l KeepOn) (sym text)
+      (subst (λ (w : DetachedOf X). FeedsText means (tokenizer_of old) (tokenizing w old.references) mid.intake.text t.intake.text KeepOn) (sym d) read))
+      (λ _. sym (ap (λ (i : IntakeOf). i.fault) intake) ∙ silent)
+      (said ∙ settled old mid t u bytes going takes intake d ∙ ap (intake_after true u mid.intake) (sym text))
+      (ap (λ (w : SessionOf X). w.references) settles.kept ∙ same ∙ ap (λ (w : SessionOf X). w.references) kept)
+
+  -- all before a fault was read, and it is said
+  pub says_fault : (old mid t u : SessionOf X) (bytes : List ℕ) (place : ℕ) → is_over old ≡ false → TakesPiece old.intake mid.intake bytes
+      → mid ≡ record old { intake = mid.intake } → t.references ≡ mid.references
+      → t.intake ≡ record mid.intake { text = t.intake.text; lost = false }
+      → FeedsText means (tokenizer_of mid) (tokenizer_of t) mid.intake.text t.intake.text KeepOn
+      → Settles t u → t.intake.fault ≡ true → place ≡ t.intake.decoder.taken → SaysFault means old u bytes place
+  says_fault old mid t u bytes place going takes kept same intake feeds settles fault is =
+      let said = settles.said fault in
+      let none : t.intake.text ≡ [] = feeds.all refl in
+      let d : u.detached ≡ t.detached = ap (λ (w : SessionOf X). w.detached) settles.kept in
+      let from : u.references ≡ old.references =
+      ap (λ (w : SessionOf X). w.references) settles.kept ∙ same ∙ ap (λ (w : SessionOf X). w.references) kept in
+      let read : FeedsText means (tokenizer_of old) (tokenizing t.detached old.references) mid.intake.text t.intake.text KeepOn =
+      from_old old mid t t.intake.text KeepOn kept same feeds in
+      record {
+        text = takes.text;
+        taken = mid.intake;
+        takes = takes.takes;
+        feeds = subst (λ (n : List NamedReference). FeedsText means (tokenizer_of old) (tokenizing u.detached n) mid.intake.text [] KeepOn) (sym from)
+            (subst (λ (w : DetachedOf X). FeedsText means (tokenizer_of old) (tokenizing w old.references) mid.intake.text [] KeepOn) (sym d)
+            (subst (λ (l : List ℕ). FeedsText means (tokenizer_of old) (tokenizing t.detached old.references) mid.intake.text l KeepOn) none read));
+        fault = sym (ap (λ (i : IntakeOf). i.fault) intake) ∙ fault;
+        place_is = is ∙ ap (λ (i : IntakeOf). i.decoder.taken) intake;
+        intake = said ∙ ap fault_said (settled old mid t u bytes going takes intake d ∙ ap (intake_after true u mid.intake) none);
+        kept = ap (λ (l : List NamedReference). record u { references = l }) from;
+        going_on = over-none u.intake.lost u.detached.failed u.detached.ended
+            (ap (λ (i : IntakeOf). i.lost) said ∙ ap (λ (i : IntakeOf). i.lost) intake)
+            (ap (λ (w : DetachedOf X). w.failed) d ∙ feeds.not_failed) (ap (λ (w : DetachedOf X). w.ended) d ∙ feeds.going_on);
+      }
+
+  -- a reading that failed loses the piece
+  pub loses_piece : (old mid t : SessionOf X) (bytes : List ℕ) → TakesPiece old.intake mid.intake bytes
+      → mid ≡ record old { intake = mid.intake } → t.references ≡ mid.references
+      → t.intake ≡ record mid.intake { text = t.intake.text; lost = true }
+      → StopsText means (tokenizer_of mid) mid.intake.text t.intake.text (means.state t.detached.sink)
+      → LosesPiece means old t bytes
+  loses_piece old mid t bytes takes kept same intake stops = record {
+    stops = inr (record {
       text = takes.text;
-      completes = completes_piece s mid t bytes true takes kept;
-      stops = inr stopped;
-      records = writes_on-stopped stopped.0 (tokenizer_of s) _ t.text (recorded_by t) goes.1 goes.2 stopped.1;
-      kept = kept_piece s mid t bytes true takes kept;
-    })
-feed_refused (Err (NotUtf8 place)) s mid t bytes going takes kept stops memory = absurd cc
-feed_refused (Err Cut) s mid t bytes going takes kept stops memory = absurd cc
-feed_refused (Err Waiting) s mid t bytes going takes kept stops memory = absurd cc
-feed_refused (Err ItemOpen) s mid t bytes going takes kept stops memory = absurd cc
-feed_refused (Err Over) s mid t bytes going takes kept stops memory = absurd cc
+      taken = mid.intake;
+      takes = takes.takes;
+      stops = subst (λ (w : Tokenizing X). StopsText means w mid.intake.text t.intake.text (means.state t.detached.sink)) (ap tokenizer_of kept) stops;
+    });
+    lost = ap (λ (i : IntakeOf). i.lost) intake;
+    kept = ap (λ (l : List NamedReference). record t { references = l }) (same ∙ ap (λ (w : SessionOf X). w.references) kept);
+  }
 
--- all else but the tokenizer is as it was
-kept_end : (s t : SessionOf) (out : DetachedOf Recording) (lost is_lost : Bool) → s ≡ t → lost ≡ is_lost
-    → record s { detached = out; lost = lost } ≡ record t { detached = out; lost = is_lost }
-kept_end s t out lost is_lost same is =
-    ap (λ (w : SessionOf). record w { detached = out; lost = lost }) same ∙ ap (λ (l : Bool). record t { detached = out; lost = l }) is
+  -- a piece that was refused for want of memory
+  pub piece_refused : (old mid : SessionOf X) (bytes : List ℕ) → mid ≡ record old { intake = mid.intake } → PieceRefused old.intake mid.intake
+      → FeedRefused means old mid bytes Memory
+  piece_refused old mid bytes kept (inl unchanged) = inl (kept ∙ ap (λ (i : IntakeOf). record old { intake = i }) unchanged)
+  piece_refused old mid bytes kept (inr lost) = inr (record {
+    stops = inl (ap (λ (w : SessionOf X). w.detached) kept);
+    lost = lost;
+    kept = ap (λ (l : List NamedReference). record mid { references = l }) (ap (λ (w : SessionOf X). w.references) kept);
+  })
 
--- an end that the tokenizer refused was refused by the session
-pub end_refused : (result : Result (Unit {0}) SessionError) (s t : SessionOf) (out : DetachedOf Recording) (lost : Bool) → is_over s ≡ false → s.text ≡ [] → s.decoder.held ≡ [] → s ≡ t → lost ≡ is_err result
-    → OnErr result (StopsTextEnd (tokenizer_of s) out.sink.recorded)
-    → IfErr result (λ error. error ≡ Memory)
-    → IfErr result (λ error. EndRefused t (record s { detached = out; lost = lost }) error)
-end_refused (Ok done) s t out lost going read whole same is stops memory = tt
-end_refused (Err Memory) s t out lost going read whole same is stops memory =
-    let goes = goes_on s.lost s.detached.failed s.detached.ended going in
-    record {
-      error = stops.0;
-      stops = subst (λ (w : SessionOf). StopsEnding recorded_means stops.0 (tokenizer_of w) out.sink.recorded) same stops.1;
-      read = subst (λ (w : SessionOf). w.text ≡ []) same read;
-      whole = subst (λ (w : SessionOf). w.decoder.held ≡ []) same whole;
-      records = subst (λ (w : SessionOf). WritesOn (recorded_by w) out.sink.recorded) same
-          (writes_on-ending stops.0 (tokenizer_of s) out.sink.recorded goes.1 goes.2 stops.1);
-      kept = kept_end s t out lost true same is;
-    }
-end_refused (Err (NotUtf8 place)) s t out lost going read whole same is stops memory = absurd cc
-end_refused (Err Cut) s t out lost going read whole same is stops memory = absurd cc
-end_refused (Err Waiting) s t out lost going read whole same is stops memory = absurd cc
-end_refused (Err ItemOpen) s t out lost going read whole same is stops memory = absurd cc
-end_refused (Err Over) s t out lost going read whole same is stops memory = absurd cc
+  -- ---- whole calls
 
--- ---- replies of the caller
+  pub text_feeds : {T E : Type 0} (result : Result T E) (reply : T → Reply H) (s t : SessionOf X) (new : Tokenizing X) (left : List ℕ) → s ≡ t
+      → IfOk result (λ answer. FeedsText means (tokenizer_of s) new s.intake.text left (reply answer))
+      → IfOk result (λ answer. FeedsText means (tokenizer_of t) new t.intake.text left (reply answer))
+  text_feeds result reply s t new left same feeds =
+      subst (λ (w : SessionOf X). IfOk result (λ answer. FeedsText means (tokenizer_of w) new w.intake.text left (reply answer))) same feeds
 
--- a session with another answer about foreign content
-pub sets_foreign : (s t : SessionOf) (foreign : Bool) → t ≡ after_foreign s foreign → SetsForeign s t foreign
-sets_foreign s t foreign is = record {
-  stands = λ going.
-      let goes = goes_on s.lost s.detached.failed s.detached.ended going in
-      subst (λ (w : SessionOf). StandsAt recorded_means (tokenizer_of w) s.detached.position (recorded_by w) []) (sym is)
-      (stands_here (tokenizer_of (after_foreign s foreign)) goes.1 goes.2);
-  kept = is;
-}
+  pub text_stops : {T E : Type 0} (result : Result T E) (s t : SessionOf X) (left : List ℕ) (told : S) → s ≡ t
+      → OnErr result (StopsText means (tokenizer_of s) s.intake.text left told) → OnErr result (StopsText means (tokenizer_of t) t.intake.text left told)
+  text_stops result s t left told same stops = subst (λ (w : SessionOf X). OnErr result (StopsText means (tokenizer_of w) w.intake.text left told)) same stops
 
--- a session with another state
-pub sets_state : (s t : SessionOf) (state : State) → is_over s ≡ false
-    → t ≡ record s { detached = record s.detached { position = in_state s.detached.position state } } → SetsState s t state
-sets_state s t state going is =
-    let goes = goes_on s.lost s.detached.failed s.detached.ended going in
-    record {
-      stands = subst (λ (w : SessionOf). StandsAt recorded_means (tokenizer_of w) (in_state s.detached.position state) (recorded_by s) []) (sym is)
-          (stands_here (tokenizer_of (record s { detached = record s.detached { position = in_state s.detached.position state } })) goes.1 goes.2);
-      kept = is;
-    }
+  -- an answer without a pause, where a fault may still be to be said
+  pub done_feeds : {Z : Type 0} (result : Result (TokenizerResult H (String Z)) SessionError) (old mid t u : SessionOf X) (bytes : List ℕ)
+      → is_over old ≡ false → TakesPiece old.intake mid.intake bytes
+      → mid ≡ record old { intake = mid.intake } → t.references ≡ mid.references → t.intake ≡ record mid.intake { text = t.intake.text; lost = false }
+      → FeedsText means (tokenizer_of mid) (tokenizer_of t) mid.intake.text t.intake.text KeepOn → Settles t u
+      → IfOk result (λ answer. (answer ≡ Done) × (t.intake.fault ≡ false))
+      → IfOk result (λ answer. FeedsPiece means old u bytes (reply_in string_bytes answer))
+  done_feeds (Err error) old mid t u bytes going takes kept same intake feeds settles said = tt
+  done_feeds {Z} (Ok answer) old mid t u bytes going takes kept same intake feeds settles said =
+      subst (λ (a : TokenizerResult H (String Z)). FeedsPiece means old u bytes (reply_in string_bytes a)) (sym said.0)
+      (reads_piece old mid t u bytes going takes kept same intake feeds settles said.1)
+
+  pub done_refused : {T : Type 0} (result : Result T SessionError) (old mid t u : SessionOf X) (bytes : List ℕ)
+      → is_over old ≡ false → TakesPiece old.intake mid.intake bytes
+      → mid ≡ record old { intake = mid.intake } → t.references ≡ mid.references → t.intake ≡ record mid.intake { text = t.intake.text; lost = false }
+      → FeedsText means (tokenizer_of mid) (tokenizer_of t) mid.intake.text t.intake.text KeepOn → Settles t u
+      → IfErr result (λ error. (t.intake.fault ≡ true) × (error ≡ NotUtf8 t.intake.decoder.taken))
+      → IfErr result (λ error. FeedRefused means old u bytes error)
+  done_refused (Ok answer) old mid t u bytes going takes kept same intake feeds settles said = tt
+  done_refused (Err error) old mid t u bytes going takes kept same intake feeds settles said =
+      subst (FeedRefused means old u bytes) (sym said.1)
+      (says_fault old mid t u bytes t.intake.decoder.taken going takes kept same intake feeds settles said.0 refl)
+
+  -- an error of the reading
+  pub error_refused : (error : SessionError) (old mid t : SessionOf X) (bytes : List ℕ) → error ≡ Memory → TakesPiece old.intake mid.intake bytes
+      → mid ≡ record old { intake = mid.intake } → t.references ≡ mid.references → t.intake ≡ record mid.intake { text = t.intake.text; lost = true }
+      → StopsText means (tokenizer_of mid) mid.intake.text t.intake.text (means.state t.detached.sink) → FeedRefused means old t bytes error
+  error_refused error old mid t bytes is takes kept same intake stops =
+      subst (FeedRefused means old t bytes) (sym is) (inr (loses_piece old mid t bytes takes kept same intake stops))
+
+  -- ---- an end
+
+  pub ends_session : (result : Result (Unit {0}) SessionError) (s t : SessionOf X) (out : DetachedOf X) (i : IntakeOf) (lost : Bool) → is_over t ≡ false
+      → AllRead t.intake → s ≡ t → i ≡ record s.intake { lost = lost } → lost ≡ is_err result
+      → OnOk result (EndsText means (tokenizer_of s) (means.state out.sink)) → OnOk result (out.ended ≡ true)
+      → OnOk result (EndsSession means t (record s { detached = out; intake = i }))
+  ends_session (Err error) s t out i lost going read same is lost_is ends ended = tt
+  ends_session (Ok done) s t out i lost going read same is lost_is ends ended = record {
+    ends = subst (λ (w : SessionOf X). EndsText means (tokenizer_of w) (means.state out.sink)) same ends;
+    read = read;
+    kept = ap (λ (j : IntakeOf). record s { detached = out; intake = j }) is
+        ∙ ap (λ (w : SessionOf X). record w { detached = out; intake = record w.intake { lost = lost } }) same
+        ∙ ap (λ (b : Bool). record t { detached = out; intake = record t.intake { lost = b } })
+        (lost_is ∙ sym (goes_on t.intake.lost t.detached.failed t.detached.ended going).0);
+    over = over-ended i.lost out.failed out.ended ended;
+  }
+
+  pub loses_end : (result : Result (Unit {0}) SessionError) (s t : SessionOf X) (out : DetachedOf X) (i : IntakeOf) (lost : Bool)
+      → AllRead t.intake → s ≡ t → i ≡ record s.intake { lost = lost } → lost ≡ is_err result
+      → OnErr result (StopsTextEnd means (tokenizer_of s) (means.state out.sink))
+      → OnErr result (LosesEnd means t (record s { detached = out; intake = i }))
+  loses_end (Ok done) s t out i lost read same is lost_is stops = tt
+  loses_end (Err error) s t out i lost read same is lost_is stops = record {
+    stops = subst (λ (w : SessionOf X). StopsTextEnd means (tokenizer_of w) (means.state out.sink)) same stops;
+    read = read;
+    kept = ap (λ (j : IntakeOf). record s { detached = out; intake = j }) (is ∙ ap (λ (b : Bool). record s.intake { lost = b }) lost_is)
+        ∙ ap (λ (w : SessionOf X). record w { detached = out; intake = record w.intake { lost = true } }) same;
+  }
+
+  -- ---- replies of the caller
+
+  -- a session with another state
+  pub sets_state : (s t : SessionOf X) (state : State) → is_over s ≡ false
+      → t ≡ record s { detached = record s.detached { position = in_state s.detached.position state } } → SetsState means s t state
+  sets_state s t state going is =
+      let goes = goes_on s.intake.lost s.detached.failed s.detached.ended going in
+      record {
+        stands = subst (λ (w : SessionOf X). StandsAt means (tokenizer_of w) (in_state s.detached.position state) (means.state s.detached.sink) []) (sym is)
+            (stands_here (tokenizer_of (record s { detached = record s.detached { position = in_state s.detached.position state } })) goes.1 goes.2);
+        kept = is;
+      }

@@ -1,50 +1,41 @@
--- What a call of a tokenizer makes of the records that its sink wrote: more come after them, and none is taken.
-use Rattle.std.proofs.Common.{◌≡◌, false, List, ℕ, [], refl, sym, subst, inl, inr}
-use Rattle.html5ever_interface.specs.Sink.{Message}
+-- What a call of a session makes of the records that its sink wrote: more come after them, and none is taken.
+use Rattle.std.proofs.Common.{◌≡◌, Bool, false, List, ℕ, [], refl, sym, subst}
+use Rattle.std.proofs.lemmas.List.{append-nil}
 use Rattle.html5ever_interface.specs.Token.{Reply}
-use Rattle.html5ever.proofs.Standing.{StandsAt-start}
-use Rattle.html5ever.specs.Tokenizer.{Tokenizing, StandsAt, EndStops, Feeds, StopsFeeding, Finishes, StopsEnding}
+use Rattle.html5ever.specs.Tokenizer.{StandsAt}
 use Rattle.html5records.specs.declared.record_sink.PausedAt.{PausedAt}
-use Rattle.html5records.specs.Recording.{Recording, Recorded, recorded_faulted, recorded_means, recorded_step, WritesOn}
+use Rattle.html5records.specs.Recording.{Recorded, recorded_means, WritesOn}
 use Rattle.html5records.proofs.Recordings.{writes_on}
-use Rattle.html5partial.specs.declared.error.TokenizerError.{TokenizerError}
-use Rattle.html5partial.specs.declared.error.TokenizerError.TheVariants.{Memory, Sink, Failed}
-use Rattle.html5states.specs.Telling.{FaultsWithin, Stops}
+use Rattle.html5session.specs.RecordSessions.{RecordSessionOf, SetsForeign, after_foreign, recorded_by}
+use Rattle.html5session.specs.Session.{EndRefused, EndsSession, FeedRefused, FeedsPiece, is_over, tokenizer_of}
+use Rattle.html5session.specs.declared.error.SessionError.{SessionError}
+use Rattle.html5session.proofs.Calls.{goes_on, stands_here}
+use Rattle.html5session.proofs.Kept as kept
 
-writes_on-faults : (r t : Recorded) (M : List Message) → FaultsWithin recorded_step recorded_faulted r M t → WritesOn r t
-writes_on-faults r t M stops = subst (WritesOn r) (sym stops.state) (writes_on r stops.before)
+pub writes_on-none : (r : Recorded) → WritesOn r r
+writes_on-none r = record { taken = refl; bytes = record { rest = []; parts = sym (append-nil r.bytes) } }
 
-writes_on-stops : (e : TokenizerError) (r t : Recorded) (M : List Message) → Stops recorded_step recorded_faulted e r M t → WritesOn r t
-writes_on-stops Memory r t M stops = subst (WritesOn r) (sym stops.state) (writes_on r stops.before)
-writes_on-stops Sink r t M stops = writes_on-faults r t M stops
-writes_on-stops Failed r t M stops = absurd stops
+pub on_feed : (old new : RecordSessionOf) (bytes : List ℕ) (reply : Reply PausedAt) → is_over old ≡ false
+    → FeedsPiece recorded_means old new bytes reply → WritesOn (recorded_by old) (recorded_by new)
+on_feed = kept.on_feed recorded_means WritesOn writes_on-none writes_on (λ s M told line. writes_on s M) writes_on writes_on
 
-writes_on-end_stops : (e : TokenizerError) (r t : Recorded) (M : List Message) → EndStops recorded_means e r M t → WritesOn r t
-writes_on-end_stops Memory r t M stops = subst (WritesOn r) (sym stops.state) (writes_on r stops.before)
-writes_on-end_stops Sink r t M (inl stops) = writes_on-faults r t M stops
-writes_on-end_stops Sink r t M (inr is) = subst (WritesOn r) (sym is) (writes_on r M)
-writes_on-end_stops Failed r t M stops = absurd stops
+pub on_refused : (old new : RecordSessionOf) (bytes : List ℕ) (error : SessionError) → is_over old ≡ false
+    → FeedRefused recorded_means old new bytes error → WritesOn (recorded_by old) (recorded_by new)
+on_refused = kept.on_refused recorded_means WritesOn writes_on-none writes_on (λ s M told line. writes_on s M) writes_on writes_on
 
--- it stands where it is
-pub stands_here : (t : Tokenizing Recording) → t.failed ≡ false → t.ended ≡ false → StandsAt recorded_means t t.position t.sink.recorded []
-stands_here t not_failed going_on = StandsAt-start recorded_means t t.position refl not_failed going_on
+pub on_end : (old new : RecordSessionOf) → is_over old ≡ false → EndsSession recorded_means old new → WritesOn (recorded_by old) (recorded_by new)
+on_end = kept.on_end recorded_means WritesOn writes_on-none writes_on (λ s M told line. writes_on s M) writes_on writes_on
 
-pub writes_on-feed : (old new : Tokenizing Recording) (text left : List ℕ) (reply : Reply PausedAt) → old.failed ≡ false → old.ended ≡ false
-    → Feeds recorded_means old new text left reply → WritesOn old.sink.recorded new.sink.recorded
-writes_on-feed old new text left reply not_failed going_on feeds =
-    let fed = feeds old.position old.sink.recorded [] (stands_here old not_failed going_on) in
-    subst (WritesOn old.sink.recorded) (sym fed.stands.told) (writes_on old.sink.recorded _)
+pub on_end_refused : (old new : RecordSessionOf) (error : SessionError) → is_over old ≡ false
+    → EndRefused recorded_means old new error → WritesOn (recorded_by old) (recorded_by new)
+on_end_refused = kept.on_end_refused recorded_means WritesOn writes_on-none writes_on (λ s M told line. writes_on s M) writes_on writes_on
 
-pub writes_on-stopped : (e : TokenizerError) (old : Tokenizing Recording) (text left : List ℕ) (v : Recorded) → old.failed ≡ false → old.ended ≡ false
-    → StopsFeeding recorded_means e old text left v → WritesOn old.sink.recorded v
-writes_on-stopped e old text left v not_failed going_on stops =
-    writes_on-stops e old.sink.recorded v _ (stops old.position old.sink.recorded [] (stands_here old not_failed going_on)).stops
-
-pub writes_on-end : (old : Tokenizing Recording) (v : Recorded) → old.failed ≡ false → old.ended ≡ false → Finishes recorded_means old v → WritesOn old.sink.recorded v
-writes_on-end old v not_failed going_on finishes =
-    subst (WritesOn old.sink.recorded) (sym (finishes old.position old.sink.recorded [] (stands_here old not_failed going_on))) (writes_on old.sink.recorded _)
-
-pub writes_on-ending : (e : TokenizerError) (old : Tokenizing Recording) (v : Recorded) → old.failed ≡ false → old.ended ≡ false
-    → StopsEnding recorded_means e old v → WritesOn old.sink.recorded v
-writes_on-ending e old v not_failed going_on stops =
-    writes_on-end_stops e old.sink.recorded v _ (stops old.position old.sink.recorded [] (stands_here old not_failed going_on))
+-- a session with another answer about foreign content
+pub sets_foreign : (s t : RecordSessionOf) (foreign : Bool) → t ≡ after_foreign s foreign → SetsForeign s t foreign
+sets_foreign s t foreign is = record {
+  stands = λ going.
+      let goes = goes_on s.intake.lost s.detached.failed s.detached.ended going in
+      subst (λ (w : RecordSessionOf). StandsAt recorded_means (tokenizer_of w) s.detached.position (recorded_by w) []) (sym is)
+      (stands_here recorded_means (tokenizer_of (after_foreign s foreign)) goes.1 goes.2);
+  kept = is;
+}

@@ -1,1 +1,3 @@
+pub mod Intake
 pub mod Session
+pub mod RecordSessions

@@ -4,10 +4,11 @@ use thiserror::Error;
 /// Why a call was refused.
 #[derive(Clone, Copy, Debug, PartialEq, Eq, Error)]
 pub enum SessionError {
-    /// A growth was refused.
+    /// A growth was refused, or the sink refused what it was sent.
     #[error("out of memory")]
     Memory,
-    /// The bytes stop being UTF-8 at this place, counted in bytes from the first of the first piece.
+    /// The bytes stop being UTF-8 at this place, counted in bytes from the first of the first piece. All before it were
+    /// taken, and none from it on.
     #[error("the bytes from place {valid_up_to} on are no UTF-8")]
     NotUtf8 { valid_up_to: u64 },
     /// The page ends within a character: its bytes are not all there.

@@ -1,15 +1,16 @@
-//! A tokenizer that takes the bytes of a page as they arrive, and whose records are taken as they come.
-//! It owns all that it needs, so it can be kept between two calls.
+//! A tokenizer that takes the bytes of a page as they arrive, with its table and its sink. It owns all that it needs,
+//! so it can be kept between two calls.
 #![tactic(auto)]
 
 mod error;
-mod fed;
+mod intake;
 mod laws;
+mod records;
 mod session;
 
 pub use crate::error::SessionError;
-pub use crate::fed::Fed;
-pub use crate::laws::readings_ignore_taking;
+pub use crate::laws::{readings_ignore_taking, records_wait_on};
+pub use crate::records::RecordSession;
 pub use crate::session::Session;
 
 #[cfg(test)]

@@ -10,7 +10,7 @@ use Rattle.std.proofs.lemmas.List.{take_all, take_at, take-take, drop_at, drop_a
 use Rattle.std.proofs.lemmas.Bool.{and_parts, cases_lt}
 use Rattle.std.proofs.lemmas.Slice.{take-put_mid}
 use Rattle.std.proofs.lemmas.Str.{IsUtf8-append, IsUtf8-nil, IsUtf8-drop, IsUtf8-encode, IsCharBoundary-from_take, length-encode, len_utf8_bounds}
-use Rattle.utf8_pieces.specs.Pieces.{Decoding, Decodes, IsCutCharacter, IsNeverUtf8, IsTextThenCut, place_after}
+use Rattle.utf8_pieces.specs.Pieces.{Decoding, Decodes, EndsAtFault, IsCutCharacter, IsNeverUtf8, IsTextThenCut, place_after}
 use Rattle.utf8_pieces.specs.declared.error.DecodeError.{DecodeError}
 use Rattle.utf8_pieces.specs.declared.error.DecodeError.TheVariants.{NotUtf8, Memory}
 use Rattle.utf8_pieces.proofs.Cuts.{IsCutCharacter-no_fault, no_fault-text, text_past_cut}
@@ -185,6 +185,46 @@ not_never first bytes n text parts never =
     ∙ ap (λ t. first ++ t) (sym (append_assoc (take n bytes) (drop n bytes) cut.rest) ∙ ap (λ t. t ++ cut.rest) (take-append-drop n bytes))
     ∙ sym (append_assoc first bytes cut.rest) in
     never cut.rest (subst IsUtf8 split (IsUtf8-append _ _ (IsUtf8-append _ _ text parts.text) char))
+
+-- ---- the front of bytes that are refused
+
+-- a text at the front of bytes that are never UTF-8 is not all of them
+fewer_of_never : (first bytes : List ℕ) (n : ℕ) → IsUtf8 first → IsNeverUtf8 (first ++ bytes) → IsUtf8 (take n bytes) → n < length bytes
+fewer_of_never first bytes n utf8 never part =
+    elim (cases_lt n (length bytes)) [
+      | inl fewer ↦ fewer
+      | inr all ↦ absurd (never [] (subst IsUtf8 (ap (λ t. first ++ t) (take_all n bytes all) ∙ sym (append-nil (first ++ bytes))) (IsUtf8-append _ _ utf8 part)))
+    ]
+
+pub EndsAtFault-after : (old new : Decoding) (first bytes text : List ℕ) (n : ℕ) → IsUtf8 first → IsNeverUtf8 (first ++ bytes) → IsUtf8 (take n bytes)
+    → (n < length bytes → IsValidUpTo bytes n) → text ≡ first ++ take n bytes → new.held ≡ [] → new.taken ≡ place_after old.taken (length first + n)
+    → EndsAtFault old new (first ++ bytes) text
+EndsAtFault-after old new first bytes text n utf8 never part longest is held taken = record {
+  valid_len = length first + n;
+  valid = IsValidUpTo-after first bytes n utf8 (longest (fewer_of_never first bytes n utf8 never part));
+  front = is ∙ sym (take_past first bytes (length first + n) n refl);
+  held = held;
+  taken = taken;
+}
+
+-- where the first four bytes of what is held and a piece begin no text, and the bytes are never UTF-8, no front of them is text
+pub none_valid : (held now bytes front : List ℕ) (len first : ℕ) → held ≡ now → take len front ≡ take 4 (held ++ bytes)
+    → len ≡ min 4 (length held + length bytes) → first ≤ 0 → IsNeverUtf8 (now ++ bytes)
+    → (first < length (take len front) → IsValidUpTo (take len front) first) → IsValidUpTo (now ++ bytes) 0
+none_valid held now bytes front len first now_is is len_is none never longest =
+    elim (cases_lt len 4) [
+      | inl short ↦ (let all = all_of_short held now bytes front len now_is is len_is short in
+          let some = fewer_of_never [] (now ++ bytes) 0 IsUtf8-nil never IsUtf8-nil in
+          let zero_is : first ≡ 0 = omega arith in
+          subst (λ n. IsValidUpTo (now ++ bytes) n) zero_is (subst (λ t. IsValidUpTo t first) all (longest (omega (arith, ap length all, some)))))
+      | inr full ↦ (let four = none_of_full held now bytes front len first now_is is len_is full none longest in
+          IsValidUpTo-four (now ++ bytes) four.0 four.1)
+    ]
+
+-- bytes of which no front is text
+pub EndsAtFault-none : (old new : Decoding) (bytes text : List ℕ) → IsValidUpTo bytes 0 → text ≡ [] → new.held ≡ [] → new.taken ≡ place_after old.taken 0
+    → EndsAtFault old new bytes text
+EndsAtFault-none old new bytes text valid is held taken = record { valid_len = 0; valid = valid; front = is; held = held; taken = taken }
 
 -- ---- what a step gives
 

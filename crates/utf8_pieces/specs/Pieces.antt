@@ -1,5 +1,5 @@
 -- Bytes that arrive in pieces, and are to be UTF-8 all in all.
-use Rattle.std.specs.Prelude.{◌≡◌, ◌≢◌, ℕ, ◌+◌, ◌-◌, ◌^◌, ◌<◌, ◌≤◌, ◌⊎◌, ◌↔◌, min, List, ◌++◌, length, take, drop, IsUtf8, Result, OnOk, OnErr, IfOk, IfErr, IsErrAnd, String, string_bytes}
+use Rattle.std.specs.Prelude.{◌≡◌, ◌≢◌, ℕ, ◌+◌, ◌-◌, ◌^◌, ◌<◌, ◌≤◌, ◌⊎◌, ◌↔◌, min, List, [], ◌++◌, length, take, drop, IsUtf8, Result, OnOk, OnErr, IfOk, IfErr, IsErrAnd, String, string_bytes}
 use Rattle.std.specs.Borrow.{Bor}
 use Rattle.std.specs.Char.{IsScalar, encode_utf8}
 use Rattle.std.specs.List.{flat_map}
@@ -52,3 +52,11 @@ pub record Decodes {Z : Type 0} (old new : Decoding) (bytes : List ℕ) (result 
   pub fault : IfErr result (λ error. (error ≡ Memory) ⊎ IsFault old.taken bytes error)
   pub refused : IsErrAnd result (λ error. error ≢ Memory) ↔ IsNeverUtf8 bytes
   pub unchanged : OnErr result (new ≡ old)
+
+-- the front of these bytes was taken, a text up to the place where they stop being UTF-8. Nothing of them is held.
+pub record EndsAtFault (old new : Decoding) (bytes text : List ℕ) : Type 0 where
+  pub valid_len : ℕ
+  pub valid : IsValidUpTo bytes valid_len
+  pub front : text ≡ take valid_len bytes
+  pub held : new.held ≡ []
+  pub taken : new.taken ≡ place_after old.taken valid_len

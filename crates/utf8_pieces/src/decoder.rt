@@ -1,10 +1,10 @@
 //! A decoder that takes one piece after another.
 ghost use Rattle.std.specs.Prelude.{◌≡◌, ◌≢◌, ◌≤◌, ◌⊎◌, ◌↔◌, [], ◌++◌, length, IsTrue, IsOk, OnOk, OnErr, IfOk, IfErr, IsErrAnd, string_bytes};
-ghost use Rattle.utf8_pieces.specs.Pieces.{Decodes, IsCutCharacter, IsFault, IsNeverUtf8, bytes_of, place_after};
+ghost use Rattle.utf8_pieces.specs.Pieces.{Decodes, EndsAtFault, IsCutCharacter, IsFault, IsNeverUtf8, bytes_of, place_after};
 
 use crate::error::DecodeError;
 use crate::front::{joined, joined_len, padded, place_after, text_len, text_of, whole_len};
-use std::alloc::Allocator;
+use std::alloc::{AllocError, Allocator};
 use std::marker::Model;
 use std::str::from_utf8_unchecked;
 
@@ -88,6 +88,60 @@ impl Decoder {
         Err(DecodeError::NotUtf8 {
             valid_up_to: self.taken,
         })
+    }
+
+    /// How many bytes were given as text. Those that are held stand after them.
+    pub fn taken(&self) -> u64
+        ensures { result ≡ self.now.taken }
+    {
+        self.taken
+    }
+
+    /// Takes the front of a piece that `decode` refuses, and gives its text: what was held and the piece, up to the place
+    /// where they stop being UTF-8. Nothing is held then.
+    pub fn decode_front<A: Allocator + Copy>(
+        &mut self,
+        alloc: A,
+        bytes: &[u8],
+    ) -> Result<String<A>, AllocError>
+        requires { IsNeverUtf8 (self.old.held ++ bytes.now) }
+        ensures front { IfOk result (λ text.
+            EndsAtFault self.old self.new (self.old.held ++ bytes.now) (string_bytes text)) }
+        ensures err { OnErr result (self.new ≡ self.old) }
+    {
+        if self.is_complete() {
+            return self.front_after(alloc, "", bytes);
+        }
+        let held = &self.bytes[..self.count];
+        let count = held.len();
+        let len = joined_len(count, bytes);
+        let front = joined(held, bytes, len);
+        let first = whole_len(&front[..len]);
+        if first == 0 {
+            self.hold(&[], 0);
+            return Ok(String::new(alloc));
+        }
+        let text = unsafe { from_utf8_unchecked(&front[..first]) };
+        self.front_after(alloc, text, &bytes[first - count..])
+    }
+
+    // Takes the front of a piece after a text that stands in place of what is held.
+    fn front_after<A: Allocator + Copy>(
+        &mut self,
+        alloc: A,
+        first: &str,
+        bytes: &[u8],
+    ) -> Result<String<A>, AllocError>
+        requires { IsNeverUtf8 (first.now ++ bytes.now) }
+        ensures front { IfOk result (λ text.
+            EndsAtFault self.old self.new (first.now ++ bytes.now) (string_bytes text)) }
+        ensures err { OnErr result (self.new ≡ self.old) }
+    {
+        let len = whole_len(bytes);
+        let second = unsafe { from_utf8_unchecked(&bytes[..len]) };
+        let text = text_of(alloc, first, second)?;
+        self.hold(&[], first.len() + len);
+        Ok(text)
     }
 
     // Takes a piece after a text that stands in place of what is held.

@@ -87,12 +87,14 @@ class Policy:
 class Cleaner:
     """Cleans pages by a policy, one after the other, each as its pieces arrive.
 
-    Use it in a `with`, so that its memory is given back at once. One thread at a time may call it.
+    Use it in a `with`, so that its memory is given back at once. One thread at a time may call it. `limit` is how many
+    bytes it may hold: what was fed since all was read and no item was open. A piece that goes past it is refused
+    (`Status.LIMIT`), and nothing changes.
     """
 
     _free = staticmethod(library.html5_free)
 
-    def __init__(self, policy: Optional[Policy] = None):
+    def __init__(self, policy: Optional[Policy] = None, *, limit: Optional[int] = None):
         self._handle = Handle()
         self._room = ctypes.create_string_buffer(ROOM)
         text = b"" if policy is None else policy.text.encode()
@@ -101,6 +103,8 @@ class Cleaner:
         if status == Status.BAD_POLICY:
             raise PolicyError(place.value, policy.text.split("\n")[place.value - 1].strip())
         self._checked(status)
+        if limit is not None:
+            self._checked(library.html5_set_limit(self._handle, limit))
 
     def __enter__(self):
         return self

@@ -16,6 +16,7 @@ class Status(enum.IntEnum):
     BAD_POLICY = 10
     POLICY_NOT_UTF8 = 11
     ITEM_OPEN = 13
+    LIMIT = 14
 
 
 _SAID = {
@@ -27,11 +28,13 @@ _SAID = {
     Status.CLOSED: "it is closed",
     Status.BAD_OPTION: "an option has no such value",
     Status.ITEM_OPEN: "a tag or another item is open, so no state can be set",
+    Status.LIMIT: "more bytes would be held than the limit",
 }
 
 
 class TokenizerError(Exception):
-    """Why a call was refused: its `status`, and after NOT_UTF8 the place `at` of the first such byte of the page."""
+    """Why a call was refused: its `status`, and after NOT_UTF8 the place `at` of the first such byte, counted from the
+    first that was fed. All bytes before it were read."""
 
     def __init__(self, status, at=None):
         said = _SAID.get(status, "refused")

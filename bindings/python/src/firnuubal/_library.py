@@ -37,6 +37,7 @@ _CALLS = {
     "html5_insert": ([_HANDLE, *_BYTES], _STATUS),
     "html5_reply": ([_HANDLE, _STATUS], _STATUS),
     "html5_set_foreign": ([_HANDLE, ctypes.c_bool], _STATUS),
+    "html5_set_limit": ([_HANDLE, ctypes.c_uint64], _STATUS),
     "html5_end": ([_HANDLE], _STATUS),
     "html5_take": ([_HANDLE, *_BYTES], ctypes.c_size_t),
     "html5_error_at": ([_HANDLE], ctypes.c_uint64),

@@ -47,6 +47,8 @@ class Tokenizer:
     Use it in a `with`, so that its memory is given back at once. One thread at a time may call it; while the library
     reads, other threads of Python run. With `errors=False` parse errors are left out, so that each run of text is one
     token. With `texts=False` texts are passed over, and with `tags`, some names in small letters, all other tags.
+    `limit` is how many bytes it may hold: what was fed since all was read and no item was open, and the records of tokens
+    that were not read. A piece that goes past it is refused (`Status.LIMIT`), and nothing changes.
     """
 
     _free = staticmethod(library.html5_free)
@@ -63,6 +65,7 @@ class Tokenizer:
         errors: bool = True,
         texts: bool = True,
         tags: Optional[Iterable[str]] = None,
+        limit: Optional[int] = None,
     ):
         self._handle = Handle()
         self._at = ctypes.byref(self._handle)
@@ -71,6 +74,8 @@ class Tokenizer:
         options = Options(state, replies, exact_errors, keep_bom, foreign)
         last = last_start_tag.encode()
         self._checked(library.html5_new(self._handle, last, len(last), options))
+        if limit is not None:
+            self._checked(library.html5_set_limit(self._handle, limit))
 
     def __enter__(self):
         return self
@@ -87,7 +92,10 @@ class Tokenizer:
         self._free(self._handle)
 
     def feed(self, piece) -> Fed:
-        """Reads the next piece, a text or bytes. After a pause it goes on, with what waits and this piece."""
+        """Reads the next piece, a text or bytes. After a pause it goes on, with what waits and this piece.
+
+        Where bytes are no UTF-8, all before them is read, and then it is refused (`Status.NOT_UTF8`). A pause before them
+        comes first: then no feed takes anything until that was said."""
         if type(piece) is not bytes:
             piece = bytes_of(piece)
         status = library.html5_feed(self._at, piece, len(piece))
@@ -126,19 +134,29 @@ class Tokenizer:
         raise TokenizerError(Status(status), at)
 
 
+def _fed(tokenizer, piece):
+    """What a feed came to, or why it was refused."""
+    try:
+        return tokenizer.feed(piece), None
+    except TokenizerError as refused:
+        return None, refused
+
+
 def tokens(page, *, piece: int = ROOM, **options) -> Iterator[Token]:
     """The tokens of a page, as they are read, past all pauses.
 
     The page is a text, bytes, a file of either, or an iterable of pieces of either. The options are those of
-    `Tokenizer`.
+    `Tokenizer`. Where bytes are no UTF-8, the tokens before them come first, and then the error.
     """
     with Tokenizer(**options) as tokenizer:
         for given in pieces_of(page, piece):
-            fed = tokenizer.feed(given)
-            yield from tokenizer.tokens()
+            fed = None
             while fed != Fed.DONE:
-                fed = tokenizer.feed(b"")
+                fed, refused = _fed(tokenizer, given)
                 yield from tokenizer.tokens()
+                if refused:
+                    raise refused
+                given = b""
         tokenizer.end()
         yield from tokenizer.tokens()
 

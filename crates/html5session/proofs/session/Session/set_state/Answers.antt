@@ -4,4 +4,4 @@ use Rattle.html5session.proofs.session.Session.set_state.Goals as goal
 
 pub returns-else-not-nothing_open-clause-sets : goal.returns-else-not-nothing_open-clause-sets
 returns-else-not-nothing_open-clause-sets g c =
-    sets_state _ _ c.args.state (sym c.is_over.ensures ∙ c.if-is_over.false) (rw (← c.self.view_is, c.set_state.ensures) refl)
+    sets_state g.S.TokenSink.means _ _ c.args.state (sym c.is_over.ensures ∙ c.if-is_over.false) (rw (← c.self.view_is, c.set_state.ensures) refl)
