@@ -9,7 +9,7 @@ import random
 from .maker import Case, Maker
 
 POLICIES = sorted((pathlib.Path(__file__).resolve().parent / "policies").glob("*.txt"))
-KEPT = ("a", "a", "b", "p", "p", "br", "img", "i", "li", "ul", "table", "td", "x-y", "form", "video", "source", "q")
+KEPT = ("a", "a", "b", "p", "p", "br", "img", "i", "li", "ul", "table", "td", "tr", "x-y", "form", "video", "source", "q")
 HIDING = ("svg", "math", "template", "noscript", "iframe", "script", "style", "title", "textarea", "xmp", "noembed")
 OTHERS = ("param", "meta", "base", "object", "image", "select", "plaintext", "body", "h\u0131", "k")
 ATTRIBUTES = ("href", "href", "href", "href", "src", "src", "title", "lang", "rel", "cite", "alt", "xlink:href")

@@ -1,4 +1,4 @@
-"""What html5clean makes of a text: crates/html5policy/README.md and crates/html5cleaner/README.md."""
+"""What html5clean makes of a text: crates/html5policy/README.md, crates/html5cleaner/README.md and, by the rule `tree`, normal.py."""
 
 from __future__ import annotations
 
@@ -8,6 +8,7 @@ import pathlib
 import re
 from dataclasses import dataclass, field
 
+from . import normal, tree
 from .characters import lower_case
 from .items import messages
 from .messages import End, Error, Tag, Text
@@ -53,6 +54,8 @@ class Policy:
     hidden: set[str] = field(default_factory=set)
     noopener: bool = False
     balance: bool = False
+    tree: bool = False
+    depth: int = 511
 
     def add(self, rule: str, names: list[str]):
         if rule == "allow":
@@ -60,6 +63,11 @@ class Policy:
             self.own |= {(names[0], name) for name in names[1:]}
         elif rule in ("noopener", "balance"):
             setattr(self, rule, True)
+        elif rule == "tree":
+            self.tree = True
+            self.elements |= {"colgroup", "tbody", "tr", "td"}
+        elif rule == "depth":
+            self.depth = int(names[0])
         else:
             {"everywhere": self.everywhere, "schemes": self.schemes, "hide": self.hidden}[rule].update(names)
 
@@ -99,6 +107,10 @@ def escaped(text: str) -> str:
     return "".join(ESCAPED.get(c, c) for c in text)
 
 
+def start_tag(name: str, attributes) -> str:
+    return f"<{name}" + "".join(f' {name}="{escaped(value)}"' for name, value in attributes) + ">"
+
+
 @dataclass
 class Cleaner:
     """A page that is cleaned: what was written, the elements that hide what stands in them, and those that are open."""
@@ -113,13 +125,30 @@ class Cleaner:
         """A run of text, and the token after it."""
         is_shown = self.depth == 0
         if is_shown and run:
-            self.written.append(escaped(run))
+            self.write_text(run)
         if isinstance(token, Tag):
             if is_shown:
                 self.take_tag(token)
             self.count(token)
-        if isinstance(token, End) and self.policy.balance:
+        if isinstance(token, End) and (self.policy.balance or self.policy.tree):
             self.close(len(self.opened))
+
+    def fit(self, item):
+        """Writes what the normaliser makes of an item."""
+        for made in normal.fitted(self.policy.depth, self.opened, item):
+            if isinstance(made, tree.Text):
+                self.written.append(escaped(made.text))
+            elif isinstance(made, tree.End):
+                self.written.append(f"</{made.name}>")
+            else:
+                self.written.append(start_tag(made.name, made.attributes))
+        self.opened = normal.open_after(self.policy.depth, self.opened, item)
+
+    def write_text(self, run: str):
+        if self.policy.tree:
+            self.fit(tree.Text(run))
+        else:
+            self.written.append(escaped(run))
 
     def count(self, tag: Tag):
         """Counts the open elements that hide what stands in them."""
@@ -140,12 +169,17 @@ class Cleaner:
         attributes = [(name, value) for name, value in tag.attributes if self.policy.keeps(tag.name, name, value)]
         if self.policy.writes_rel(tag.name) and any(name == "href" for name, _ in attributes):
             attributes.append(("rel", "noopener"))
-        self.written.append(f"<{tag.name}" + "".join(f' {name}="{escaped(value)}"' for name, value in attributes) + ">")
+        if self.policy.tree:
+            self.fit(tree.Start(tag.name, tuple(attributes)))
+            return
+        self.written.append(start_tag(tag.name, attributes))
         if tag.name not in VOID:
             self.opened.append(tag.name)
 
     def take_end(self, name: str):
-        if not self.policy.balance:
+        if self.policy.tree:
+            self.fit(tree.End(name))
+        elif not self.policy.balance:
             self.written.append(f"</{name}>")
         elif name in self.opened:
             self.close(self.opened[::-1].index(name) + 1)

@@ -17,6 +17,8 @@ standard input is read.
                        hide ELEMENT..                elements dropped with what stands in them
                        noopener                      each link gets rel=noopener
                        balance                       end tags close what is open, and no more
+                       tree                          a browser builds the page as its tags are nested
+                       depth NUMBER                  how many elements may be open then, 511 if not said
                      empty lines, and lines that begin with #, say nothing
   --references FILE  the table of named character references, in place of the standard's
   --help             this text

@@ -9,6 +9,7 @@ use Rattle.html5stream.proofs.Handed.{between-handed, kept-stepped}
 use Rattle.html5policy.specs.Policy.{PolicyOf}
 use Rattle.html5cleaner.specs.Balance.{is_end, written_by}
 use Rattle.html5cleaner.specs.Buffering.{Buffered, WaitsOn, buffer_start, buffered_step}
+use Rattle.html5cleaner.specs.Shape.{shape_of}
 use Rattle.html5cleaner.specs.Clean.{Cleaned, at_start, clean_step, kept_where}
 use Rattle.html5cleaner.specs.Cleaning.{kept_of_page, page_bytes}
 use Rattle.html5cleaner.proofs.Printing.{page_bytes-append}
@@ -24,7 +25,7 @@ buffered-step : (taken : ℕ) (c : Cleaned) (run : List ℕ) (told : Told) (line
 buffered-step taken c run told line =
     let next : Cleaned = clean_step c run told line in
     let with : List ℕ → Buffered = λ l. record { policy = c.policy; out = record { bytes = l; taken = taken }; hidden = next.hidden; opened = next.opened } in
-    ap with (sym (page_bytes-append c.pieces (written_by c.policy.balance (is_end told) c.opened (kept_where c.policy c.hidden.depth run told))))
+    ap with (sym (page_bytes-append c.pieces (written_by (shape_of c.policy) (is_end told) c.opened (kept_where c.policy c.hidden.depth run told))))
 
 buffered-handed : (policy : PolicyOf) (taken : ℕ) (M : List Message)
     → runs_handed buffered_step (buffer_start policy taken) M ≡ buffered_after taken (runs_handed clean_step (at_start policy) M)
@@ -43,7 +44,7 @@ buffered-page policy taken references bytes =
 -- what waited before waits on after a token
 waits_on-step : (start b : Buffered) (run : List ℕ) (told : Told) (line : ℕ) → WaitsOn start b → WaitsOn start (buffered_step b run told line)
 waits_on-step start b run told line on =
-    let more : List ℕ = page_bytes (written_by b.policy.balance (is_end told) b.opened (kept_where b.policy b.hidden.depth run told)) in
+    let more : List ℕ = page_bytes (written_by (shape_of b.policy) (is_end told) b.opened (kept_where b.policy b.hidden.depth run told)) in
     record {
       policy = on.policy;
       taken = on.taken;

@@ -9,13 +9,14 @@ use Rattle.html5write.specs.Pieces.Piece.{TextPiece, StartTagPiece, EndTagPiece,
 use Rattle.html5cleaner.specs.Allowed.{is_allowed_piece, is_clean, is_written_attribute}
 use Rattle.html5cleaner.specs.Balance.{AreClean, all_balanced, all_open_after, balanced, closed_at_end, end_tags, open_after, open_by, written_by}
 use Rattle.html5elements.specs.Elements.{is_void}
+use Rattle.html5cleaner.specs.Shape.{shape_by_balance}
 use Rattle.html5cleaner.specs.Open.{closed_by}
 use Rattle.html5cleaner.proofs.Replies.{and-left, and-right}
 
-both : (a b : Bool) → a ≡ true → b ≡ true → (a && b) ≡ true
+pub both : (a b : Bool) → a ≡ true → b ≡ true → (a && b) ≡ true
 both a b first second = ap (λ x. x && b) first ∙ second
 
-all-both : {X : Type 0} (p : X → Bool) (xs ys : List X) → list_all p xs ≡ true → list_all p ys ≡ true → list_all p (xs ++ ys) ≡ true
+pub all-both : {X : Type 0} (p : X → Bool) (xs ys : List X) → list_all p xs ≡ true → list_all p ys ≡ true → list_all p (xs ++ ys) ≡ true
 all-both p xs ys first second = list_all-append p xs ys ∙ both (list_all p xs) (list_all p ys) first second
 
 module _ (policy : PolicyOf) where
@@ -91,18 +92,18 @@ module _ (policy : PolicyOf) where
   all_can-close opened (piece ∷ pieces) can clean =
       all_can-close (open_after opened piece) pieces (can-close-after opened piece can (first-clean piece pieces clean)) (later-clean piece pieces clean)
 
-  clean-closed : (ends : Bool) (opened : List (List ℕ)) → CanClose opened → AllClean (closed_at_end ends opened)
+  pub clean-closed : (ends : Bool) (opened : List (List ℕ)) → CanClose opened → AllClean (closed_at_end ends opened)
   clean-closed true opened can = can
   clean-closed false opened can = refl
 
-  clean-written : (balance ends : Bool) (opened : List (List ℕ)) (pieces : List Piece) → CanClose opened → AllClean pieces → AllClean (written_by balance ends opened pieces)
+  clean-written : (balance ends : Bool) (opened : List (List ℕ)) (pieces : List Piece) → CanClose opened → AllClean pieces → AllClean (written_by (shape_by_balance balance) ends opened pieces)
   unfolding written_by
   clean-written true ends opened pieces can clean =
       all-both (is_clean policy) (all_balanced opened pieces) (closed_at_end ends (all_open_after opened pieces)) (all_clean-balanced opened pieces can clean)
       (clean-closed ends (all_open_after opened pieces) (all_can-close opened pieces can clean))
   clean-written false ends opened pieces can clean = clean
 
-  pub can-close-by : (balance ends : Bool) (opened : List (List ℕ)) (pieces : List Piece) → CanClose opened → AllClean pieces → CanClose (open_by balance ends opened pieces)
+  pub can-close-by : (balance ends : Bool) (opened : List (List ℕ)) (pieces : List Piece) → CanClose opened → AllClean pieces → CanClose (open_by (shape_by_balance balance) ends opened pieces)
   unfolding open_by
   can-close-by true true opened pieces can clean = refl
   can-close-by true false opened pieces can clean = all_can-close opened pieces can clean
@@ -110,16 +111,8 @@ module _ (policy : PolicyOf) where
 
   -- pieces that were clean are clean with what is written after them
   pub are_clean-more : (balance ends : Bool) (before : List Piece) (opened : List (List ℕ)) (pieces : List Piece) → AreClean policy before opened → AllClean pieces
-      → AreClean policy (before ++ written_by balance ends opened pieces) (open_by balance ends opened pieces)
+      → AreClean policy (before ++ written_by (shape_by_balance balance) ends opened pieces) (open_by (shape_by_balance balance) ends opened pieces)
   are_clean-more balance ends before opened pieces are clean = record {
-    written = all-both (is_clean policy) before (written_by balance ends opened pieces) are.written (clean-written balance ends opened pieces are.closing clean);
+    written = all-both (is_clean policy) before (written_by (shape_by_balance balance) ends opened pieces) are.written (clean-written balance ends opened pieces are.closing clean);
     closing = can-close-by balance ends opened pieces are.closing clean;
   }
-
-  -- the same, where what was written and what is open have names of their own
-  pub are_clean-now : (balance ends : Bool) (before : List Piece) (opened : List (List ℕ)) (pieces after : List Piece) (elements : List (List ℕ))
-      → after ≡ before ++ written_by balance ends opened pieces → elements ≡ open_by balance ends opened pieces
-      → AreClean policy before opened → AllClean pieces → AreClean policy after elements
-  are_clean-now balance ends before opened pieces after elements is now are clean =
-      let more = are_clean-more balance ends before opened pieces are clean in
-      record { written = ap (list_all (is_clean policy)) is ∙ more.written; closing = ap (λ (o : List (List ℕ)). list_all (is_clean policy) (end_tags o)) now ∙ more.closing }

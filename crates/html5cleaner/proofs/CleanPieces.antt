@@ -11,9 +11,7 @@ use Rattle.html5write.specs.Pieces.{NameAndValue, Piece, can_write}
 use Rattle.html5write.specs.Pieces.Piece.{TextPiece}
 use Rattle.html5policy.specs.Policy.{PolicyOf, is_kept, is_noopener, is_rel_of_link}
 use Rattle.html5cleaner.specs.Allowed.{is_kept_attribute, is_written_attribute, is_allowed_piece, is_clean}
-use Rattle.html5cleaner.specs.Balance.{AreClean, is_end}
-use Rattle.html5cleaner.specs.Clean.{Cleaned, adds_noopener, attribute_chars, allows_by_kind, clean_step, is_href, noopener_attribute, where_writable, kept, kept_attributes, kept_of_parts, kept_of_run, kept_of_tag, kept_of_token, kept_where, piece_by_kind}
-use Rattle.html5cleaner.proofs.CleanBalanced.{are_clean-more}
+use Rattle.html5cleaner.specs.Clean.{adds_noopener, attribute_chars, allows_by_kind, is_href, noopener_attribute, where_writable, kept, kept_attributes, kept_of_parts, kept_of_run, kept_of_tag, kept_of_token, kept_where, piece_by_kind}
 use Rattle.html5cleaner.proofs.Replies.{and-left}
 
 filtered-more : {X : Type 0} (p q : X → Bool) (x : X) (xs : List X) (passes : Bool) → p x ≡ passes → (p x ≡ true → q x ≡ true) → list_all q (filter p xs) ≡ true
@@ -118,9 +116,3 @@ clean-where_shown policy depth run told = by-test (depth == 0)
     by-test : (shown : Bool) → list_all (is_clean policy) (if shown then kept policy run told else []) ≡ true
     by-test true = clean-kept policy run told
     by-test false = refl
-
--- a page that was clean is clean after each run of text and token
-pub are_clean-step : (s : Cleaned) (run : List ℕ) (told : Told) (line : ℕ) → AreClean s.policy s.pieces s.opened
-    → AreClean s.policy (clean_step s run told line).pieces (clean_step s run told line).opened
-are_clean-step s run told line are =
-    are_clean-more s.policy s.policy.balance (is_end told) s.pieces s.opened (kept_where s.policy s.hidden.depth run told) are (clean-where_shown s.policy s.hidden.depth run told)

@@ -10,6 +10,7 @@ use Rattle.html5write.specs.Pieces.{NameAndValue, Piece}
 use Rattle.html5write.specs.Pieces.Piece.{StartTagPiece, EndTagPiece}
 use Rattle.html5write.specs.declared.error.WriteError.{WriteError}
 use Rattle.html5cleaner.specs.declared.balance.Change.{Change}
+use Rattle.html5cleaner.specs.Shape.{shape_by_balance}
 use Rattle.html5cleaner.specs.Balance.{all_balanced, all_open_after, balanced, end_tags, is_end, open_after, open_by, written_by}
 use Rattle.html5cleaner.specs.Clean.{kept_of_run, kept_where}
 use Rattle.html5elements.specs.Elements.{is_void}
@@ -86,7 +87,7 @@ keeps-end_tag before after opened run name close is written =
 
 pub keeps-last : (balance : Bool) (close : ℕ) (before after : List Piece) (opened : List (List ℕ)) (run : List ℕ) → balance ≡ true → close ≡ length opened
     → after ≡ before ++ (kept_of_run run ++ end_tags (take close opened))
-    → Keeps (Ok (record { undo = 0; close = close })) before after opened opened (written_by balance true opened (kept_of_run run ++ [])) (open_by balance true opened (kept_of_run run ++ []))
+    → Keeps (Ok (record { undo = 0; close = close })) before after opened opened (written_by (shape_by_balance balance) true opened (kept_of_run run ++ [])) (open_by (shape_by_balance balance) true opened (kept_of_run run ++ []))
 keeps-last balance close before after opened run is all written =
     keeps-ok (record { undo = 0; close = close }) before after opened opened _ _
     (written
@@ -97,7 +98,7 @@ keeps-last balance close before after opened run is all written =
 
 pub keeps-last_plain : (balance : Bool) (close : ℕ) (before after : List Piece) (opened : List (List ℕ)) (run : List ℕ) → balance ≡ false → close ≡ 0
     → after ≡ before ++ (kept_of_run run ++ end_tags (take close opened))
-    → Keeps (Ok (record { undo = 0; close = close })) before after opened opened (written_by balance true opened (kept_of_run run ++ [])) (open_by balance true opened (kept_of_run run ++ []))
+    → Keeps (Ok (record { undo = 0; close = close })) before after opened opened (written_by (shape_by_balance balance) true opened (kept_of_run run ++ [])) (open_by (shape_by_balance balance) true opened (kept_of_run run ++ []))
 keeps-last_plain balance close before after opened run is none written =
     keeps-ok (record { undo = 0; close = close }) before after opened opened _ _
     (written
@@ -141,12 +142,12 @@ kept-untagged policy depth run End shown is = ap (λ n. if n == 0 then kept_of_r
 
 -- nothing is kept of what is hidden
 pub keeps-hidden : (policy : PolicyOf) (depth : ℕ) (page : List Piece) (opened : List (List ℕ)) (run : List ℕ) (told : Told) → is_end told ≡ false → (depth == 0) ≡ false
-    → Keeps (Ok (record { undo = 0; close = 0 })) page page opened opened (written_by policy.balance (is_end told) opened (kept_where policy depth run told))
-    (open_by policy.balance (is_end told) opened (kept_where policy depth run told))
+    → Keeps (Ok (record { undo = 0; close = 0 })) page page opened opened (written_by (shape_by_balance policy.balance) (is_end told) opened (kept_where policy depth run told))
+    (open_by (shape_by_balance policy.balance) (is_end told) opened (kept_where policy depth run told))
 keeps-hidden policy depth page opened run told goes_on hidden =
     let none : kept_where policy depth run told ≡ [] = rw hidden refl in
     keeps-ok (record { undo = 0; close = 0 }) page page opened opened _ _
     (sym (append-nil page)
-    ∙ ap (λ l. page ++ l) (sym ((λ i. written_by policy.balance (goes_on i) opened (none i)) ∙ nothing-written policy.balance opened)))
+    ∙ ap (λ l. page ++ l) (sym ((λ i. written_by (shape_by_balance policy.balance) (goes_on i) opened (none i)) ∙ nothing-written policy.balance opened)))
     refl
-    (sym ((λ i. open_by policy.balance (goes_on i) opened (none i)) ∙ nothing-opened policy.balance opened))
+    (sym ((λ i. open_by (shape_by_balance policy.balance) (goes_on i) opened (none i)) ∙ nothing-opened policy.balance opened))

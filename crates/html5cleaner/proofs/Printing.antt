@@ -15,7 +15,8 @@ use Rattle.std.specs.List.{list_all}
 use Rattle.html5policy.specs.Policy.{PolicyOf}
 use Rattle.html5cleaner.specs.Allowed.{is_clean}
 use Rattle.html5cleaner.specs.Balance.{AreClean, end_tags, is_end, written_by}
-use Rattle.html5cleaner.proofs.CleanPieces.{are_clean-step}
+use Rattle.html5cleaner.proofs.GoodItems.{IsSoundTree, are_clean-step}
+use Rattle.html5cleaner.specs.Shape.{shape_of}
 use Rattle.html5cleaner.specs.Clean.{Cleaned, at_start, clean_step, kept_where}
 use Rattle.html5cleaner.specs.Cleaning.{Cleaning, PageItems, Standing, cleaning_step, page_bytes, page_messages, page_start, printed_of}
 
@@ -29,7 +30,7 @@ page_bytes-append first second = ap encode_utf8_all (flat_map-append piece_text 
 printed-step : (before : List ℕ) (c : Cleaned) (run : List ℕ) (told : Told) (line : ℕ)
     → cleaning_step (printed_after before c) run told line ≡ printed_after before (clean_step c run told line)
 printed-step before c run told line =
-    let more = written_by c.policy.balance (is_end told) c.opened (kept_where c.policy c.hidden.depth run told) in
+    let more = written_by (shape_of c.policy) (is_end told) c.opened (kept_where c.policy c.hidden.depth run told) in
     let printed : (before ++ page_bytes c.pieces) ++ page_bytes more ≡ before ++ page_bytes (c.pieces ++ more) =
     append_assoc before (page_bytes c.pieces) (page_bytes more) ∙ ap (λ l. before ++ l) (sym (page_bytes-append c.pieces more)) in
     ap (λ l. record { policy = c.policy; printed = l; hidden = (clean_step c run told line).hidden; opened = (clean_step c run told line).opened }) printed
@@ -52,17 +53,19 @@ policy-handed policy M = kept-handed clean_step (λ c. c.policy ≡ policy) (λ 
 abbrev IsCleaned : Cleaned → Type 0
 IsCleaned c = AreClean c.policy c.pieces c.opened
 
-clean-by_its_policy : (policy : PolicyOf) (M : List Message) → IsCleaned (runs_handed clean_step (at_start policy) M)
-clean-by_its_policy policy M = kept-handed clean_step IsCleaned are_clean-step (at_start policy) M (record { written = refl; closing = refl })
+clean-by_its_policy : (policy : PolicyOf) (M : List Message) → IsSoundTree policy → IsCleaned (runs_handed clean_step (at_start policy) M)
+clean-by_its_policy policy M sound =
+    (kept-handed clean_step (λ c. IsSoundTree c.policy × IsCleaned c) (λ c run told line s. (s.0, are_clean-step c run told line s.0 s.1)) (at_start policy) M
+    (sound, record { written = refl; closing = refl })).1
 
-pub clean-handed : (policy : PolicyOf) (M : List Message) → list_all (is_clean policy) (runs_handed clean_step (at_start policy) M).pieces ≡ true
-clean-handed policy M =
-    subst (λ (p : PolicyOf). list_all (is_clean p) (runs_handed clean_step (at_start policy) M).pieces ≡ true) (policy-handed policy M) (clean-by_its_policy policy M).written
+pub clean-handed : (policy : PolicyOf) (M : List Message) → IsSoundTree policy → list_all (is_clean policy) (runs_handed clean_step (at_start policy) M).pieces ≡ true
+clean-handed policy M sound =
+    subst (λ (p : PolicyOf). list_all (is_clean p) (runs_handed clean_step (at_start policy) M).pieces ≡ true) (policy-handed policy M) (clean-by_its_policy policy M sound).written
 
 -- the end tags of the elements that are open are clean, too
-pub can-close-handed : (policy : PolicyOf) (M : List Message) → list_all (is_clean policy) (end_tags (runs_handed clean_step (at_start policy) M).opened) ≡ true
-can-close-handed policy M =
-    subst (λ (p : PolicyOf). list_all (is_clean p) (end_tags (runs_handed clean_step (at_start policy) M).opened) ≡ true) (policy-handed policy M) (clean-by_its_policy policy M).closing
+pub can-close-handed : (policy : PolicyOf) (M : List Message) → IsSoundTree policy → list_all (is_clean policy) (end_tags (runs_handed clean_step (at_start policy) M).opened) ≡ true
+can-close-handed policy M sound =
+    subst (λ (p : PolicyOf). list_all (is_clean p) (end_tags (runs_handed clean_step (at_start policy) M).opened) ≡ true) (policy-handed policy M) (clean-by_its_policy policy M sound).closing
 
 -- ---- pages
 

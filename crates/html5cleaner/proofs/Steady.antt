@@ -5,7 +5,6 @@ use Rattle.std.specs.List.{list_all, list_any}
 use Rattle.std.proofs.lemmas.Bool.{false≢true}
 use Rattle.std.proofs.lemmas.List.{append-nil, take-map}
 use Rattle.std.proofs.lemmas.List.Elements.{filter-append}
-use Rattle.html5ever_interface.specs.Sink.{Message}
 use Rattle.html5ever_interface.specs.Token.{Told, TagOf}
 use Rattle.html5ever_interface.specs.Token.Told.{Text, Null, Error, Tag, Comment, Instruction, Doctype, End}
 use Rattle.html5ever_interface.specs.declared.interface.token.TagKind.{TagKind}
@@ -21,7 +20,7 @@ use Rattle.html5write.specs.Told.{attribute_told, end_tag_told, start_tag_told}
 use Rattle.html5cleaner.specs.Allowed.{is_allowed_piece, is_clean, is_kept_attribute}
 use Rattle.html5cleaner.specs.Balance.{all_balanced, all_open_after, balanced, end_tags, is_end, open_after, written_by}
 use Rattle.html5cleaner.specs.Open.{closed_by}
-use Rattle.html5stream.specs.Pages.{runs_handed}
+use Rattle.html5cleaner.specs.Shape.{shape_by_balance}
 use Rattle.html5cleaner.specs.Clean.{Cleaned, adds_noopener, at_start, allows_by_kind, attribute_chars, clean_step, is_href, kept, kept_attributes, kept_of_parts, kept_of_run, kept_of_tag, kept_of_token, kept_where, noopener_attribute, opens, piece_by_kind, where_writable, with_noopener}
 use Rattle.html5elements.specs.Hidden.{has_content}
 use Rattle.html5cleaner.proofs.Encoded.{chars-encoded}
@@ -29,8 +28,6 @@ use lib.Utf8.{encode}
 use Rattle.html5cleaner.proofs.Replies.{and-left, and-right}
 use Rattle.html5cleaner.proofs.CleanBalanced.{CanClose, all_can-close, can-close-after, can-close-by}
 use Rattle.html5cleaner.proofs.CleanPieces.{clean-where_shown}
-use Rattle.html5cleaner.proofs.Printing.{policy-handed}
-use Rattle.html5stream.proofs.Handed.{kept-handed}
 
 -- ---- attributes that were kept
 
@@ -106,7 +103,7 @@ abbrev pub AreSteady : PolicyOf → List Piece → Type 0
 AreSteady policy [] = Unit {0}
 AreSteady policy (piece ∷ pieces) = IsSteady policy piece × AreSteady policy pieces
 
-steady-append : (policy : PolicyOf) (xs ys : List Piece) → AreSteady policy xs → AreSteady policy ys → AreSteady policy (xs ++ ys)
+pub steady-append : (policy : PolicyOf) (xs ys : List Piece) → AreSteady policy xs → AreSteady policy ys → AreSteady policy (xs ++ ys)
 steady-append policy [] ys f g = g
 steady-append policy (x ∷ xs) ys f g = (f.0, steady-append policy xs ys f.1 g)
 
@@ -130,7 +127,7 @@ kept-parts policy kind name attributes allowed can =
     ap (λ allows. if allows then where_writable (piece_by_kind kind name attributes) else []) allowed
     ∙ ap (λ writable. if writable then piece_by_kind kind name attributes ∷ [] else []) can
 
-steady-kind : (policy : PolicyOf) → IsSound policy → (kind : TagKind) (name : List ℕ) (attributes : List NameAndValue) → kept_attributes policy name attributes ≡ attributes
+pub steady-kind : (policy : PolicyOf) → IsSound policy → (kind : TagKind) (name : List ℕ) (attributes : List NameAndValue) → kept_attributes policy name attributes ≡ attributes
     → allows_by_kind policy kind (encode_utf8_all name) ≡ true → can_write (piece_by_kind kind name attributes) ≡ true → IsSteady policy (piece_by_kind kind name attributes)
 unfolding kept_of_tag
 steady-kind policy sound StartTag name attributes same allowed can = (
@@ -181,7 +178,7 @@ steady-token policy sound (Instruction content) = tt
 steady-token policy sound (Doctype doctype) = tt
 steady-token policy sound End = tt
 
-steady-shown : (policy : PolicyOf) → IsSound policy → (depth : ℕ) (run : List ℕ) (told : Told) → AreSteady policy (kept_where policy depth run told)
+pub steady-shown : (policy : PolicyOf) → IsSound policy → (depth : ℕ) (run : List ℕ) (told : Told) → AreSteady policy (kept_where policy depth run told)
 steady-shown policy sound depth run told = by-test (depth == 0)
   where
     by-test : (shown : Bool) → AreSteady policy (if shown then kept policy run told else [])
@@ -190,14 +187,14 @@ steady-shown policy sound depth run told = by-test (depth == 0)
 
 -- ---- end tags of open elements
 
-steady-end_tag : (policy : PolicyOf) → IsSound policy → (name : List ℕ) → is_clean policy (EndTagPiece name) ≡ true → IsSteady policy (EndTagPiece name)
+pub steady-end_tag : (policy : PolicyOf) → IsSound policy → (name : List ℕ) → is_clean policy (EndTagPiece name) ≡ true → IsSteady policy (EndTagPiece name)
 unfolding is_allowed_piece
 steady-end_tag policy sound name clean =
     steady-kind policy sound EndTag name (kept_attributes policy name []) (attributes-again policy name [])
     (and-left (is_allowed_piece policy (EndTagPiece name)) (can_write (EndTagPiece name)) clean)
     (and-right (is_allowed_piece policy (EndTagPiece name)) (can_write (EndTagPiece name)) clean)
 
-steady-end_tags : (policy : PolicyOf) → IsSound policy → (references : List (List ℕ)) → CanClose policy references → AreSteady policy (end_tags references)
+pub steady-end_tags : (policy : PolicyOf) → IsSound policy → (references : List (List ℕ)) → CanClose policy references → AreSteady policy (end_tags references)
 steady-end_tags policy sound [] can = tt
 steady-end_tags policy sound (name ∷ references) can = (
   steady-end_tag policy sound name (and-left (is_clean policy (EndTagPiece name)) (list_all (is_clean policy) (end_tags references)) can),
@@ -228,8 +225,8 @@ steady-all_balanced policy sound opened (piece ∷ pieces) can clean are =
     (can-close-after policy opened piece can (and-left (is_clean policy piece) (list_all (is_clean policy) pieces) clean))
     (and-right (is_clean policy piece) (list_all (is_clean policy) pieces) clean) are.1)
 
-steady-written : (policy : PolicyOf) → IsSound policy → (balance ends : Bool) (opened : List (List ℕ)) (pieces : List Piece) → CanClose policy opened → list_all (is_clean policy) pieces ≡ true
-    → AreSteady policy pieces → AreSteady policy (written_by balance ends opened pieces)
+pub steady-written : (policy : PolicyOf) → IsSound policy → (balance ends : Bool) (opened : List (List ℕ)) (pieces : List Piece) → CanClose policy opened → list_all (is_clean policy) pieces ≡ true
+    → AreSteady policy pieces → AreSteady policy (written_by (shape_by_balance balance) ends opened pieces)
 unfolding written_by
 steady-written policy sound true true opened pieces can clean are =
     steady-append policy (all_balanced opened pieces) (end_tags (all_open_after opened pieces)) (steady-all_balanced policy sound opened pieces can clean are)
@@ -237,27 +234,3 @@ steady-written policy sound true true opened pieces can clean are =
 steady-written policy sound true false opened pieces can clean are =
     steady-append policy (all_balanced opened pieces) [] (steady-all_balanced policy sound opened pieces can clean are) tt
 steady-written policy sound false ends opened pieces can clean are = are
-
--- ---- what a handler wrote
-
--- it is steady, and the end tags of what is open are clean
-record IsSteadyPage (c : Cleaned) : Type 0 where
-  steady : AreSteady c.policy c.pieces
-  can : CanClose c.policy c.opened
-
-steady-step : (c : Cleaned) (run : List ℕ) (told : Told) (line : ℕ) → IsSound c.policy → IsSteadyPage c → IsSteadyPage (clean_step c run told line)
-steady-step c run told line sound s =
-    let kept : List Piece = kept_where c.policy c.hidden.depth run told in
-    let clean = clean-where_shown c.policy c.hidden.depth run told in
-    record {
-      steady = steady-append c.policy c.pieces (written_by c.policy.balance (is_end told) c.opened kept) s.steady
-          (steady-written c.policy sound c.policy.balance (is_end told) c.opened kept s.can clean (steady-shown c.policy sound c.hidden.depth run told));
-      can = can-close-by c.policy c.policy.balance (is_end told) c.opened kept s.can clean;
-    }
-
--- the pieces that were written of messages
-pub steady-handed : (policy : PolicyOf) → IsSound policy → (M : List Message) → AreSteady policy (runs_handed clean_step (at_start policy) M).pieces
-steady-handed policy sound M =
-    subst (λ (p : PolicyOf). AreSteady p (runs_handed clean_step (at_start policy) M).pieces) (policy-handed policy M)
-    (kept-handed clean_step (λ c. IsSound c.policy × IsSteadyPage c) (λ c run told line s. (s.0, steady-step c run told line s.0 s.1)) (at_start policy) M
-    (sound, record { steady = tt; can = refl })).1.steady

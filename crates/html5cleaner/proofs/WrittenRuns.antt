@@ -4,6 +4,8 @@ use Rattle.std.specs.Prelude.{if◌then◌else◌}
 use Rattle.std.proofs.lemmas.List.{append-nil}
 use Rattle.html5write.specs.Pieces.{Piece, has_no_null}
 use Rattle.html5write.specs.Pieces.Piece.{TextPiece}
+use Rattle.html5cleaner.specs.Shape.{shape_by_balance}
+use Rattle.html5cleaner.specs.Shape.Shape.{AsKept}
 use Rattle.html5cleaner.specs.Balance.{all_balanced, all_open_after, balanced, closed_at_end, end_tags, open_after, open_by, written_by}
 use Rattle.html5cleaner.specs.Clean.{kept_of_run}
 use Rattle.html5cleaner.proofs.Balancing.{AllGo, Goes, nested-balanced, nested-open}
@@ -33,7 +35,7 @@ open-after_run opened [] later = refl
 open-after_run opened (byte ∷ run) later = open-text opened (chars (byte ∷ run)) (has_no_null (chars (byte ∷ run))) later
 
 pub written-run : (balance ends : Bool) (opened : List (List ℕ)) (run : List ℕ) (later : List Piece)
-    → written_by balance ends opened (kept_of_run run ++ later) ≡ kept_of_run run ++ written_by balance ends opened later
+    → written_by (shape_by_balance balance) ends opened (kept_of_run run ++ later) ≡ kept_of_run run ++ written_by (shape_by_balance balance) ends opened later
 unfolding written_by
 written-run true ends opened run later =
     (λ i. balanced-run opened run later i ++ closed_at_end ends (open-after_run opened run later i))
@@ -41,28 +43,28 @@ written-run true ends opened run later =
 written-run false ends opened run later = refl
 
 pub open-run : (balance ends : Bool) (opened : List (List ℕ)) (run : List ℕ) (later : List Piece)
-    → open_by balance ends opened (kept_of_run run ++ later) ≡ open_by balance ends opened later
+    → open_by (shape_by_balance balance) ends opened (kept_of_run run ++ later) ≡ open_by (shape_by_balance balance) ends opened later
 unfolding open_by
 open-run true ends opened run later = ap (λ (o : List (List ℕ)). if ends then [] else o) (open-after_run opened run later)
 open-run false ends opened run later = refl
 
 -- ---- nothing
 
-pub nothing-written : (balance : Bool) (opened : List (List ℕ)) → written_by balance false opened [] ≡ []
+pub nothing-written : (balance : Bool) (opened : List (List ℕ)) → written_by (shape_by_balance balance) false opened [] ≡ []
 unfolding written_by all_balanced
 nothing-written true opened = refl
 nothing-written false opened = refl
 
-pub nothing-opened : (balance : Bool) (opened : List (List ℕ)) → open_by balance false opened [] ≡ opened
+pub nothing-opened : (balance : Bool) (opened : List (List ℕ)) → open_by (shape_by_balance balance) false opened [] ≡ opened
 unfolding open_by all_open_after
 nothing-opened true opened = refl
 nothing-opened false opened = refl
 
 -- a run that no tag follows is written as it is
-pub plain-run : (balance : Bool) (opened : List (List ℕ)) (run : List ℕ) → written_by balance false opened (kept_of_run run ++ []) ≡ kept_of_run run ++ []
+pub plain-run : (balance : Bool) (opened : List (List ℕ)) (run : List ℕ) → written_by (shape_by_balance balance) false opened (kept_of_run run ++ []) ≡ kept_of_run run ++ []
 plain-run balance opened run = written-run balance false opened run [] ∙ ap (λ l. kept_of_run run ++ l) (nothing-written balance opened)
 
-pub plain-open : (balance : Bool) (opened : List (List ℕ)) (run : List ℕ) → open_by balance false opened (kept_of_run run ++ []) ≡ opened
+pub plain-open : (balance : Bool) (opened : List (List ℕ)) (run : List ℕ) → open_by (shape_by_balance balance) false opened (kept_of_run run ++ []) ≡ opened
 plain-open balance opened run = open-run balance false opened run [] ∙ nothing-opened balance opened
 
 -- ---- one piece
@@ -70,21 +72,6 @@ plain-open balance opened run = open-run balance false opened run [] ∙ nothing
 balanced-alone : (opened : List (List ℕ)) (piece : Piece) → all_balanced opened (piece ∷ []) ≡ balanced opened piece
 unfolding all_balanced
 balanced-alone opened piece = append-nil (balanced opened piece)
-
--- a nested piece is written as it is
-pub written-alone : (balance : Bool) (opened after : List (List ℕ)) (piece : Piece) → Goes balance opened piece after → written_by balance false opened (piece ∷ []) ≡ piece ∷ []
-unfolding written_by
-written-alone true opened after piece goes = append-nil (all_balanced opened (piece ∷ [])) ∙ balanced-alone opened piece ∙ nested-balanced opened after piece goes
-written-alone false opened after piece goes = refl
-
-pub open-alone : (balance : Bool) (opened after : List (List ℕ)) (piece : Piece) → Goes balance opened piece after → open_by balance false opened (piece ∷ []) ≡ after
-unfolding open_by all_open_after
-open-alone true opened after piece goes = nested-open opened after piece goes
-open-alone false opened after piece goes = goes
-
-pub goes-text : (balance : Bool) (opened after : List (List ℕ)) (text : List ℕ) → Goes balance opened (TextPiece text) after → opened ≡ after
-goes-text true opened after text goes = goes
-goes-text false opened after text goes = goes
 
 -- ---- a run and the piece after it
 
@@ -105,56 +92,44 @@ none-opened opened run = open-after_run opened run []
 
 -- ---- by the rule, and without it
 
-pub written-by_rule : (balance : Bool) (opened : List (List ℕ)) (pieces : List Piece) → balance ≡ true → written_by balance false opened pieces ≡ all_balanced opened pieces
+pub written-by_rule : (balance : Bool) (opened : List (List ℕ)) (pieces : List Piece) → balance ≡ true → written_by (shape_by_balance balance) false opened pieces ≡ all_balanced opened pieces
 unfolding written_by
 written-by_rule true opened pieces is = append-nil (all_balanced opened pieces)
 written-by_rule false opened pieces is = absurd cc
 
-pub open-by_rule : (balance : Bool) (opened : List (List ℕ)) (pieces : List Piece) → balance ≡ true → open_by balance false opened pieces ≡ all_open_after opened pieces
+pub open-by_rule : (balance : Bool) (opened : List (List ℕ)) (pieces : List Piece) → balance ≡ true → open_by (shape_by_balance balance) false opened pieces ≡ all_open_after opened pieces
 unfolding open_by
 open-by_rule true opened pieces is = refl
 open-by_rule false opened pieces is = absurd cc
 
-pub written-plain : (balance ends : Bool) (opened : List (List ℕ)) (pieces : List Piece) → balance ≡ false → written_by balance ends opened pieces ≡ pieces
+pub written-plain : (balance ends : Bool) (opened : List (List ℕ)) (pieces : List Piece) → balance ≡ false → written_by (shape_by_balance balance) ends opened pieces ≡ pieces
 unfolding written_by
 written-plain true ends opened pieces is = absurd cc
 written-plain false ends opened pieces is = refl
 
-pub open-plain : (balance ends : Bool) (opened : List (List ℕ)) (pieces : List Piece) → balance ≡ false → open_by balance ends opened pieces ≡ opened
+pub open-plain : (balance ends : Bool) (opened : List (List ℕ)) (pieces : List Piece) → balance ≡ false → open_by (shape_by_balance balance) ends opened pieces ≡ opened
 unfolding open_by
 open-plain true ends opened pieces is = absurd cc
 open-plain false ends opened pieces is = refl
 
 -- a run at the end of a page, by the rule: all that is open is closed
-pub written-last : (balance : Bool) (opened : List (List ℕ)) (run : List ℕ) → balance ≡ true → written_by balance true opened (kept_of_run run ++ []) ≡ kept_of_run run ++ end_tags opened
+pub written-last : (balance : Bool) (opened : List (List ℕ)) (run : List ℕ) → balance ≡ true → written_by (shape_by_balance balance) true opened (kept_of_run run ++ []) ≡ kept_of_run run ++ end_tags opened
 unfolding written_by all_balanced all_open_after
 written-last true opened run is = written-run true true opened run []
 written-last false opened run is = absurd cc
 
-pub open-last : (balance : Bool) (opened : List (List ℕ)) (pieces : List Piece) → balance ≡ true → open_by balance true opened pieces ≡ []
+pub open-last : (balance : Bool) (opened : List (List ℕ)) (pieces : List Piece) → balance ≡ true → open_by (shape_by_balance balance) true opened pieces ≡ []
 unfolding open_by
 open-last true opened pieces is = refl
 open-last false opened pieces is = absurd cc
 
 -- ---- the end
 
-go-none : (opened after : List (List ℕ)) (pieces : List Piece) → AllGo false opened pieces after → opened ≡ after
+pub go-none : (opened after : List (List ℕ)) (pieces : List Piece) → AllGo AsKept opened pieces after → opened ≡ after
 go-none opened after [] go = go
 go-none opened after (piece ∷ pieces) go = go.1.0 ∙ go-none go.0 after pieces go.1.1
 
--- where nothing else is kept, the end closes what is open after these pieces
-pub written-at_end : (balance : Bool) (opened : List (List ℕ)) (pieces : List Piece) → AllGo balance [] pieces opened → written_by balance true opened [] ≡ end_tags opened
-unfolding written_by all_balanced all_open_after
-written-at_end true opened pieces go = refl
-written-at_end false opened pieces go = ap (λ (o : List (List ℕ)). end_tags o) (go-none [] opened pieces go)
-
 -- without the rule nothing is open
-pub none-open : (balance : Bool) (opened : List (List ℕ)) (pieces : List Piece) → balance ≡ false → AllGo balance [] pieces opened → opened ≡ []
+pub none-open : (balance : Bool) (opened : List (List ℕ)) (pieces : List Piece) → balance ≡ false → AllGo (shape_by_balance balance) [] pieces opened → opened ≡ []
 none-open true opened pieces is go = absurd cc
 none-open false opened pieces is go = sym (go-none [] opened pieces go)
-
--- and after the end nothing is open
-pub open-at_end : (balance : Bool) (opened : List (List ℕ)) (pieces later : List Piece) → AllGo balance [] pieces opened → open_by balance true opened later ≡ []
-unfolding open_by
-open-at_end true opened pieces later go = refl
-open-at_end false opened pieces later go = sym (go-none [] opened pieces go)

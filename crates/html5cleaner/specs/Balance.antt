@@ -1,5 +1,6 @@
--- What a policy with the rule `balance` makes of the pieces that it keeps: each end tag closes the innermost open element, and at the end of
--- the page none is open. The open elements are their names, in characters, innermost first.
+-- What is written of the pieces that a policy keeps. By the rule `balance` each end tag closes the innermost open element, and at the end of
+-- the page none is open; by the rule `tree` they are made to fit, too. The open elements are their names, in characters, innermost first; those
+-- of a tree are of ASCII, so that their bytes are the same.
 use Rattle.std.specs.Prelude.{◌≡◌, ℕ, Bool, true, false, List, [], ◌∷◌, ◌++◌, ◌&&◌, drop, map, take, encode_utf8_all, if◌then◌else◌}
 use Rattle.std.specs.List.{list_all}
 use Rattle.std.specs.Str.{bytes_eq}
@@ -11,6 +12,9 @@ use Rattle.html5policy.specs.Policy.{PolicyOf}
 use Rattle.html5cleaner.specs.Allowed.{is_clean}
 use Rattle.html5elements.specs.Elements.{is_void}
 use Rattle.html5cleaner.specs.Open.{closed_by}
+use Rattle.html5cleaner.specs.Shape.{Shape, all_fitted, open_after_all, pieces_in}
+use Rattle.html5cleaner.specs.Shape.Shape.{AsKept, Balanced, Tree}
+use Rattle.html5nested.specs.PageItems.{items_of}
 
 -- ---- a piece
 
@@ -46,14 +50,18 @@ is_end other = false
 abbrev pub closed_at_end : Bool → List (List ℕ) → List Piece
 closed_at_end ends opened = if ends then end_tags opened else []
 
--- what is written of pieces that are kept, where the page may end after them: as they are, or balanced
-unfoldable pub written_by : Bool → Bool → List (List ℕ) → List Piece → List Piece
-written_by balance ends opened pieces =
-    if balance then all_balanced opened pieces ++ closed_at_end ends (all_open_after opened pieces) else pieces
+-- what is written of pieces that are kept, where the page may end after them: as they are, balanced, or made to fit
+unfoldable pub written_by : Shape → Bool → List (List ℕ) → List Piece → List Piece
+written_by AsKept ends opened pieces = pieces
+written_by Balanced ends opened pieces = all_balanced opened pieces ++ closed_at_end ends (all_open_after opened pieces)
+written_by (Tree limit) ends opened pieces =
+    pieces_in (all_fitted limit opened (items_of pieces)) ++ closed_at_end ends (open_after_all limit opened (items_of pieces))
 
 -- the elements that are open after them
-unfoldable pub open_by : Bool → Bool → List (List ℕ) → List Piece → List (List ℕ)
-open_by balance ends opened pieces = if balance then (if ends then [] else all_open_after opened pieces) else opened
+unfoldable pub open_by : Shape → Bool → List (List ℕ) → List Piece → List (List ℕ)
+open_by AsKept ends opened pieces = opened
+open_by Balanced ends opened pieces = if ends then [] else all_open_after opened pieces
+open_by (Tree limit) ends opened pieces = if ends then [] else open_after_all limit opened (items_of pieces)
 
 -- ---- a page that is balanced
 

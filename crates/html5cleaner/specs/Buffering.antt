@@ -6,6 +6,7 @@ use Rattle.outbox.specs.Outgoing.{Outgoing, adding, taking}
 use Rattle.html5ever_interface.specs.Token.{Told}
 use Rattle.html5policy.specs.Policy.{PolicyOf}
 use Rattle.html5cleaner.specs.Balance.{is_end, open_by, written_by}
+use Rattle.html5cleaner.specs.Shape.{shape_of}
 use Rattle.html5cleaner.specs.Clean.{kept_where, opens}
 use Rattle.html5cleaner.specs.Cleaning.{page_bytes}
 use Rattle.html5elements.specs.Hidden.{Hidden, hidden_after, nothing_hidden}
@@ -26,9 +27,9 @@ buffer_start policy taken = record { policy = policy; out = record { bytes = [];
 abbrev pub buffered_step : Buffered → List ℕ → Told → ℕ → Buffered
 buffered_step b run told line = record {
   policy = b.policy;
-  out = adding b.out (page_bytes (written_by b.policy.balance (is_end told) b.opened (kept_where b.policy b.hidden.depth run told)));
+  out = adding b.out (page_bytes (written_by (shape_of b.policy) (is_end told) b.opened (kept_where b.policy b.hidden.depth run told)));
   hidden = hidden_after (opens b.policy) b.hidden told;
-  opened = open_by b.policy.balance (is_end told) b.opened (kept_where b.policy b.hidden.depth run told);
+  opened = open_by (shape_of b.policy) (is_end told) b.opened (kept_where b.policy b.hidden.depth run told);
 }
 
 -- so many bytes more were taken, and all else is as it was

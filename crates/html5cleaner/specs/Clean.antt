@@ -14,6 +14,7 @@ use Rattle.html5elements.specs.Elements.{is_void}
 use Rattle.html5elements.specs.Hidden.{Hidden, has_content, hidden_after, nothing_hidden}
 use Rattle.html5cleaner.specs.Allowed.{is_kept_attribute}
 use Rattle.html5cleaner.specs.Balance.{is_end, open_by, written_by}
+use Rattle.html5cleaner.specs.Shape.{shape_of}
 
 -- ---- what is hidden
 
@@ -86,7 +87,7 @@ kept_where policy depth run told = if depth == 0 then kept policy run told else 
 
 -- ---- the page
 
--- the policy, the pieces that were written, what is hidden, and the elements that are open, by a policy that balances
+-- the policy, the pieces that were written, what is hidden, and the elements that are open, by a policy that balances or makes a tree
 pub record Cleaned : Type 0 where
   pub policy : PolicyOf
   pub pieces : List Piece
@@ -101,7 +102,7 @@ at_start policy = record { policy = policy; pieces = []; hidden = nothing_hidden
 abbrev pub clean_step : Cleaned → List ℕ → Told → ℕ → Cleaned
 clean_step s run told line = record {
   policy = s.policy;
-  pieces = s.pieces ++ written_by s.policy.balance (is_end told) s.opened (kept_where s.policy s.hidden.depth run told);
+  pieces = s.pieces ++ written_by (shape_of s.policy) (is_end told) s.opened (kept_where s.policy s.hidden.depth run told);
   hidden = hidden_after (opens s.policy) s.hidden told;
-  opened = open_by s.policy.balance (is_end told) s.opened (kept_where s.policy s.hidden.depth run told);
+  opened = open_by (shape_of s.policy) (is_end told) s.opened (kept_where s.policy s.hidden.depth run told);
 }

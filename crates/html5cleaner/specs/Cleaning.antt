@@ -8,6 +8,7 @@ use Rattle.html5policy.specs.Policy.{PolicyOf}
 use Rattle.html5policy.specs.declared.error.PolicyError.{PolicyError}
 use Rattle.html5write.specs.Pieces.{Piece, pieces_text}
 use Rattle.html5cleaner.specs.Balance.{end_tags, is_end, open_by, written_by}
+use Rattle.html5cleaner.specs.Shape.{shape_of}
 use Rattle.html5cleaner.specs.Clean.{at_start, clean_step, kept_where, opens}
 use Rattle.html5elements.specs.Hidden.{Hidden, hidden_after, nothing_hidden}
 use Rattle.markup5ever.specs.NamedReferences.{NamedReference}
@@ -59,9 +60,9 @@ kept_of_page policy references bytes = (runs_after clean_step references (at_sta
 abbrev pub cleaning_step : Cleaning → List ℕ → Told → ℕ → Cleaning
 cleaning_step s run told line = record {
   policy = s.policy;
-  printed = s.printed ++ page_bytes (written_by s.policy.balance (is_end told) s.opened (kept_where s.policy s.hidden.depth run told));
+  printed = s.printed ++ page_bytes (written_by (shape_of s.policy) (is_end told) s.opened (kept_where s.policy s.hidden.depth run told));
   hidden = hidden_after (opens s.policy) s.hidden told;
-  opened = open_by s.policy.balance (is_end told) s.opened (kept_where s.policy s.hidden.depth run told);
+  opened = open_by (shape_of s.policy) (is_end told) s.opened (kept_where s.policy s.hidden.depth run told);
 }
 
 -- the messages of a page, which don't depend on what was printed before it

@@ -1,8 +1,10 @@
 pub mod Allowed
 pub mod Open
 pub mod Counts
+pub mod Shape
 pub mod Balance
 pub mod Clean
+pub mod Settled
 pub mod Kept
 pub mod Reading
 pub mod Urls

@@ -8,13 +8,15 @@ ghost use Rattle.html5policy.specs.Policy.{PolicyOf};
 ghost use Rattle.html5cleaner.specs.Balance.{is_end, open_by, written_by};
 ghost use Rattle.html5cleaner.specs.Buffering.{Buffered, WaitsOn, after_taking, buffer_start, buffered_step};
 ghost use Rattle.html5cleaner.specs.Clean.{kept_where};
+ghost use Rattle.html5cleaner.specs.Settled.{names_in};
+ghost use Rattle.html5cleaner.specs.Shape.{shape_of};
 ghost use Rattle.html5cleaner.specs.Cleaning.{kept_of_page, page_bytes};
 ghost use Rattle.markup5ever.specs.NamedReferences.{NamedReference};
 ghost use Rattle.outbox.specs.Outgoing.{adding, waiting};
 
 use crate::cleaner::keep_where;
 use crate::hidden::pass_token;
-use crate::open_elements::OpenElements;
+use crate::opened::Opened;
 use html5elements::hidden::Hidden;
 use html5ever_interface::interface::token::{SinkFault, Token};
 use html5policy::Policy;
@@ -41,16 +43,21 @@ pub struct CleanBuffer<A: Allocator = Global> {
     policy: Policy<A>,
     out: Outbox<A>,
     hidden: Hidden<A>,
-    opened: OpenElements<A>,
+    opened: Opened<A>,
 }
 
 impl<A: Allocator> Model for CleanBuffer<A> {
+    ghost use Rattle.std.specs.Prelude.{◌≡◌};
     ghost use Rattle.html5elements.specs.Hidden.{hidden_of};
+    ghost use Rattle.html5cleaner.specs.Settled.{names_in};
+    ghost use Rattle.html5cleaner.specs.Shape.{shape_of};
     ghost use Rattle.html5cleaner.specs.Buffering.{Buffered};
 
     ghost Value = { Buffered };
 
-    ghost view = { λ c. record { policy = c.policy; out = c.out; hidden = hidden_of c.hidden; opened = c.opened } };
+    ghost view = { λ c. record { policy = c.policy; out = c.out; hidden = hidden_of c.hidden; opened = names_in (shape_of c.policy) c.opened } };
+
+    ghost invariant = { λ c. c.opened.tree.limit ≡ c.policy.depth };
 }
 
 // Puts out what is kept of a run of text and the token after it, all of it or nothing.
@@ -58,29 +65,31 @@ fn put_kept<A: Allocator + Copy>(
     alloc: A,
     policy: &Policy<A>,
     depth: u64,
-    opened: &mut OpenElements<A>,
+    opened: &mut Opened<A>,
     out: &mut Outbox<A>,
     run: &str,
     token: &Token<A>,
 ) -> Result<(), SinkFault>
+    requires { opened.old.tree.limit ≡ policy.now.depth }
     ensures put { OnOk result (out.new ≡ adding out.old (page_bytes
-        (written_by policy.now.balance (is_end (told_by token.now)) opened.old (kept_where policy.now depth run.now (told_by token.now))))) }
-    ensures opened { OnOk result (opened.new
-        ≡ open_by policy.now.balance (is_end (told_by token.now)) opened.old (kept_where policy.now depth run.now (told_by token.now))) }
+        (written_by (shape_of policy.now) (is_end (told_by token.now)) (names_in (shape_of policy.now) opened.old) (kept_where policy.now depth run.now (told_by token.now))))) }
+    ensures opened { OnOk result (names_in (shape_of policy.now) opened.new
+        ≡ open_by (shape_of policy.now) (is_end (told_by token.now)) (names_in (shape_of policy.now) opened.old) (kept_where policy.now depth run.now (told_by token.now))) }
     ensures unchanged { OnErr result (out.new ≡ out.old) }
-    ensures unopened { OnErr result (opened.new ≡ opened.old) }
+    ensures unopened { OnErr result (names_in (shape_of policy.now) opened.new ≡ names_in (shape_of policy.now) opened.old) }
+    ensures limit { opened.new.tree.limit ≡ opened.old.tree.limit }
 {
     let mut page = Writer::new(alloc);
-    let Ok(change) = keep_where(alloc, policy, depth, opened, &mut page, run, token) else {
+    let Ok(pending) = keep_where(alloc, policy, depth, opened, &mut page, run, token) else {
         return Err(SinkFault);
     };
     match out.push(page.as_str().as_bytes()) {
         Ok(()) => {
-            opened.close(change.close);
+            opened.settle(pending);
             Ok(())
         }
         Err(_) => {
-            opened.close(change.undo);
+            opened.undo(pending);
             Err(SinkFault)
         }
     }
@@ -91,12 +100,13 @@ impl<A: Allocator + Copy> CleanBuffer<A> {
     pub fn new(alloc: A, policy: Policy<A>) -> CleanBuffer<A>
         ensures { result ≡ buffer_start policy 0 }
     {
+        let opened = Opened::none(alloc, policy.depth());
         CleanBuffer {
             alloc,
             policy,
             out: Outbox::new(alloc),
             hidden: Hidden::none(alloc),
-            opened: OpenElements::none(alloc),
+            opened,
         }
     }
 }

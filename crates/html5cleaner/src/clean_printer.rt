@@ -3,11 +3,13 @@ ghost use Rattle.std.specs.Prelude.{◌≡◌, ◌++◌, [], OnOk, OnErr, string
 ghost use Rattle.html5ever_interface.specs.Token.{told_by};
 ghost use Rattle.html5cleaner.specs.Balance.{is_end, open_by, written_by};
 ghost use Rattle.html5cleaner.specs.Clean.{kept_where};
+ghost use Rattle.html5cleaner.specs.Settled.{names_in};
+ghost use Rattle.html5cleaner.specs.Shape.{shape_of};
 ghost use Rattle.html5cleaner.specs.Cleaning.{page_bytes, page_start, cleaning_of, standing_of};
 
 use crate::cleaner::keep_where;
 use crate::hidden::pass_token;
-use crate::open_elements::OpenElements;
+use crate::opened::Opened;
 use devices::{Printer, Target};
 use html5elements::hidden::Hidden;
 use html5ever_interface::interface::token::{SinkFault, Token};
@@ -24,16 +26,21 @@ pub struct CleanPrinter<W, A: Allocator = Global> {
     policy: Policy<A>,
     printer: Printer<W, A>,
     hidden: Hidden<A>,
-    opened: OpenElements<A>,
+    opened: Opened<A>,
 }
 
 impl<W, A: Allocator> Model for CleanPrinter<W, A> {
+    ghost use Rattle.std.specs.Prelude.{◌≡◌};
     ghost use Rattle.html5elements.specs.Hidden.{hidden_of};
+    ghost use Rattle.html5cleaner.specs.Settled.{names_in};
+    ghost use Rattle.html5cleaner.specs.Shape.{shape_of};
     ghost use Rattle.html5cleaner.specs.Cleaning.{Printed};
 
     ghost Value = { Printed W };
 
-    ghost view = { λ c. record { policy = c.policy; printer = c.printer; hidden = hidden_of c.hidden; opened = c.opened } };
+    ghost view = { λ c. record { policy = c.policy; printer = c.printer; hidden = hidden_of c.hidden; opened = names_in (shape_of c.policy) c.opened } };
+
+    ghost invariant = { λ c. c.opened.tree.limit ≡ c.policy.depth };
 }
 
 // Prints what is kept of a run of text and the token after it, all of it or nothing.
@@ -41,29 +48,31 @@ fn print_kept<W: Target, A: Allocator + Copy>(
     alloc: A,
     policy: &Policy<A>,
     depth: u64,
-    opened: &mut OpenElements<A>,
+    opened: &mut Opened<A>,
     printer: &mut Printer<W, A>,
     run: &str,
     token: &Token<A>,
 ) -> Result<(), SinkFault>
+    requires { opened.old.tree.limit ≡ policy.now.depth }
     ensures printed { OnOk result (printer.new.printed ≡ printer.old.printed ++ page_bytes
-        (written_by policy.now.balance (is_end (told_by token.now)) opened.old (kept_where policy.now depth run.now (told_by token.now)))) }
-    ensures opened { OnOk result (opened.new
-        ≡ open_by policy.now.balance (is_end (told_by token.now)) opened.old (kept_where policy.now depth run.now (told_by token.now))) }
+        (written_by (shape_of policy.now) (is_end (told_by token.now)) (names_in (shape_of policy.now) opened.old) (kept_where policy.now depth run.now (told_by token.now)))) }
+    ensures opened { OnOk result (names_in (shape_of policy.now) opened.new
+        ≡ open_by (shape_of policy.now) (is_end (told_by token.now)) (names_in (shape_of policy.now) opened.old) (kept_where policy.now depth run.now (told_by token.now))) }
     ensures unprinted { OnErr result (printer.new.printed ≡ printer.old.printed) }
-    ensures unopened { OnErr result (opened.new ≡ opened.old) }
+    ensures unopened { OnErr result (names_in (shape_of policy.now) opened.new ≡ names_in (shape_of policy.now) opened.old) }
+    ensures limit { opened.new.tree.limit ≡ opened.old.tree.limit }
 {
     let mut page = Writer::new(alloc);
-    let Ok(change) = keep_where(alloc, policy, depth, opened, &mut page, run, token) else {
+    let Ok(pending) = keep_where(alloc, policy, depth, opened, &mut page, run, token) else {
         return Err(SinkFault);
     };
     match printer.print(page.as_str().as_bytes()) {
         Ok(()) => {
-            opened.close(change.close);
+            opened.settle(pending);
             Ok(())
         }
         Err(_) => {
-            opened.close(change.undo);
+            opened.undo(pending);
             Err(SinkFault)
         }
     }
@@ -75,12 +84,13 @@ impl<W: Target, A: Allocator + Copy> CleanPrinter<W, A> {
         ensures start { cleaning_of result ≡ page_start (record { policy = policy; printed = printer.printed }) }
         ensures printer { result.printer ≡ printer }
     {
+        let opened = Opened::none(alloc, policy.depth());
         CleanPrinter {
             alloc,
             policy,
             printer,
             hidden: Hidden::none(alloc),
-            opened: OpenElements::none(alloc),
+            opened,
         }
     }
 

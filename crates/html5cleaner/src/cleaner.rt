@@ -6,13 +6,17 @@ ghost use Rattle.html5policy.specs.Rules.{IsSound};
 ghost use Rattle.html5cleaner.specs.Allowed.{is_clean};
 ghost use Rattle.html5cleaner.specs.Balance.{is_end, open_by, written_by};
 ghost use Rattle.html5cleaner.specs.Clean.{at_start, kept_of_run, kept_of_tag, kept_where};
-ghost use Rattle.html5cleaner.specs.Kept.{Keeps};
+ghost use Rattle.html5cleaner.specs.Kept.{Keeps, Settles};
+ghost use Rattle.html5cleaner.specs.Settled.{names_in};
+ghost use Rattle.html5cleaner.specs.Shape.{shape_by_balance, shape_of};
 
 use crate::attributes::kept_attributes;
 use crate::balance::{Change, NO_CHANGE, write_balanced, write_closed, write_plain};
 use crate::hidden::pass_token;
-use crate::kept::kept_tag;
+use crate::in_tree::keep_in_tree;
+use crate::kept::{is_end, kept_tag};
 use crate::open_elements::OpenElements;
+use crate::opened::{Opened, Pending};
 use html5elements::hidden::Hidden;
 use html5ever_interface::interface::token::{SinkFault, Tag, Token};
 use html5policy::Policy;
@@ -29,19 +33,23 @@ pub struct Cleaner<'p, A: Allocator = Global> {
     policy: &'p Policy<A>,
     page: Writer<A>,
     hidden: Hidden<A>,
-    opened: OpenElements<A>,
+    opened: Opened<A>,
 }
 
 impl<'p, A: Allocator> Model for Cleaner<'p, A> {
     ghost use Rattle.html5cleaner.specs.Balance.{AreClean};
+    ghost use Rattle.std.specs.Prelude.{◌≡◌};
     ghost use Rattle.html5cleaner.specs.Clean.{Cleaned};
+    ghost use Rattle.html5cleaner.specs.Settled.{names_in};
+    ghost use Rattle.html5cleaner.specs.Shape.{shape_of};
     ghost use Rattle.html5elements.specs.Hidden.{hidden_of};
 
     ghost Value = { Cleaned };
 
-    ghost view = { λ c. record { policy = c.policy.now; pieces = c.page; hidden = hidden_of c.hidden; opened = c.opened } };
+    ghost view = { λ c. record { policy = c.policy.now; pieces = c.page; hidden = hidden_of c.hidden; opened = names_in (shape_of c.policy.now) c.opened } };
 
-    ghost invariant = { λ c. AreClean c.policy.now c.page c.opened };
+    ghost invariant = { λ c. AreClean c.policy.now c.page (names_in (shape_of c.policy.now) c.opened)
+        × (c.opened.tree.limit ≡ c.policy.now.depth) };
 }
 
 impl<'p, A: Allocator + Copy> Cleaner<'p, A> {
@@ -54,7 +62,7 @@ impl<'p, A: Allocator + Copy> Cleaner<'p, A> {
             policy,
             page: Writer::new(alloc),
             hidden: Hidden::none(alloc),
-            opened: OpenElements::none(alloc),
+            opened: Opened::none(alloc, policy.depth()),
         }
     }
 
@@ -69,13 +77,6 @@ impl<'p, A: Allocator + Copy> Cleaner<'p, A> {
     }
 }
 
-// Whether a token is the end of a page.
-fn is_end<A: Allocator>(token: &Token<A>) -> bool
-    ensures { result ≡ is_end (told_by token.now) }
-{
-    matches!(token, Token::EOFToken)
-}
-
 // Writes what is kept of a run of text and the tag after it, all of it or nothing.
 fn keep_tag<A: Allocator + Copy>(
     alloc: A,
@@ -86,8 +87,8 @@ fn keep_tag<A: Allocator + Copy>(
     tag: &Tag<A>,
 ) -> Result<Change, WriteError>
     ensures { Keeps result page.old page.new opened.old opened.new
-        (written_by policy.now.balance false opened.old (kept_of_run run.now ++ kept_of_tag policy.now (tag_of tag.now)))
-        (open_by policy.now.balance false opened.old (kept_of_run run.now ++ kept_of_tag policy.now (tag_of tag.now))) }
+        (written_by (shape_by_balance policy.now.balance) false opened.old (kept_of_run run.now ++ kept_of_tag policy.now (tag_of tag.now)))
+        (open_by (shape_by_balance policy.now.balance) false opened.old (kept_of_run run.now ++ kept_of_tag policy.now (tag_of tag.now))) }
 {
     let attributes = kept_attributes(alloc, policy, &tag.name.0, &tag.attrs)?;
     let tag = kept_tag(policy, tag.kind, &tag.name.0, &attributes);
@@ -106,17 +107,17 @@ fn keep_end<A: Allocator + Copy>(
     run: &str,
 ) -> Result<Change, WriteError>
     ensures { Keeps result page.old page.new opened.now opened.now
-        (written_by policy.now.balance true opened.now (kept_of_run run.now ++ []))
-        (open_by policy.now.balance true opened.now (kept_of_run run.now ++ [])) }
+        (written_by (shape_by_balance policy.now.balance) true opened.now (kept_of_run run.now ++ []))
+        (open_by (shape_by_balance policy.now.balance) true opened.now (kept_of_run run.now ++ [])) }
 {
     let close = if policy.balances() { opened.len() } else { 0 };
     write_closed(alloc, opened, page, run, close)?;
     Ok(Change { undo: 0, close })
 }
 
-/// Writes what is kept of a run of text and the token after it, all of it or nothing, where so many
-/// elements hide what stands in them.
-pub fn keep_where<A: Allocator + Copy>(
+// Writes what is kept of a run of text and the token after it, by its tags: all of it or nothing, where so
+// many elements hide what stands in them.
+fn keep_by_tags<A: Allocator + Copy>(
     alloc: A,
     policy: &Policy<A>,
     depth: u64,
@@ -126,8 +127,8 @@ pub fn keep_where<A: Allocator + Copy>(
     token: &Token<A>,
 ) -> Result<Change, WriteError>
     ensures { Keeps result page.old page.new opened.old opened.new
-        (written_by policy.now.balance (is_end (told_by token.now)) opened.old (kept_where policy.now depth run.now (told_by token.now)))
-        (open_by policy.now.balance (is_end (told_by token.now)) opened.old (kept_where policy.now depth run.now (told_by token.now))) }
+        (written_by (shape_by_balance policy.now.balance) (is_end (told_by token.now)) opened.old (kept_where policy.now depth run.now (told_by token.now)))
+        (open_by (shape_by_balance policy.now.balance) (is_end (told_by token.now)) opened.old (kept_where policy.now depth run.now (told_by token.now))) }
 {
     if is_end(token) {
         let shown = if depth == 0 { run } else { "" };
@@ -140,6 +141,31 @@ pub fn keep_where<A: Allocator + Copy>(
         Token::TagToken(tag) => keep_tag(alloc, policy, opened, page, run, tag),
         _ => write_plain(page, run, None),
     }
+}
+
+/// Writes what is kept of a run of text and the token after it, all of it or nothing, where so many
+/// elements hide what stands in them.
+pub fn keep_where<A: Allocator + Copy>(
+    alloc: A,
+    policy: &Policy<A>,
+    depth: u64,
+    opened: &mut Opened<A>,
+    page: &mut Writer<A>,
+    run: &str,
+    token: &Token<A>,
+) -> Result<Pending, WriteError>
+    requires { opened.old.tree.limit ≡ policy.now.depth }
+    ensures { Settles (shape_of policy.now) result page.old page.new opened.old opened.new
+        (written_by (shape_of policy.now) (is_end (told_by token.now)) (names_in (shape_of policy.now) opened.old)
+        (kept_where policy.now depth run.now (told_by token.now)))
+        (open_by (shape_of policy.now) (is_end (told_by token.now)) (names_in (shape_of policy.now) opened.old)
+        (kept_where policy.now depth run.now (told_by token.now))) }
+{
+    if policy.makes_tree() {
+        return keep_in_tree(alloc, policy, depth, opened, page, run, token);
+    }
+    let change = keep_by_tags(alloc, policy, depth, &mut opened.tags, page, run, token)?;
+    Ok(Pending::Tags(change))
 }
 
 impl<'p, A: Allocator + Copy> TokenHandler<Token<A>> for Cleaner<'p, A> {
@@ -160,6 +186,7 @@ impl<'p, A: Allocator + Copy> TokenHandler<Token<A>> for Cleaner<'p, A> {
         if self.hidden.is_full() {
             return Err(SinkFault);
         }
+        self.policy.soundness();
         match keep_where(
             self.alloc,
             self.policy,
@@ -169,8 +196,8 @@ impl<'p, A: Allocator + Copy> TokenHandler<Token<A>> for Cleaner<'p, A> {
             run,
             &token,
         ) {
-            Ok(change) => {
-                self.opened.close(change.close);
+            Ok(pending) => {
+                self.opened.settle(pending);
                 pass_token(&mut self.hidden, self.policy, token);
                 Ok(())
             }

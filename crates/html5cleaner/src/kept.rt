@@ -1,16 +1,25 @@
 //! What is kept of a run of text and of a tag.
 ghost use Rattle.std.specs.Prelude.{◌≡◌, ◌++◌, chars, encode_utf8_all, map, string_bytes, OnErr, OnOk};
+ghost use Rattle.html5ever_interface.specs.Token.{told_by};
 ghost use Rattle.html5write.specs.Pieces.{can_write};
 ghost use Rattle.html5write.specs.Writing.{attribute_of, piece_of};
+ghost use Rattle.html5cleaner.specs.Balance.{is_end};
 ghost use Rattle.html5cleaner.specs.Clean.{allows_by_kind, kept_of_parts, kept_of_run};
 ghost use Rattle.html5cleaner.specs.Kept.{piece_where};
 
 use html5elements::is_void;
-use html5ever_interface::interface::token::TagKind;
+use html5ever_interface::interface::token::{TagKind, Token};
 use html5policy::Policy;
 use html5write::laws::refusals;
 use html5write::{Attribute, Piece, WriteError, Writer, refusal_of};
 use std::alloc::Allocator;
+
+/// Whether a token is the end of a page.
+pub fn is_end<A: Allocator>(token: &Token<A>) -> bool
+    ensures { result ≡ is_end (told_by token.now) }
+{
+    matches!(token, Token::EOFToken)
+}
 
 // Whether a piece can be written.
 fn can_write(piece: &Piece<'_>) -> bool

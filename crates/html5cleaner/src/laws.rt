@@ -1,5 +1,5 @@
 //! How a cleaned page is read.
-ghost use Rattle.std.specs.Prelude.{◌≡◌, ℕ, List, [], ◌∷◌, ◌++◌, Option, Ok, IfSome, false, filter, true};
+ghost use Rattle.std.specs.Prelude.{◌≡◌, ◌||◌, ℕ, List, [], ◌∷◌, ◌++◌, Option, Ok, IfSome, false, filter, true};
 ghost use Rattle.std.specs.List.{list_all};
 ghost use Rattle.html5ever_interface.specs.Sink.{Message};
 ghost use Rattle.html5ever_interface.specs.Token.{Told};
@@ -9,7 +9,13 @@ ghost use Rattle.html5reading.specs.Start.{Start, Rules};
 ghost use Rattle.markup5ever.specs.NamedReferences.{IsTable, NamedReference};
 ghost use Rattle.html5write.specs.Pieces.{Piece, pieces_text};
 ghost use Rattle.html5grammar.specs.Anywhere.{TellsByItself};
-ghost use Rattle.html5write.specs.Told.{KeepsOn, pieces_messages, pieces_tokens, proper, start_after_pieces};
+ghost use Rattle.html5nested.specs.PageItems.{items_of, items_told};
+ghost use Rattle.html5tree.specs.Construction.{tree_of};
+ghost use Rattle.html5tree.specs.Fitting.{all_fit};
+ghost use Rattle.html5tree.specs.Items.{read_items};
+ghost use Rattle.html5tree.specs.Normal.{stays_within};
+ghost use Rattle.html5tree.specs.Tree.{nesting};
+ghost use Rattle.html5write.specs.Told.{IsOpen, KeepsOn, pieces_messages, pieces_tokens, proper, start_after_pieces};
 ghost use Rattle.html5policy.specs.Addresses.{is_safe_address};
 ghost use Rattle.html5policy.specs.Names.{runs_address};
 ghost use Rattle.html5policy.specs.Policy.{PolicyOf};
@@ -27,6 +33,7 @@ ghost use Rattle.url.specs.Parts.{Parts};
 
 use html5ever_interface::interface::sink::TokenSink;
 use html5ever_interface::interface::token::Token;
+use html5nested::laws::{fitting_pieces_are_markup, tree_of_written_page};
 use html5sinks::text_runs::{TextRuns, TokenHandler};
 use html5write::laws::{all_pieces, whole_text};
 use std::alloc::Allocator;
@@ -65,27 +72,50 @@ pub fn clean_pieces_are_markup<S: TokenSink<Token<A>>, A: Allocator>()
 {}
 
 /// The pieces that were written are clean, after each run of text and token, and so are the end tags of
-/// the elements that are open.
+/// the elements that are open. By the rule `tree` this supposes that the policy is sound, as each that is made is:
+/// it keeps the elements that are opened in a table.
 pub fn kept_pieces_are_clean()
     ensures starts { (policy : PolicyOf) → AreClean policy (at_start policy).pieces (at_start policy).opened }
-    ensures stay { (s : Cleaned) (run : List ℕ) (told : Told) (line : ℕ) → AreClean s.policy s.pieces s.opened
+    ensures stay { (s : Cleaned) (run : List ℕ) (told : Told) (line : ℕ) → (s.policy.tree ≡ true → IsSound s.policy)
+        → AreClean s.policy s.pieces s.opened
         → AreClean s.policy (clean_step s run told line).pieces (clean_step s run told line).opened }
 {}
 
-/// By a policy that balances, each end tag of a page closes the innermost open element, and at the end of
-/// the page none is open. It writes what the same policy without the rule writes, but for end tags.
+/// By a policy that balances, or makes a tree, each end tag of a page closes the innermost open element, and at
+/// the end of the page none is open. One that balances, and makes no tree, writes what the same policy without the
+/// rule writes, but for end tags.
 pub fn balanced_page()
-    ensures nested { (policy : PolicyOf) (references : List NamedReference) (text : List ℕ) → policy.balance ≡ true
+    ensures nested { (policy : PolicyOf) (references : List NamedReference) (text : List ℕ)
+        → (policy.balance || policy.tree) ≡ true
         → is_nested [] (kept_of_page policy references text) ≡ true }
-    ensures others { (policy : PolicyOf) (references : List NamedReference) (text : List ℕ) →
+    ensures others { (policy : PolicyOf) (references : List NamedReference) (text : List ℕ) → policy.tree ≡ false →
         filter is_no_end_tag (kept_of_page policy references text)
         ≡ filter is_no_end_tag (kept_of_page (without_balance policy) references text) }
 {}
 
+/// By a policy with the rule `tree` each page fits at every item (`fits`), with no more elements open than the policy's
+/// depth (`within`). So the tree that is built of what is told where the page is read, by any table and a sink that
+/// follows the standard, is the nesting of its pieces (`tree`): their tags and texts, as `cleaned_page` says, are the
+/// policy's. A newline straight after the start tag of a `pre` is ignored, as tree construction does (`read_items`).
+pub fn tree_of_cleaned_page<S: TokenSink<Token<A>>, A: Allocator>()
+    ensures fits { (policy : PolicyOf) (references : List NamedReference) (text : List ℕ) → policy.tree ≡ true
+        → all_fit [] (items_of (kept_of_page policy references text)) ≡ true }
+    ensures within { (policy : PolicyOf) (references : List NamedReference) (text : List ℕ) → policy.tree ≡ true
+        → stays_within policy.depth [] (items_of (kept_of_page policy references text)) ≡ true }
+    ensures tree { (policy : PolicyOf) (references : List NamedReference) (text : List ℕ) (rules : Rules) (K : Start) (s : S.State)
+        → policy.tree ≡ true → IsSound policy → IsTable rules.references → IsOpen K
+        → FollowsStandard {S = S.State} S.means.reply
+        → tree_of (items_told (proper (all_messages S.means rules K s (pieces_text (kept_of_page policy references text)))))
+        ≡ nesting (read_items false (items_of (kept_of_page policy references text))) }
+{
+    tree_of_written_page::<S, A>();
+    fitting_pieces_are_markup::<S, A>();
+}
+
 /// Cleaning twice by a policy changes nothing, whatever the table of each reading: what was kept of a text
 /// is kept again to the byte. Of what was printed of a page, or of a beginning of it, the same is printed
-/// again, and then the end tags of what is still open there: of a whole page, and by a policy that doesn't
-/// balance, that is nothing.
+/// again, and then the end tags of what is still open there: of a whole page, and by a policy that neither
+/// balances nor makes a tree, that is nothing.
 pub fn cleaning_twice()
     ensures text { (policy : PolicyOf) (references others : List NamedReference) (text : List ℕ) → IsSound policy
         → IsTable others → page_bytes (kept_of_page policy others (page_bytes (kept_of_page policy references text)))
@@ -95,7 +125,7 @@ pub fn cleaning_twice()
         (printed_of (record { policy = s.policy; printed = [] }) M).printed) ≡ printed_and_closed s M }
     ensures whole { (s : Standing) (references : List NamedReference) (bytes : List ℕ) →
         printed_and_closed s (cleaning.page_messages references s bytes) ≡ printed_of s (cleaning.page_messages references s bytes) }
-    ensures not_balanced { (s : Standing) (M : List Message) → s.policy.balance ≡ false
+    ensures not_balanced { (s : Standing) (M : List Message) → s.policy.tree ≡ false → s.policy.balance ≡ false
         → printed_and_closed s M ≡ printed_of s M }
 {}
 

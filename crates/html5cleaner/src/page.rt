@@ -50,6 +50,7 @@ pub fn clean_text<A: Allocator + Copy>(
         ≡ (runs_after clean_step references.now (at_start policy.now) text.now).pieces) }
     ensures clean { IfOk result (λ page. list_all (is_clean policy.now) page ≡ true) }
 {
+    policy.soundness();
     let mut source = ReadSource::new(text.as_bytes());
     let (cleaner, read) = clean_page(alloc, &mut source, references, policy);
     // A match in place of `?`: split for the proof.

@@ -5,6 +5,7 @@ ghost use Rattle.html5stream.specs.Streams.{GivesNoText, GivesNoFault, GivesAtLe
 ghost use Rattle.html5ever_interface.specs.Sink.{Message};
 ghost use Rattle.std.specs.List.{list_all};
 ghost use Rattle.html5policy.specs.Policy.{PolicyOf};
+ghost use Rattle.html5policy.specs.Rules.{IsSound};
 ghost use Rattle.html5cleaner.specs.Allowed.{is_clean};
 ghost use Rattle.html5cleaner.specs.Clean.{at_start, clean_step};
 ghost use Rattle.html5cleaner.specs.Cleaning.{page_start, cleaning_of, cleaning_step, PageItems, page_messages, printed_of, standing_of};
@@ -17,10 +18,11 @@ use html5stream::{StreamError, read_tokens};
 use markup5ever::data::NamedReferences;
 use std::alloc::{Allocator, Global};
 
-/// The pieces that are kept of any messages, as those of a page or of a beginning of it, are clean: so
-/// `laws::cleaned_page` says how what is printed of a page is read.
+/// The pieces that are kept of any messages, as those of a page or of a beginning of it, are clean, where a policy
+/// with the rule `tree` is sound, as each that is made is: so `laws::cleaned_page` says how what is printed of a page
+/// is read.
 pub fn prints_clean_pieces()
-    ensures { (policy : PolicyOf) (M : List Message)
+    ensures { (policy : PolicyOf) (M : List Message) → (policy.tree ≡ true → IsSound policy)
         → list_all (is_clean policy) (runs_handed clean_step (at_start policy) M).pieces ≡ true }
 {}
 

@@ -73,7 +73,7 @@ adds-end_tag (Ok u) before after name good is =
 adds-end_tag (Err e) before after name good is = tt
 
 -- what its token says
-same-said : (attributes : List Attribute) → map attribute_told (map attribute_sent attributes) ≡ map attribute_said attributes
+pub same-said : (attributes : List Attribute) → map attribute_told (map attribute_sent attributes) ≡ map attribute_said attributes
 same-said [] = refl
 same-said (a ∷ attributes) = ap (λ l. attribute_said a ∷ l) (same-said attributes)
 

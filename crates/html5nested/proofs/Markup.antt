@@ -30,7 +30,7 @@ some-none : (item : Item) → item ∷ [] ≡ [] → ⊥
 some-none item same = cc
 
 -- a start tag that fits is of a name that is known
-known : (stack : List (List ℕ)) (name : List ℕ) (attributes : List Attribute) → fits stack (StartTag name attributes) ≡ true → kind_of name ≡ Unknown → ⊥
+pub known : (stack : List (List ℕ)) (name : List ℕ) (attributes : List Attribute) → fits stack (StartTag name attributes) ≡ true → kind_of name ≡ Unknown → ⊥
 known stack name attributes fit unknown =
     let item = StartTag name attributes in
     let limit = length (open_after stack item) in

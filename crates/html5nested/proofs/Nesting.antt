@@ -8,10 +8,10 @@ use Rattle.html5tree.specs.Nested.{Nested, nested_after, nothing_nested}
 use Rattle.html5tree.specs.Normal.{Plan, end_tags, fitted, normal, normal_above, open_after_fitted, plan_of, written}
 use Rattle.html5write.specs.Pieces.{Piece}
 use Rattle.html5write.specs.declared.error.WriteError.{WriteError}
-use Rattle.html5nested.specs.Adding.{Adds}
-use Rattle.html5nested.specs.NestedPages.{IsFinished, IsMadeOf, IsPassed, NestedPage, Nests, nothing_written}
+use Rattle.html5nested.specs.Adding.{Adds, AddsFitted, IsPassed}
+use Rattle.html5nested.specs.NestedPages.{IsFinished, IsMadeOf, NestedPage, Nests, nothing_written}
 use Rattle.html5nested.specs.PageItems.{has_no_comment, items_of}
-use Rattle.html5nested.proofs.Added.{adds-nothing}
+use Rattle.html5nested.proofs.Added.{adds-nothing, adds-page}
 
 -- nothing was handed in
 pub made-none : (limit : ℕ) → IsMadeOf (nothing_written limit) []
@@ -71,26 +71,37 @@ fewer-open [] new name is rest = cc
 fewer-open (first ∷ old) new name is rest = subst (λ n. n < suc (length old)) (sym (ap length rest)) (omega arith)
 
 -- a tag of another name
-pub passed-unknown : (page : NestedPage) (item : Item) → fitted page.limit page.opened item ≡ []
-    → all_open_after page.opened (fitted page.limit page.opened item) ≡ open_after_fitted page.limit page.opened item → IsPassed page item
+pub passed-unknown : (nested : Nested) (item : Item) → fitted nested.limit nested.opened item ≡ []
+    → all_open_after nested.opened (fitted nested.limit nested.opened item) ≡ open_after_fitted nested.limit nested.opened item → IsPassed nested item
 unfolding all_open_after
-passed-unknown page item none after = record { nothing = none; opened = sym after ∙ ap (all_open_after page.opened) none }
+passed-unknown nested item none after = record { nothing = none; opened = sym after ∙ ap (all_open_after nested.opened) none }
 
-pub nests-passed : (before : NestedPage) (item : Item) → IsPassed before item → Nests (Ok tt) before before item
-nests-passed before item passed =
-    nests-ok before before item (subst (λ l. Adds before.pieces before.pieces l) (sym passed.nothing) (adds-nothing before.pieces)) (sym passed.opened) refl
+pub adds-passed : (page : List Piece) (nested : Nested) (item : Item) → IsPassed nested item → AddsFitted page page nested nested item
+adds-passed page nested item passed =
+    record { added = subst (λ l. Adds page page l) (sym passed.nothing) (adds-nothing page); opened = sym passed.opened; limit = refl }
 
--- what follows from a plan, for the open elements before it
-pub nests-planned : (result : Result (Unit {0}) WriteError) (before after : NestedPage) (item : Item) (plan : Plan) (was now : Nested)
-    → was.opened ≡ before.opened → was.limit ≡ before.limit → plan ≡ plan_of was.limit was.opened item → now ≡ nested_after was item
-    → OnOk result ((stack : List (List ℕ)) → now.closed ≡ take plan.closes stack → Adds before.pieces after.pieces (written plan stack item))
-    → OnOk result (after.opened ≡ now.opened) → OnOk result (after.limit ≡ now.limit) → OnErr result (after ≡ before)
-    → Nests result before after item
-nests-planned (Ok u) before after item plan was now opens limits planned follows adds opened limit same =
-    let p : plan ≡ plan_of before.limit before.opened item = planned ∙ (ap (λ l. plan_of l was.opened item) limits ∙ ap (λ s. plan_of before.limit s item) opens) in
+-- what follows from a plan
+pub adds-planned : (result : Result (Unit {0}) WriteError) (before after : List Piece) (item : Item) (plan : Plan) (was now : Nested)
+    → plan ≡ plan_of was.limit was.opened item → now ≡ nested_after was item → (closed : List (List ℕ)) → closed ≡ now.closed
+    → OnOk result ((stack : List (List ℕ)) → closed ≡ take plan.closes stack → Adds before after (written plan stack item))
+    → OnOk result (AddsFitted before after was now item)
+adds-planned (Ok u) before after item plan was now planned follows closed names adds = record {
+  added = subst (λ q. Adds before after (written q was.opened item)) planned
+      (adds was.opened (names ∙ (ap (λ (n : Nested). n.closed) follows ∙ ap (λ (q : Plan). take q.closes was.opened) (sym planned))));
+  opened = ap (λ (n : Nested). n.opened) follows;
+  limit = ap (λ (n : Nested). n.limit) follows;
+}
+adds-planned (Err error) before after item plan was now planned follows closed names adds = tt
+
+-- an item that was written to a part of the page
+pub nests-put : (before after : NestedPage) (item : Item) (was now : Nested) (none part : List Piece) → was.opened ≡ before.opened → was.limit ≡ before.limit
+    → none ≡ [] → AddsFitted none part was now item → after.pieces ≡ before.pieces ++ part → after.opened ≡ now.opened → after.limit ≡ now.limit
+    → Nests (Ok tt) before after item
+nests-put before after item was now none part opens limits empty adds page opened limit =
     nests-ok before after item
-    (subst (λ q. Adds before.pieces after.pieces (written q before.opened item)) p
-    (adds before.opened (ap (λ (n : Nested). n.closed) follows ∙ (ap (λ s. take (plan_of was.limit was.opened item).closes s) opens ∙ ap (λ (q : Plan). take q.closes before.opened) (sym planned)))))
-    (opened ∙ (ap (λ (n : Nested). n.opened) follows ∙ (ap (λ l. open_after_fitted l was.opened item) limits ∙ ap (λ s. open_after_fitted before.limit s item) opens)))
-    (limit ∙ (ap (λ (n : Nested). n.limit) follows ∙ limits))
-nests-planned (Err error) before after item plan was now opens limits planned follows adds opened limit same = nests-error error before after item same
+    (adds-page before.pieces part after.pieces (fitted before.limit before.opened item)
+    (subst (λ l. Adds l part (fitted before.limit before.opened item)) empty
+    (subst (λ l. Adds none part l) (ap (λ l. fitted l was.opened item) limits ∙ ap (λ s. fitted before.limit s item) opens) adds.added))
+    page)
+    (opened ∙ (adds.opened ∙ (ap (λ l. open_after_fitted l was.opened item) limits ∙ ap (λ s. open_after_fitted before.limit s item) opens)))
+    (limit ∙ (adds.limit ∙ limits))

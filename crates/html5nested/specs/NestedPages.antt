@@ -38,8 +38,3 @@ pub record Nests (result : Result (Unit {0}) WriteError) (before after : NestedP
 pub record IsFinished (limit : ℕ) (pieces : List Piece) (items : List Item) : Type 0 where
   pub made : items_of pieces ≡ normal limit items
   pub no_comment : has_no_comment pieces ≡ true
-
--- for such an item nothing is written, and it changes nothing
-pub record IsPassed (page : NestedPage) (item : Item) : Type 0 where
-  pub nothing : fitted page.limit page.opened item ≡ []
-  pub opened : open_after_fitted page.limit page.opened item ≡ page.opened

@@ -1,6 +1,7 @@
 //! Pages that are written so that the tree that a browser builds of them is the one that their tags show.
 #![tactic(auto)]
 
+mod fitted;
 mod item;
 pub mod laws;
 mod nested_writer;
@@ -10,4 +11,6 @@ mod planned;
 mod tests;
 mod white_space;
 
+pub use crate::fitted::{close_all, write_fitted};
+pub use crate::item::Item;
 pub use crate::nested_writer::NestedWriter;

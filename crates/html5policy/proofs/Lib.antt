@@ -3,3 +3,4 @@ pub mod Soundness
 pub mod Splits
 pub mod Lines
 pub mod Colons
+pub mod Numbers

@@ -61,9 +61,9 @@ each-none rule names is = ap (each_said rule) is
 -- a word that is none of the rules
 pub unknown-word : (word : List ℕ) (names : List (List ℕ)) → begins_remark word ≡ false → bytes_eq word (codes "allow") ≡ false → bytes_eq word (codes "everywhere") ≡ false
     → bytes_eq word (codes "schemes") ≡ false → bytes_eq word (codes "hide") ≡ false → bytes_eq word (codes "noopener") ≡ false → bytes_eq word (codes "balance") ≡ false
-    → rules_by_word word names ≡ Err UnknownRule
+    → bytes_eq word (codes "tree") ≡ false → bytes_eq word (codes "depth") ≡ false → rules_by_word word names ≡ Err UnknownRule
 unfolding rules_by_word
-unknown-word word names remark allow everywhere schemes hide noopener balance = rw (remark, allow, everywhere, schemes, hide, noopener, balance) refl
+unknown-word word names remark allow everywhere schemes hide noopener balance tree depth = rw (remark, allow, everywhere, schemes, hide, noopener, balance, tree, depth) refl
 
 pub same-policy : (said : Result PolicyOf PolicyError) (p q : PolicyOf) → said ≡ Ok p → said ≡ Ok q → p ≡ q
 same-policy said p q first second = cc

@@ -36,6 +36,14 @@ any-later f test i xs x within is fails =
 pub any-none : {X Y : Type 0} (f : X → Y) (test : Y → Bool) (xs : List X) (i : ℕ) → length xs ≤ i → list_any test (map f (drop i xs)) ≡ false
 any-none f test xs i past = at_drop_all (λ l. list_any test (map f l)) xs i past
 
+-- the next element fails
+pub all-here : {X Y : Type 0} (f : X → Y) (test : Y → Bool) (i : ℕ) (xs : List X) (x : X) → i < length xs → x ≡ get_or xs i x
+    → test (f x) ≡ false → list_all test (map f (drop i xs)) ≡ false
+all-here f test i xs x within is fails =
+    at_drop_more (λ l. list_all test (map f l)) xs i x within
+    ∙ ap (λ y. test (f y) && list_all test (map f (drop (i + 1) xs))) (sym is)
+    ∙ ap (λ b. b && list_all test (map f (drop (i + 1) xs))) fails
+
 -- what holds of each of some names holds of one of them
 one-where : (p : List ℕ → Bool) (other name : List ℕ) (names : List (List ℕ)) (same : Bool) → bytes_eq other name ≡ same → (p other && list_all p names) ≡ true
     → (same || is_one_of names name) ≡ true → (list_all p names ≡ true → is_one_of names name ≡ true → p name ≡ true) → p name ≡ true

@@ -1,38 +1,56 @@
 -- A rule with which nothing is wrong keeps a policy sound.
-use Rattle.std.proofs.Common.{◌≡◌, ℕ, Bool, true, false, List, [], ◌∷◌, ◌++◌, chars, None, Some, refl, sym, ap, ◌∙◌}
-use Rattle.std.specs.Prelude.{◌||◌, ◌&&◌, not, if◌then◌else◌}
+use Rattle.std.proofs.Common.{◌≡◌, ℕ, Bool, true, false, List, [], ◌∷◌, ◌++◌, None, Some, refl, sym, ap, ◌∙◌}
+use Rattle.std.specs.Prelude.{◌||◌, ◌&&◌, codes, not, if◌then◌else◌}
 use Rattle.std.specs.List.{list_all, list_any}
-use Rattle.std.specs.Str.{bytes_eq}
+use Rattle.std.specs.Str.{bytes_eq, chars}
 use Rattle.std.proofs.lemmas.Bool.{false≢true}
 use Rattle.std.proofs.lemmas.List.Folds.{list_all-append, list_any-append}
-use Rattle.html5write.specs.Pieces.{is_tag_name, is_attribute_name}
+use Rattle.html5reading.specs.Characters.{is_white_space}
+use Rattle.html5tree.specs.Names.{all_names, is_among, kind_in, kind_of}
+use Rattle.html5write.specs.Pieces.{is_tag_name, is_attribute_name, is_name_character}
 use Rattle.markup5ever.proofs.NameOrder.{bytes_eq-itself, bytes_eq-same}
-use Rattle.html5policy.specs.Names.{acts_on_page, always_hides, is_never_kept, is_one_of, is_scheme, runs_address}
-use Rattle.html5policy.specs.Policy.{PolicyOf, is_allowed}
-use Rattle.html5policy.specs.Rules.{IsSound, RuleOf, attribute_fault, element_fault, fault_of, hidden_fault, may_hide, may_keep, may_keep_attribute, may_keep_own, may_keep_scheme, scheme_fault, with_rule}
-use Rattle.html5policy.specs.Rules.RuleOf.{Element, Attribute, Everywhere, Scheme, Hidden, Noopener, Balance}
+use Rattle.html5policy.specs.Names.{acts_on_page, always_hides, has_place, is_never_kept, is_one_of, is_scheme, runs_address}
+use Rattle.html5policy.specs.Policy.{PolicyOf, implied_elements, is_allowed, nothing_kept}
+use Rattle.html5policy.specs.Rules.{IsSound, RuleOf, attribute_fault, element_fault, fault_of, hidden_fault, may_hide, may_keep, may_keep_attribute, may_keep_own, may_keep_scheme, scheme_fault, tree_fault, with_rule}
+use Rattle.html5policy.specs.Rules.RuleOf.{Element, Attribute, Everywhere, Scheme, Hidden, Noopener, Balance, Tree, Depth}
 use Rattle.html5policy.specs.declared.error.RuleError.{RuleError}
-use Rattle.html5policy.specs.declared.error.RuleError.TheVariants.{ActsOnPage, AllowedAndHidden, AttributeName, ElementName, HidesContent, NeverKept, RunsAddress, SchemeName}
+use Rattle.html5policy.specs.declared.error.RuleError.TheVariants.{ActsOnPage, AllowedAndHidden, AttributeName, ElementName, HidesContent, NeverKept, NoPlace, RunsAddress, SchemeName}
 use Rattle.html5policy.proofs.Searches.{and-left, and-right, holds-one_of}
 
 -- ---- no fault
 
-element-passes : (name hides acts hidden : Bool)
-    → (if not name then Some ElementName else if hides then Some HidesContent else if acts then Some ActsOnPage else if hidden then Some AllowedAndHidden else None) ≡ None
+element-passes : (name hides acts hidden other : Bool)
+    → (if not name then Some ElementName else if hides then Some HidesContent else if acts then Some ActsOnPage else if hidden then Some AllowedAndHidden else if other then Some NoPlace else None) ≡ None
     → (name && (not hides && (not acts && not hidden))) ≡ true
-element-passes true false false false e = refl
-element-passes true false false true e = absurd cc
-element-passes true false true hidden e = absurd cc
-element-passes true true acts hidden e = absurd cc
-element-passes false hides acts hidden e = absurd cc
+element-passes true false false false other e = refl
+element-passes true false false true other e = absurd cc
+element-passes true false true hidden other e = absurd cc
+element-passes true true acts hidden other e = absurd cc
+element-passes false hides acts hidden other e = absurd cc
+
+-- by the rule `tree` it has a place
+place-passes : (name hides acts hidden place : Bool)
+    → (if not name then Some ElementName else if hides then Some HidesContent else if acts then Some ActsOnPage else if hidden then Some AllowedAndHidden else if true && not place then Some NoPlace else None) ≡ None
+    → place ≡ true
+place-passes true false false false true e = refl
+place-passes true false false false false e = absurd cc
+place-passes true false false true place e = absurd cc
+place-passes true false true hidden place e = absurd cc
+place-passes true true acts hidden place e = absurd cc
+place-passes false hides acts hidden place e = absurd cc
 
 two-pass : (first second : RuleError) (name other : Bool) → (if not name then Some first else if other then Some second else None) ≡ None → (name && not other) ≡ true
 two-pass first second true false e = refl
 two-pass first second true true e = absurd cc
 two-pass first second false other e = absurd cc
 
-element-may : (hidden : List (List ℕ)) (name : List ℕ) → element_fault hidden name ≡ None → may_keep hidden name ≡ true
-element-may hidden name none = element-passes (is_tag_name (chars name)) (always_hides name) (acts_on_page name) (is_one_of hidden name) none
+element-may : (tree : Bool) (hidden : List (List ℕ)) (name : List ℕ) → element_fault tree hidden name ≡ None → may_keep hidden name ≡ true
+element-may tree hidden name none =
+    element-passes (is_tag_name (chars name)) (always_hides name) (acts_on_page name) (is_one_of hidden name) (tree && not (has_place name)) none
+
+element-place : (tree : Bool) (hidden : List (List ℕ)) (name : List ℕ) → element_fault tree hidden name ≡ None → tree ≡ true → has_place name ≡ true
+element-place true hidden name none is = place-passes (is_tag_name (chars name)) (always_hides name) (acts_on_page name) (is_one_of hidden name) (has_place name) none
+element-place false hidden name none is = absurd (false≢true is)
 
 attribute-may : (name : List ℕ) → attribute_fault name ≡ None → may_keep_attribute name ≡ true
 attribute-may name none = two-pass AttributeName NeverKept (is_attribute_name (chars name)) (is_never_kept name) none
@@ -93,16 +111,87 @@ one_of-any : (names : List (List ℕ)) (name : List ℕ) → is_one_of names nam
 unfolding is_one_of
 one_of-any names name none = none
 
+-- ---- the rule `tree`
+
+all-both : {X : Type 0} (p : X → Bool) (xs ys : List X) → list_all p xs ≡ true → list_all p ys ≡ true → list_all p (xs ++ ys) ≡ true
+all-both p xs ys first second = list_all-append p xs ys ∙ rw (first, second) refl
+
+weaker-all : {X : Type 0} (p q : X → Bool) → ((x : X) → p x ≡ true → q x ≡ true) → (xs : List X) → list_all p xs ≡ true → list_all q xs ≡ true
+weaker-all p q weaker [] all = refl
+weaker-all p q weaker (x ∷ xs) all =
+    rw (weaker x (and-left (p x) (list_all p xs) all), weaker-all p q weaker xs (and-right (p x) (list_all p xs) all)) refl
+
+or-first : (a b : Bool) → a ≡ true → (a || b) ≡ true
+or-first true b is = refl
+or-first false b is = absurd (false≢true is)
+
+or-second : (a b : Bool) → b ≡ true → (a || b) ≡ true
+or-second true b is = refl
+or-second false b is = is
+
+-- a name that is kept is kept with others, too
+one_of-first : (names more : List (List ℕ)) (name : List ℕ) → is_one_of names name ≡ true → is_one_of (names ++ more) name ≡ true
+unfolding is_one_of
+one_of-first names more name one =
+    list_any-append (λ other. bytes_eq other name) names more ∙ or-first (is_one_of names name) (is_one_of more name) one
+
+one_of-second : (names more : List (List ℕ)) (name : List ℕ) → is_one_of more name ≡ true → is_one_of (names ++ more) name ≡ true
+unfolding is_one_of
+one_of-second names more name one =
+    list_any-append (λ other. bytes_eq other name) names more ∙ or-second (is_one_of names name) (is_one_of more name) one
+
+implied-more : (names more : List (List ℕ)) → list_all (is_one_of names) implied_elements ≡ true → list_all (is_one_of (names ++ more)) implied_elements ≡ true
+implied-more names more all = weaker-all (is_one_of names) (is_one_of (names ++ more)) (one_of-first names more) implied_elements all
+
+implied-among : list_all (is_one_of implied_elements) implied_elements ≡ true
+unfolding is_one_of implied_elements
+implied-among = refl
+
+implied-kept : (names : List (List ℕ)) → list_all (is_one_of (names ++ implied_elements)) implied_elements ≡ true
+implied-kept names =
+    weaker-all (is_one_of implied_elements) (is_one_of (names ++ implied_elements)) (one_of-second names implied_elements) implied_elements implied-among
+
+places-implied : list_all has_place implied_elements ≡ true
+unfolding has_place implied_elements kind_of kind_in all_names is_among
+places-implied = refl
+
+tree-passes : (places hides : Bool) → (if not places then Some NoPlace else if hides then Some AllowedAndHidden else None) ≡ None → (places && not hides) ≡ true
+tree-passes places hides none = two-pass NoPlace AllowedAndHidden places hides none
+
+tree-may : (elements hidden : List (List ℕ)) → tree_fault elements hidden ≡ None
+    → (list_all has_place elements && not (list_any (is_one_of hidden) implied_elements)) ≡ true
+tree-may elements hidden none = tree-passes (list_all has_place elements) (list_any (is_one_of hidden) implied_elements) none
+
+-- but for what is hidden, each of them may be kept
+may_keep-shown : (hidden : List (List ℕ)) (name : List ℕ) → may_keep [] name ≡ true → is_one_of hidden name ≡ false → may_keep hidden name ≡ true
+unfolding is_one_of
+may_keep-shown hidden name may shown =
+    ap (λ b. is_tag_name (chars name) && (not (always_hides name) && (not (acts_on_page name) && not b))) shown ∙ may
+
+all-shown : (hidden names : List (List ℕ)) → list_all (may_keep []) names ≡ true → list_any (is_one_of hidden) names ≡ false → list_all (may_keep hidden) names ≡ true
+all-shown hidden [] may none = refl
+all-shown hidden (name ∷ names) may none =
+    rw (
+      may_keep-shown hidden name (and-left (may_keep [] name) (list_all (may_keep []) names) may) (or-false-left (is_one_of hidden name) (list_any (is_one_of hidden) names) none),
+      all-shown hidden names (and-right (may_keep [] name) (list_all (may_keep []) names) may) (or-false-right (is_one_of hidden name) (list_any (is_one_of hidden) names) none),
+    ) refl
+
+may_keep-implied : list_all (may_keep []) implied_elements ≡ true
+unfolding implied_elements is_one_of acts_on_page always_hides is_tag_name is_name_character is_white_space chars
+may_keep-implied = refl
+
 -- ---- a policy with a rule more
 
 pub sound-with_rule : (policy : PolicyOf) (rule : RuleOf) → IsSound policy → fault_of policy rule ≡ None → IsSound (with_rule policy rule)
 unfolding fault_of with_rule
 sound-with_rule policy (Element name) sound none = record {
-  elements = all-more (may_keep policy.hidden) policy.elements name sound.elements (element-may policy.hidden name none);
+  elements = all-more (may_keep policy.hidden) policy.elements name sound.elements (element-may policy.tree policy.hidden name none);
   own = sound.own;
   everywhere = sound.everywhere;
   schemes = sound.schemes;
   hidden = sound.hidden;
+  places = λ tree. all-more has_place policy.elements name (sound.places tree) (element-place policy.tree policy.hidden name none tree);
+  implied = λ tree. implied-more policy.elements (name ∷ []) (sound.implied tree);
 }
 sound-with_rule policy (Attribute element name) sound none = record {
   elements = sound.elements;
@@ -110,6 +199,8 @@ sound-with_rule policy (Attribute element name) sound none = record {
   everywhere = sound.everywhere;
   schemes = sound.schemes;
   hidden = sound.hidden;
+  places = sound.places;
+  implied = sound.implied;
 }
 sound-with_rule policy (Everywhere name) sound none = record {
   elements = sound.elements;
@@ -117,6 +208,8 @@ sound-with_rule policy (Everywhere name) sound none = record {
   everywhere = all-more may_keep_attribute policy.everywhere name sound.everywhere (attribute-may name none);
   schemes = sound.schemes;
   hidden = sound.hidden;
+  places = sound.places;
+  implied = sound.implied;
 }
 sound-with_rule policy (Scheme scheme) sound none = record {
   elements = sound.elements;
@@ -124,6 +217,8 @@ sound-with_rule policy (Scheme scheme) sound none = record {
   everywhere = sound.everywhere;
   schemes = all-more may_keep_scheme policy.schemes scheme sound.schemes (scheme-may scheme none);
   hidden = sound.hidden;
+  places = sound.places;
+  implied = sound.implied;
 }
 sound-with_rule policy (Hidden name) sound none =
     let may = hidden-may policy.elements name none in
@@ -134,6 +229,8 @@ sound-with_rule policy (Hidden name) sound none =
       everywhere = sound.everywhere;
       schemes = sound.schemes;
       hidden = all-more may_hide policy.hidden name sound.hidden (and-left (may_hide name) (not (is_one_of policy.elements name)) may);
+      places = sound.places;
+      implied = sound.implied;
     }
 sound-with_rule policy Noopener sound none = record {
   elements = sound.elements;
@@ -141,6 +238,8 @@ sound-with_rule policy Noopener sound none = record {
   everywhere = sound.everywhere;
   schemes = sound.schemes;
   hidden = sound.hidden;
+  places = sound.places;
+  implied = sound.implied;
 }
 sound-with_rule policy Balance sound none = record {
   elements = sound.elements;
@@ -148,10 +247,34 @@ sound-with_rule policy Balance sound none = record {
   everywhere = sound.everywhere;
   schemes = sound.schemes;
   hidden = sound.hidden;
+  places = sound.places;
+  implied = sound.implied;
+}
+sound-with_rule policy Tree sound none =
+    let may = tree-may policy.elements policy.hidden none in
+    let shown = not-true (list_any (is_one_of policy.hidden) implied_elements) (and-right (list_all has_place policy.elements) (not (list_any (is_one_of policy.hidden) implied_elements)) may) in
+    record {
+      elements = all-both (may_keep policy.hidden) policy.elements implied_elements sound.elements (all-shown policy.hidden implied_elements may_keep-implied shown);
+      own = sound.own;
+      everywhere = sound.everywhere;
+      schemes = sound.schemes;
+      hidden = sound.hidden;
+      places = λ tree. all-both has_place policy.elements implied_elements
+          (and-left (list_all has_place policy.elements) (not (list_any (is_one_of policy.hidden) implied_elements)) may) places-implied;
+      implied = λ tree. implied-kept policy.elements;
+    }
+sound-with_rule policy (Depth depth) sound none = record {
+  elements = sound.elements;
+  own = sound.own;
+  everywhere = sound.everywhere;
+  schemes = sound.schemes;
+  hidden = sound.hidden;
+  places = sound.places;
+  implied = sound.implied;
 }
 
-pub sound-nothing : IsSound (record { elements = []; own = []; everywhere = []; schemes = []; hidden = []; noopener = false; balance = false })
-sound-nothing = record { elements = refl; own = refl; everywhere = refl; schemes = refl; hidden = refl }
+pub sound-nothing : IsSound nothing_kept
+sound-nothing = record { elements = refl; own = refl; everywhere = refl; schemes = refl; hidden = refl; places = λ tree. absurd (false≢true tree); implied = λ tree. absurd (false≢true tree) }
 
 -- ---- what follows
 
@@ -171,3 +294,12 @@ listed-scheme policy scheme sound listed = holds-one_of may_keep_scheme policy.s
 pub listed-runs_nothing : (policy : PolicyOf) (scheme : List ℕ) → IsSound policy → is_one_of policy.schemes scheme ≡ true → runs_address scheme ≡ false
 listed-runs_nothing policy scheme sound listed =
     not-true (runs_address scheme) (and-right (is_scheme scheme) (not (runs_address scheme)) (listed-scheme policy scheme sound listed))
+
+-- by the rule `tree` an element that is kept has a place, and those that a browser makes are kept
+pub allowed-has_place : (policy : PolicyOf) (name : List ℕ) → IsSound policy → policy.tree ≡ true → is_allowed policy name ≡ true → has_place name ≡ true
+unfolding is_allowed
+allowed-has_place policy name sound tree allowed = holds-one_of has_place policy.elements name (sound.places tree) allowed
+
+pub implied-allowed : (policy : PolicyOf) (name : List ℕ) → IsSound policy → policy.tree ≡ true → is_one_of implied_elements name ≡ true → is_allowed policy name ≡ true
+unfolding is_allowed
+implied-allowed policy name sound tree one = holds-one_of (is_one_of policy.elements) implied_elements name (sound.implied tree) one

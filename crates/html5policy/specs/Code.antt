@@ -2,9 +2,9 @@
 use Rattle.std.specs.Prelude.{map, string_bytes}
 use Rattle.html5policy.specs.Policy.{OwnAttribute, PolicyOf}
 use Rattle.html5policy.specs.Rules.{RuleOf}
-use Rattle.html5policy.specs.Rules.RuleOf.{Element as ElementRule, Attribute as AttributeRule, Everywhere as EverywhereRule, Scheme as SchemeRule, Hidden as HiddenRule, Noopener as NoopenerRule, Balance as BalanceRule}
+use Rattle.html5policy.specs.Rules.RuleOf.{Element as ElementRule, Attribute as AttributeRule, Everywhere as EverywhereRule, Scheme as SchemeRule, Hidden as HiddenRule, Noopener as NoopenerRule, Balance as BalanceRule, Tree as TreeRule, Depth as DepthRule}
 use Rattle.html5policy.specs.declared.rule.Rule.{Rule as RustRule}
-use Rattle.html5policy.specs.declared.rule.Rule.TheVariants.{Element, Attribute, Everywhere, Scheme, Hidden, Noopener, Balance}
+use Rattle.html5policy.specs.declared.rule.Rule.TheVariants.{Element, Attribute, Everywhere, Scheme, Hidden, Noopener, Balance, Tree, Depth}
 use Rattle.html5policy.specs.declared.rules.OwnAttribute.{OwnAttribute as RustOwnAttribute}
 use Rattle.html5policy.specs.declared.rules.Rules.{Rules}
 
@@ -20,6 +20,8 @@ policy_of rules = record {
   hidden = map string_bytes rules.hidden.items;
   noopener = rules.noopener;
   balance = rules.balance;
+  tree = rules.tree;
+  depth = rules.depth;
 }
 
 abbrev pub rule_of : RustRule → RuleOf
@@ -30,3 +32,5 @@ rule_of (Scheme scheme) = SchemeRule scheme.now
 rule_of (Hidden name) = HiddenRule name.now
 rule_of Noopener = NoopenerRule
 rule_of Balance = BalanceRule
+rule_of Tree = TreeRule
+rule_of (Depth depth) = DepthRule depth

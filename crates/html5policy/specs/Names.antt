@@ -1,8 +1,11 @@
 -- Names, as the bytes of their UTF-8, of which no policy decides.
-use Rattle.std.specs.Prelude.{ℕ, Bool, false, List, [], ◌∷◌, ◌||◌, ◌&&◌, ◌==◌, codes, nat_eq}
+use Rattle.std.specs.Prelude.{ℕ, Bool, true, false, List, [], ◌∷◌, ◌||◌, ◌&&◌, ◌==◌, codes, nat_eq}
 use Rattle.std.specs.Char.{is_ascii_lowercase, is_ascii_digit}
 use Rattle.std.specs.List.{list_all, list_any, starts_with}
 use Rattle.std.specs.Str.{bytes_eq}
+use Rattle.html5tree.specs.Names.{kind_of}
+use Rattle.html5tree.specs.declared.kinds.Kind.{Kind}
+use Rattle.html5tree.specs.declared.kinds.Kind.TheVariants.{Unknown}
 
 -- whether a name is one of these
 unfoldable pub is_one_of : List (List ℕ) → List ℕ → Bool
@@ -27,6 +30,14 @@ acts_on_page name =
     || bytes_eq name (codes "frame") || bytes_eq name (codes "frameset") || bytes_eq name (codes "head") || bytes_eq name (codes "html")
     || bytes_eq name (codes "image") || bytes_eq name (codes "link") || bytes_eq name (codes "meta") || bytes_eq name (codes "object")
     || bytes_eq name (codes "param")
+
+abbrev pub is_of_kind : Kind → Bool
+is_of_kind Unknown = false
+is_of_kind kind = true
+
+-- whether tree construction is said of an element of this name: it is one of the 94 of html5tree
+unfoldable pub has_place : List ℕ → Bool
+has_place name = is_of_kind (kind_of name)
 
 -- ---- attributes
 

@@ -1,5 +1,5 @@
 -- What a policy keeps of a page, by names: the bytes of their UTF-8.
-use Rattle.std.specs.Prelude.{ℕ, Bool, false, List, [], not, ◌||◌, ◌&&◌, codes}
+use Rattle.std.specs.Prelude.{ℕ, Bool, false, List, [], ◌∷◌, not, ◌||◌, ◌&&◌, codes}
 use Rattle.std.specs.List.{list_any}
 use Rattle.std.specs.Str.{bytes_eq}
 use Rattle.html5policy.specs.Addresses.{is_safe_address}
@@ -24,12 +24,29 @@ pub record PolicyOf : Type 0 where
   pub noopener : Bool
   -- whether each end tag closes the innermost open element, and the end of a page those that are still open
   pub balance : Bool
+  -- whether a page is made to fit, so that a browser builds it as it is nested; and how many elements may be open then
+  pub tree : Bool
+  pub depth : ℕ
 
 -- a policy that keeps text alone
 abbrev pub nothing_kept : PolicyOf
-nothing_kept = record { elements = []; own = []; everywhere = []; schemes = []; hidden = []; noopener = false; balance = false }
+nothing_kept = record {
+  elements = [];
+  own = [];
+  everywhere = [];
+  schemes = [];
+  hidden = [];
+  noopener = false;
+  balance = false;
+  tree = false;
+  depth = 511;
+}
 
 -- ---- elements
+
+-- the elements that a browser makes in a table where they are left out: a policy with the rule `tree` keeps them
+unfoldable pub implied_elements : List (List ℕ)
+implied_elements = codes "colgroup" ∷ codes "tbody" ∷ codes "tr" ∷ codes "td" ∷ []
 
 -- whether an element of this name is kept
 unfoldable pub is_allowed : PolicyOf → List ℕ → Bool

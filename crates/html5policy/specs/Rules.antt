@@ -1,11 +1,11 @@
 -- Rules, of which a policy is made: what each says, and which no policy takes.
-use Rattle.std.specs.Prelude.{◌≡◌, ℕ, Bool, true, List, [], ◌∷◌, ◌++◌, Option, None, Some, Result, Ok, Err, not, ◌&&◌, chars, if◌then◌else◌}
-use Rattle.std.specs.List.{list_all}
+use Rattle.std.specs.Prelude.{◌≡◌, ℕ, Bool, true, List, [], ◌∷◌, ◌++◌, ◌==◌, Option, None, Some, Result, Ok, Err, not, ◌&&◌, chars, if◌then◌else◌}
+use Rattle.std.specs.List.{list_all, list_any}
 use Rattle.html5write.specs.Pieces.{is_tag_name, is_attribute_name}
-use Rattle.html5policy.specs.Names.{acts_on_page, always_hides, is_never_kept, is_one_of, is_scheme, runs_address}
-use Rattle.html5policy.specs.Policy.{OwnAttribute, PolicyOf}
+use Rattle.html5policy.specs.Names.{acts_on_page, always_hides, has_place, is_never_kept, is_one_of, is_scheme, runs_address}
+use Rattle.html5policy.specs.Policy.{OwnAttribute, PolicyOf, implied_elements}
 use Rattle.html5policy.specs.declared.error.RuleError.{RuleError}
-use Rattle.html5policy.specs.declared.error.RuleError.TheVariants.{ActsOnPage, AllowedAndHidden, AttributeName, ElementName, HidesContent, NeverKept, RunsAddress, SchemeName}
+use Rattle.html5policy.specs.declared.error.RuleError.TheVariants.{ActsOnPage, AllowedAndHidden, AttributeName, Depth as DepthError, ElementName, HidesContent, NeverKept, NoPlace, RunsAddress, SchemeName}
 
 pub data RuleOf : Type 0 where
   -- an element is kept
@@ -22,6 +22,10 @@ pub data RuleOf : Type 0 where
   Noopener : RuleOf
   -- each end tag closes the innermost open element, and the end of a page those that are still open
   Balance : RuleOf
+  -- a page is made to fit, so that a browser builds it as it is nested
+  Tree : RuleOf
+  -- how many elements may be open then
+  Depth : ℕ → RuleOf
 
 -- ---- what is wrong with a rule
 
@@ -31,13 +35,14 @@ attribute_fault name =
     else if is_never_kept name then Some NeverKept
     else None
 
--- an element that is kept, where these are hidden
-abbrev pub element_fault : List (List ℕ) → List ℕ → Option RuleError
-element_fault hidden name =
+-- an element that is kept, where these are hidden; by the rule `tree` it has a place in the tree
+abbrev pub element_fault : Bool → List (List ℕ) → List ℕ → Option RuleError
+element_fault tree hidden name =
     if not (is_tag_name (chars name)) then Some ElementName
     else if always_hides name then Some HidesContent
     else if acts_on_page name then Some ActsOnPage
     else if is_one_of hidden name then Some AllowedAndHidden
+    else if tree && not (has_place name) then Some NoPlace
     else None
 
 abbrev pub scheme_fault : List ℕ → Option RuleError
@@ -50,15 +55,27 @@ hidden_fault elements name =
     else if is_one_of elements name then Some AllowedAndHidden
     else None
 
+-- the rule `tree`, where these are kept and those are hidden
+abbrev pub tree_fault : List (List ℕ) → List (List ℕ) → Option RuleError
+tree_fault elements hidden =
+    if not (list_all has_place elements) then Some NoPlace
+    else if list_any (is_one_of hidden) implied_elements then Some AllowedAndHidden
+    else None
+
+abbrev pub depth_fault : ℕ → Option RuleError
+depth_fault depth = if depth == 0 then Some DepthError else None
+
 -- by the rules that a policy has
 unfoldable pub fault_of : PolicyOf → RuleOf → Option RuleError
-fault_of policy (Element name) = element_fault policy.hidden name
+fault_of policy (Element name) = element_fault policy.tree policy.hidden name
 fault_of policy (Attribute element name) = attribute_fault name
 fault_of policy (Everywhere name) = attribute_fault name
 fault_of policy (Scheme scheme) = scheme_fault scheme
 fault_of policy (Hidden name) = hidden_fault policy.elements name
 fault_of policy Noopener = None
 fault_of policy Balance = None
+fault_of policy Tree = tree_fault policy.elements policy.hidden
+fault_of policy (Depth depth) = depth_fault depth
 
 -- ---- a policy with one rule more
 
@@ -70,6 +87,8 @@ with_rule policy (Scheme scheme) = record policy { schemes = policy.schemes ++ s
 with_rule policy (Hidden name) = record policy { hidden = policy.hidden ++ name ∷ [] }
 with_rule policy Noopener = record policy { noopener = true }
 with_rule policy Balance = record policy { balance = true }
+with_rule policy Tree = record policy { elements = policy.elements ++ implied_elements; tree = true }
+with_rule policy (Depth depth) = record policy { depth = depth }
 
 abbrev pub added_unless : PolicyOf → RuleOf → Option RuleError → Result PolicyOf RuleError
 added_unless policy rule None = Ok (with_rule policy rule)
@@ -107,3 +126,6 @@ pub record IsSound (policy : PolicyOf) : Type 0 where
   pub everywhere : list_all may_keep_attribute policy.everywhere ≡ true
   pub schemes : list_all may_keep_scheme policy.schemes ≡ true
   pub hidden : list_all may_hide policy.hidden ≡ true
+  -- by the rule `tree` each element has a place in the tree, and those that a browser makes are kept
+  pub places : policy.tree ≡ true → list_all has_place policy.elements ≡ true
+  pub implied : policy.tree ≡ true → list_all (is_one_of policy.elements) implied_elements ≡ true

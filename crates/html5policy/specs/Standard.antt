@@ -37,4 +37,6 @@ standard_policy = record {
   hidden = [];
   noopener = false;
   balance = false;
+  tree = false;
+  depth = 511;
 }

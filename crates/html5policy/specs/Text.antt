@@ -1,12 +1,13 @@
 -- The text form of a policy: a rule a line, its words separated by spaces.
-use Rattle.std.specs.Prelude.{ℕ, ◌+◌, ◌==◌, Bool, true, false, List, [], ◌∷◌, Result, Ok, Err, codes, filter, map, if◌then◌else◌}
+use Rattle.std.specs.Prelude.{ℕ, ◌+◌, ◌^◌, ◌==◌, ◌&&◌, nat_lt, Bool, true, false, List, [], ◌∷◌, Option, Some, None, Result, Ok, Err, codes, filter, map, if◌then◌else◌}
 use Rattle.std.specs.List.{slice_split}
-use Rattle.std.specs.Str.{bytes_eq}
+use Rattle.std.specs.Str.{all_ascii_digits, bytes_eq}
+use Rattle.std.specs.Str.Parse.{digits_value}
 use Rattle.html5policy.specs.Policy.{PolicyOf, nothing_kept}
 use Rattle.html5policy.specs.Rules.{RuleOf, rule_added}
-use Rattle.html5policy.specs.Rules.RuleOf.{Element, Attribute, Everywhere, Scheme, Hidden, Noopener, Balance}
+use Rattle.html5policy.specs.Rules.RuleOf.{Element, Attribute, Everywhere, Scheme, Hidden, Noopener, Balance, Tree, Depth}
 use Rattle.html5policy.specs.declared.error.RuleError.{RuleError}
-use Rattle.html5policy.specs.declared.error.RuleError.TheVariants.{NoName, UnknownRule, WordTooMany}
+use Rattle.html5policy.specs.declared.error.RuleError.TheVariants.{Depth as DepthError, NoName, UnknownRule, WordTooMany}
 use Rattle.html5policy.specs.declared.error.PolicyError.{PolicyError}
 
 -- ---- lines and words
@@ -55,6 +56,27 @@ unfoldable pub balance_said : List (List ℕ) → Result (List RuleOf) RuleError
 balance_said [] = Ok (Balance ∷ [])
 balance_said (name ∷ names) = Err WordTooMany
 
+-- `tree`
+unfoldable pub tree_said : List (List ℕ) → Result (List RuleOf) RuleError
+tree_said [] = Ok (Tree ∷ [])
+tree_said (name ∷ names) = Err WordTooMany
+
+-- a number in decimal digits, at least 1 and below 2 ^ 32
+unfoldable pub number_said : List ℕ → Option ℕ
+number_said digits =
+    let number = digits_value 10 digits in
+    if all_ascii_digits digits && nat_lt number (2 ^ 32) && nat_lt 0 number then Some number else None
+
+abbrev pub depth_rule : Option ℕ → Result (List RuleOf) RuleError
+depth_rule (Some depth) = Ok (Depth depth ∷ [])
+depth_rule None = Err DepthError
+
+-- `depth NUMBER`
+unfoldable pub depth_said : List (List ℕ) → Result (List RuleOf) RuleError
+depth_said [] = Err NoName
+depth_said (number ∷ []) = depth_rule (number_said number)
+depth_said (number ∷ name ∷ names) = Err WordTooMany
+
 -- what the words of a line say after the first
 unfoldable pub rules_by_word : List ℕ → List (List ℕ) → Result (List RuleOf) RuleError
 rules_by_word word names =
@@ -65,6 +87,8 @@ rules_by_word word names =
     else if bytes_eq word (codes "hide") then each_said Hidden names
     else if bytes_eq word (codes "noopener") then noopener_said names
     else if bytes_eq word (codes "balance") then balance_said names
+    else if bytes_eq word (codes "tree") then tree_said names
+    else if bytes_eq word (codes "depth") then depth_said names
     else Err UnknownRule
 
 unfoldable pub rules_said : List (List ℕ) → Result (List RuleOf) RuleError

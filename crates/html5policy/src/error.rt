@@ -42,6 +42,12 @@ pub enum RuleError {
     /// An address of this scheme runs what stands in it, or names what a page made itself.
     #[error("a scheme whose addresses run what stands in them can't be allowed")]
     RunsAddress,
+    /// By the rule `tree` an element has a place in the tree: it is one of the 94 of which html5tree speaks.
+    #[error("an element without a place in the tree can't be allowed with the rule tree")]
+    NoPlace,
+    /// How many elements may be open is no number, or none from 1 to 4294967295.
+    #[error("a depth that is no number from 1 to 4294967295")]
+    Depth,
     /// A growth was refused.
     #[error("out of memory")]
     Memory,

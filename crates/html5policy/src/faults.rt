@@ -1,10 +1,16 @@
 //! What is wrong with a rule.
-ghost use Rattle.std.specs.Prelude.{◌≡◌, map, string_bytes};
-ghost use Rattle.html5policy.specs.Rules.{attribute_fault, element_fault, fault_of, hidden_fault, scheme_fault};
+ghost use Rattle.std.specs.Prelude.{◌≡◌, ◌||◌, codes, false, map, string_bytes};
+ghost use Rattle.html5policy.specs.Rules.{attribute_fault, depth_fault, element_fault, fault_of, hidden_fault, scheme_fault, tree_fault};
+ghost use Rattle.std.specs.List.{list_any};
+ghost use Rattle.html5policy.specs.Names.{is_one_of};
+ghost use Rattle.html5policy.specs.Policy.{implied_elements};
 ghost use Rattle.html5policy.specs.Code.{policy_of, rule_of};
 
 use crate::error::RuleError;
-use crate::names::{acts_on_page, always_hides, is_never_kept, is_one_of, is_scheme, runs_address};
+use crate::names::{
+    acts_on_page, always_hides, has_place, have_places, is_never_kept, is_one_of, is_scheme,
+    runs_address,
+};
 use crate::rule::Rule;
 use crate::rules::Rules;
 use html5write::{is_attribute_name, is_tag_name};
@@ -24,8 +30,8 @@ fn attribute_fault(name: &str) -> Option<RuleError>
 }
 
 // What is wrong with an element that is to be kept, where these are hidden.
-fn element_fault<A: Allocator>(hidden: &[String<A>], name: &str) -> Option<RuleError>
-    ensures { result ≡ element_fault (map string_bytes hidden.now) name.now }
+fn element_fault<A: Allocator>(tree: bool, hidden: &[String<A>], name: &str) -> Option<RuleError>
+    ensures { result ≡ element_fault tree (map string_bytes hidden.now) name.now }
 {
     if !is_tag_name(name) {
         return Some(RuleError::ElementName);
@@ -38,6 +44,42 @@ fn element_fault<A: Allocator>(hidden: &[String<A>], name: &str) -> Option<RuleE
     }
     if is_one_of(hidden, name) {
         return Some(RuleError::AllowedAndHidden);
+    }
+    if tree && !has_place(name) {
+        return Some(RuleError::NoPlace);
+    }
+    None
+}
+
+// Whether one of the elements that a browser makes in a table is hidden.
+#[tactic(auto, unfolding(crate::specs::Policy::implied_elements))]
+fn hides_implied<A: Allocator>(hidden: &[String<A>]) -> bool
+    ensures { result ≡ list_any (is_one_of (map string_bytes hidden.now)) implied_elements }
+{
+    is_one_of(hidden, "colgroup")
+        || is_one_of(hidden, "tbody")
+        || is_one_of(hidden, "tr")
+        || is_one_of(hidden, "td")
+}
+
+// What is wrong with the rule `tree`, where these are kept and those are hidden.
+fn tree_fault<A: Allocator>(elements: &[String<A>], hidden: &[String<A>]) -> Option<RuleError>
+    ensures { result ≡ tree_fault (map string_bytes elements.now) (map string_bytes hidden.now) }
+{
+    if !have_places(elements) {
+        return Some(RuleError::NoPlace);
+    }
+    if hides_implied(hidden) {
+        return Some(RuleError::AllowedAndHidden);
+    }
+    None
+}
+
+fn depth_fault(depth: usize) -> Option<RuleError>
+    ensures { result ≡ depth_fault depth }
+{
+    if depth == 0 {
+        return Some(RuleError::Depth);
     }
     None
 }
@@ -74,11 +116,13 @@ pub fn fault_of<A: Allocator>(rules: &Rules<A>, rule: Rule<'_>) -> Option<RuleEr
     ensures { result ≡ fault_of (policy_of rules.now) (rule_of rule.entry) }
 {
     match rule {
-        Rule::Element(name) => element_fault(&rules.hidden, name),
+        Rule::Element(name) => element_fault(rules.tree, &rules.hidden, name),
         Rule::Attribute { element: _, name } => attribute_fault(name),
         Rule::Everywhere(name) => attribute_fault(name),
         Rule::Scheme(scheme) => scheme_fault(scheme),
         Rule::Hidden(name) => hidden_fault(&rules.elements, name),
         Rule::Noopener | Rule::Balance => None,
+        Rule::Tree => tree_fault(&rules.elements, &rules.hidden),
+        Rule::Depth(depth) => depth_fault(depth),
     }
 }

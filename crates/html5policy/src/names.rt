@@ -1,8 +1,10 @@
 //! Names of which no policy decides.
 ghost use Rattle.std.specs.Prelude.{◌≡◌, map, string_bytes};
 ghost use Rattle.std.specs.List.{list_all};
-ghost use Rattle.html5policy.specs.Names.{acts_on_page, always_hides, is_address, is_address_now, is_address_of_old, is_address_somewhere, is_never_kept, is_one_of, is_scheme, is_scheme_byte, runs_address};
+ghost use Rattle.html5policy.specs.Names.{acts_on_page, always_hides, has_place, is_address, is_address_now, is_address_of_old, is_address_somewhere, is_never_kept, is_one_of, is_scheme, is_scheme_byte, runs_address};
 
+use html5tree::kinds::Kind;
+use html5tree::names::ElementName;
 use std::alloc::Allocator;
 
 /// Whether a name is one of these.
@@ -62,6 +64,29 @@ pub fn acts_on_page(name: &str) -> bool
             | "object"
             | "param"
     )
+}
+
+/// Whether tree construction is said of an element of this name.
+#[tactic(auto, unfolding(crate::specs::Names::has_place))]
+pub fn has_place(name: &str) -> bool
+    ensures { result ≡ has_place name.now }
+{
+    match ElementName::find(name) {
+        Some(name) => !matches!(name.kind(), Kind::Unknown),
+        None => false,
+    }
+}
+
+/// Whether it is of each of these names.
+pub fn have_places<A: Allocator>(names: &[String<A>]) -> bool
+    ensures { result ≡ list_all has_place (map string_bytes names.now) }
+{
+    for name in names {
+        if !has_place(name.as_str()) {
+            return false;
+        }
+    }
+    true
 }
 
 /// Whether no policy keeps an attribute of this name: it runs scripts, holds no single address, or changes

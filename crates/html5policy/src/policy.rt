@@ -98,6 +98,20 @@ impl<A: Allocator> Policy<A> {
         self.rules.balance
     }
 
+    /// Whether a page that it keeps is made to fit, so that a browser builds it as it is nested.
+    pub fn makes_tree(&self) -> bool
+        ensures { result ≡ self.now.tree }
+    {
+        self.rules.tree
+    }
+
+    /// How many elements may be open then.
+    pub fn depth(&self) -> usize
+        ensures { result ≡ self.now.depth }
+    {
+        self.rules.depth
+    }
+
     // Whether an attribute of this name is kept in elements of that name.
     fn is_named(&self, element: &str, attribute: &str) -> bool
         ensures { result ≡ is_named self.now element.now attribute.now }

@@ -17,4 +17,9 @@ pub enum Rule<'t> {
     Noopener,
     /// Each end tag closes the innermost open element, and at the end of a page none is open.
     Balance,
+    /// A page is made to fit, so that a browser builds it as it is nested. It keeps the elements that a browser
+    /// makes in a table where they are left out, too: `colgroup`, `tbody`, `tr` and `td`.
+    Tree,
+    /// How many elements may be open then.
+    Depth(usize),
 }

@@ -1,6 +1,6 @@
 //! The rules of a policy, as they are stored.
-ghost use Rattle.std.specs.Prelude.{◌≡◌, ◌++◌, ◌∷◌, [], OnOk, OnErr, map, string_bytes};
-ghost use Rattle.html5policy.specs.Policy.{is_own, nothing_kept};
+ghost use Rattle.std.specs.Prelude.{◌≡◌, ◌<◌, ◌+◌, ◌≤◌, ◌++◌, ◌∷◌, [], OnOk, OnErr, map, string_bytes, vec_capacity, vec_len};
+ghost use Rattle.html5policy.specs.Policy.{implied_elements, is_own, nothing_kept};
 ghost use Rattle.html5policy.specs.Rules.{with_rule};
 ghost use Rattle.html5policy.specs.Code.{own_of, policy_of, rule_of};
 
@@ -24,6 +24,8 @@ pub struct Rules<A: Allocator> {
     pub hidden: Vec<String<A>, A>,
     pub noopener: bool,
     pub balance: bool,
+    pub tree: bool,
+    pub depth: usize,
 }
 
 // Appends a name.
@@ -37,6 +39,40 @@ fn push_name<A: Allocator + Copy>(
 {
     let name = String::from_str(alloc, name)?;
     names.push(name)?;
+    Ok(())
+}
+
+// Appends a name where there is room for it.
+fn push_within<A: Allocator>(names: &mut Vec<String<A>, A>, name: String<A>)
+    requires { vec_len names.old < vec_capacity names.old }
+    ensures items { names.new.items ≡ names.old.items ++ name ∷ [] }
+    ensures len { vec_len names.new ≡ vec_len names.old + 1 }
+    ensures capacity { vec_capacity names.old ≤ vec_capacity names.new }
+{
+    match names.push(name) {
+        Ok(()) => {}
+        Err(_) => unreachable!(),
+    }
+}
+
+// Appends the elements that a browser makes in a table, all of them or none.
+#[tactic(auto, unfolding(crate::specs::Policy::implied_elements))]
+fn push_implied<A: Allocator + Copy>(
+    alloc: A,
+    names: &mut Vec<String<A>, A>,
+) -> Result<(), AllocError>
+    ensures ok { OnOk result (map string_bytes names.new.items ≡ map string_bytes names.old.items ++ implied_elements) }
+    ensures err { OnErr result (names.new.items ≡ names.old.items) }
+{
+    let group = String::from_str(alloc, "colgroup")?;
+    let body = String::from_str(alloc, "tbody")?;
+    let row = String::from_str(alloc, "tr")?;
+    let cell = String::from_str(alloc, "td")?;
+    names.reserve(4)?;
+    push_within(names, group);
+    push_within(names, body);
+    push_within(names, row);
+    push_within(names, cell);
     Ok(())
 }
 
@@ -83,6 +119,8 @@ impl<A: Allocator + Copy> Rules<A> {
             hidden: Vec::new(alloc),
             noopener: false,
             balance: false,
+            tree: false,
+            depth: 511,
         }
     }
 
@@ -104,6 +142,15 @@ impl<A: Allocator + Copy> Rules<A> {
             }
             Rule::Balance => {
                 self.balance = true;
+                Ok(())
+            }
+            Rule::Tree => {
+                push_implied(alloc, &mut self.elements)?;
+                self.tree = true;
+                Ok(())
+            }
+            Rule::Depth(depth) => {
+                self.depth = depth;
                 Ok(())
             }
         }

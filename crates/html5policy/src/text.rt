@@ -1,9 +1,9 @@
 //! The text form of a policy.
-ghost use Rattle.std.specs.Prelude.{◌≡◌, ◌⊎◌, IfErr, IfOk, Ok, Err, OnOk, map};
+ghost use Rattle.std.specs.Prelude.{◌≡◌, ◌<◌, ◌^◌, ◌⊎◌, IfErr, IfOk, IfSome, Ok, Err, OnOk, map};
 ghost use Rattle.html5policy.specs.Rules.{IsSound};
 ghost use Rattle.html5policy.specs.Code.{rule_of};
 ghost use Rattle.html5policy.specs.Adding.{Adds, AddsLine, naming};
-ghost use Rattle.html5policy.specs.Text.{allow_said, balance_said, begins_remark, each_said, line_added, noopener_said, policy_said, rules_added, rules_by_word, said_added, words};
+ghost use Rattle.html5policy.specs.Text.{allow_said, balance_said, begins_remark, depth_rule, depth_said, each_said, line_added, noopener_said, number_said, policy_said, rules_added, rules_by_word, said_added, tree_said, words};
 ghost use Rattle.html5policy.specs.declared.error.RuleError.TheVariants.{Memory};
 
 use crate::error::{PolicyError, RuleError};
@@ -101,6 +101,59 @@ fn add_balance<A: Allocator + Copy>(policy: &mut Policy<A>, names: &str) -> Resu
     }
 }
 
+// Adds the rule `tree`.
+#[tactic(auto, unfolding(crate::specs::Text::tree_said, crate::specs::Text::rules_added))]
+fn add_tree<A: Allocator + Copy>(policy: &mut Policy<A>, names: &str) -> Result<(), RuleError>
+    ensures { Adds result (said_added policy.old (tree_said (words names.now))) policy.new }
+{
+    match next_word(names) {
+        Some(_) => Err(RuleError::WordTooMany),
+        None => policy.add(Rule::Tree),
+    }
+}
+
+// A number in decimal digits: at least 1, and below 2 ^ 32.
+#[tactic(auto, unfolding(crate::specs::Text::number_said))]
+fn number_of(digits: &str) -> Option<usize>
+    ensures { result ≡ number_said digits.now }
+{
+    if !digits.bytes().all(|byte| byte.is_ascii_digit()) {
+        return None;
+    }
+    let Ok(number) = digits.parse::<u32>() else {
+        return None;
+    };
+    if number == 0 {
+        return None;
+    }
+    Some(number as usize)
+}
+
+// Adds how many elements may be open, by this number.
+#[tactic(auto, unfolding(crate::specs::Text::rules_added))]
+fn add_number<A: Allocator + Copy>(policy: &mut Policy<A>, number: &str) -> Result<(), RuleError>
+    ensures { Adds result (said_added policy.old (depth_rule (number_said number.now))) policy.new }
+{
+    match number_of(number) {
+        Some(depth) => policy.add(Rule::Depth(depth)),
+        None => Err(RuleError::Depth),
+    }
+}
+
+// Adds what is said of how many elements may be open.
+#[tactic(auto, unfolding(crate::specs::Text::depth_said, crate::specs::Text::rules_added))]
+fn add_depth<A: Allocator + Copy>(policy: &mut Policy<A>, names: &str) -> Result<(), RuleError>
+    ensures { Adds result (said_added policy.old (depth_said (words names.now))) policy.new }
+{
+    let Some((number, rest)) = next_word(names) else {
+        return Err(RuleError::NoName);
+    };
+    match next_word(rest) {
+        Some(_) => Err(RuleError::WordTooMany),
+        None => add_number(policy, number),
+    }
+}
+
 // Whether a line with this first word says nothing.
 fn begins_remark(word: &str) -> bool
     ensures { result ≡ begins_remark word.now }
@@ -130,6 +183,8 @@ fn add_rules<A: Allocator + Copy>(
         "hide" => add_some(policy, Naming::Hidden, names),
         "noopener" => add_noopener(policy, names),
         "balance" => add_balance(policy, names),
+        "tree" => add_tree(policy, names),
+        "depth" => add_depth(policy, names),
         _ => Err(RuleError::UnknownRule),
     }
 }
@@ -164,8 +219,8 @@ fn add_numbered<A: Allocator + Copy>(
 
 impl<A: Allocator + Copy> Policy<A> {
     /// The policy that a text says: a rule a line, its words separated by spaces. `allow ELEMENT
-    /// [ATTRIBUTE..]`, `everywhere ATTRIBUTE..`, `schemes SCHEME..`, `hide ELEMENT..`, `noopener` and
-    /// `balance`. Empty lines, and lines that begin with `#`, say nothing.
+    /// [ATTRIBUTE..]`, `everywhere ATTRIBUTE..`, `schemes SCHEME..`, `hide ELEMENT..`, `noopener`, `balance`,
+    /// `tree` and `depth NUMBER`. Empty lines, and lines that begin with `#`, say nothing.
     pub fn parse(alloc: A, text: &str) -> Result<Policy<A>, PolicyError>
         ensures said { IfOk result (λ policy. policy_said text.now ≡ Ok policy) }
         ensures fault { IfErr result (λ error. (error.fault ≡ Memory) ⊎ (policy_said text.now ≡ Err error)) }

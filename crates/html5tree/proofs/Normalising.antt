@@ -200,7 +200,7 @@ ready-after limit s item ready =
       short = short-fitting limit s (open_after_fitted limit s item) (fitted limit s item) ready.short f;
     }
 
-closed-fitting : (limit : ℕ) (s : Stack) → all_stand s ≡ true → length s ≤ limit → IsFitting limit s (end_tags s) []
+pub closed-fitting : (limit : ℕ) (s : Stack) → all_stand s ≡ true → length s ≤ limit → IsFitting limit s (end_tags s) []
 unfolding all_stand open_after
 closed-fitting limit [] a l = Done
 closed-fitting limit (name ∷ s) a l =
@@ -299,9 +299,9 @@ same-start k s f = at (holds_parts (kind_on_top s)) refl f
         let part : is_part k ≡ false = not-true (is_part k) p.0 in
         rw part (same-flow k s part p.1)
 
-record IsUnchanged (limit : ℕ) (s : Stack) (item : Item) : Type 0 where
-  fitted_is : fitted limit s item ≡ item ∷ []
-  after_is : open_after_fitted limit s item ≡ open_after s item
+pub record IsUnchanged (limit : ℕ) (s : Stack) (item : Item) : Type 0 where
+  pub fitted_is : fitted limit s item ≡ item ∷ []
+  pub after_is : open_after_fitted limit s item ≡ open_after s item
 
 from-plan : (limit : ℕ) (s : Stack) (item : Item) → plan_of limit s item ≡ kept 0 [] → IsUnchanged limit s item
 unfolding opened
@@ -346,7 +346,7 @@ same-end limit [] name o t = absurd (false≢true t)
 same-end limit (top ∷ s) name o t =
     subst (λ x. IsUnchanged limit (x ∷ s) (EndTag name)) (sym ((bytes_eq-Decides top name).0 t)) (closed-top limit s name o)
 
-unchanged-item : (limit : ℕ) (s : Stack) (item : Item) → fits s item ≡ true → length (open_after s item) ≤ limit → IsUnchanged limit s item
+pub unchanged-item : (limit : ℕ) (s : Stack) (item : Item) → fits s item ≡ true → length (open_after s item) ≤ limit → IsUnchanged limit s item
 unfolding plan_of fits
 unchanged-item limit s (StartTag name attributes) f l =
     from-plan limit s (StartTag name attributes)

@@ -84,6 +84,18 @@ impl<A: Allocator> Nesting<A> {
         })
     }
 
+    /// Takes over the open elements and the limit of another, in the room that there is. None was closed for the last
+    /// item. After a refused growth nothing is open here.
+    pub fn copy_from(&mut self, other: &Nesting<A>) -> Result<(), AllocError>
+        ensures { OnOk result (self.new ≡ record other.now { closed = [] }) }
+    {
+        self.opened.clear();
+        self.opened.extend_from_slice(&other.opened)?;
+        self.closed.clear();
+        self.limit = other.limit;
+        Ok(())
+    }
+
     /// How many elements are open.
     pub fn depth(&self) -> usize
         ensures value { result ≡ length self.now.opened }

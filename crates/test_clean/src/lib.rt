@@ -11,3 +11,5 @@ mod memory;
 mod pages;
 #[cfg(test)]
 mod policies;
+#[cfg(test)]
+mod tree;

@@ -20,7 +20,7 @@ struct Rule {
     dropped: &'static [(&'static str, &'static str, &'static str)],
 }
 
-const RULES: [Rule; 13] = [
+const RULES: [Rule; 14] = [
     Rule {
         text: "",
         allowed: &[],
@@ -131,6 +131,15 @@ const RULES: [Rule; 13] = [
         shows: &[],
         kept: &[("a", "rel", "opener"), ("p", "rel", "x")],
         dropped: &[],
+    },
+    Rule {
+        text: "tree\nallow ruby",
+        allowed: &["colgroup", "tbody", "tr", "td", "ruby"],
+        not_allowed: &["table", "th", "p"],
+        hides: &[],
+        shows: &["td"],
+        kept: &[],
+        dropped: &[("td", "title", "x")],
     },
     Rule {
         text: "# allow p\n\n  \n#\nallow q",
@@ -263,8 +272,27 @@ fn says_whether_it_balances(rt: HostRuntime) {
     );
 }
 
+// Texts, whether a policy that one says makes a tree, and how many elements may be open then.
+const TREES: [(&str, bool, usize); 6] = [
+    ("", false, 511),
+    ("balance", false, 511),
+    ("tree", true, 511),
+    ("  depth  7  \ntree", true, 7),
+    ("tree\ndepth 1\ndepth 4294967295", true, 4_294_967_295),
+    ("depth 007", false, 7),
+];
+
+#[test]
+fn says_whether_it_makes_a_tree(rt: HostRuntime) {
+    for (text, makes_tree, depth) in TREES {
+        let policy = Policy::parse(rt.alloc(), text).expect(&rt, "a policy");
+        assert_eq!(rt; policy.makes_tree(), makes_tree, "{text}");
+        assert_eq!(rt; policy.depth(), depth, "{text}");
+    }
+}
+
 // Texts, and the first fault of each with its line.
-const FAULTS: [(&str, u64, RuleError); 57] = [
+const FAULTS: [(&str, u64, RuleError); 70] = [
     ("permit p", 1, RuleError::UnknownRule),
     ("ALLOW p", 1, RuleError::UnknownRule),
     ("allow p\nwrong", 2, RuleError::UnknownRule),
@@ -326,6 +354,19 @@ const FAULTS: [(&str, u64, RuleError); 57] = [
     ("schemes blob", 1, RuleError::RunsAddress),
     ("schemes filesystem", 1, RuleError::RunsAddress),
     ("schemes https view-source", 1, RuleError::RunsAddress),
+    ("tree p", 1, RuleError::WordTooMany),
+    ("depth", 1, RuleError::NoName),
+    ("depth 1 2", 1, RuleError::WordTooMany),
+    ("depth 0", 1, RuleError::Depth),
+    ("tree\ndepth x", 2, RuleError::Depth),
+    ("depth -1", 1, RuleError::Depth),
+    ("depth +1", 1, RuleError::Depth),
+    ("depth 4294967296", 1, RuleError::Depth),
+    ("tree\nallow p\nallow select", 3, RuleError::NoPlace),
+    ("allow canvas\n\ntree", 3, RuleError::NoPlace),
+    ("tree\nallow script", 2, RuleError::HidesContent),
+    ("hide td\ntree", 2, RuleError::AllowedAndHidden),
+    ("tree\nhide tr", 2, RuleError::AllowedAndHidden),
 ];
 
 #[test]
@@ -349,7 +390,7 @@ fn says_what_is_wrong(rt: HostRuntime) {
 }
 
 const TEXT: &str =
-    "allow a href rel\nallow p title\neverywhere lang dir\nschemes http mailto\nhide form\nnoopener\nbalance\n";
+    "allow a href rel\nallow p title\neverywhere lang dir\nschemes http mailto\nhide form\nnoopener\nbalance\ntree\ndepth 9\n";
 
 #[test]
 fn a_refused_growth_is_answered(rt: HostRuntime) {
@@ -360,7 +401,7 @@ fn a_refused_growth_is_answered(rt: HostRuntime) {
             Ok(policy) => {
                 assert!(rt; !heap.has_refused(), "after {admitted} requests");
                 assert!(rt; policy.is_kept("a", "href", "mailto:x") && policy.hides("form"));
-                assert!(rt; policy.balances());
+                assert!(rt; policy.balances() && policy.makes_tree() && policy.depth() == 9);
                 finished = true;
                 break;
             }

@@ -97,7 +97,7 @@ fn of_bytes_that_come_in(rt: HostRuntime) -> Result<(), Fail> {
     check_texts(&rt, rt.alloc(), &references)
 }
 
-const RULES: [(RuleError, &str); 12] = [
+const RULES: [(RuleError, &str); 14] = [
     (RuleError::UnknownRule, "an unknown rule"),
     (RuleError::NoName, "a name is missing after the rule"),
     (RuleError::WordTooMany, "a word too many after the rule"),
@@ -129,6 +129,14 @@ const RULES: [(RuleError, &str); 12] = [
     (
         RuleError::RunsAddress,
         "a scheme whose addresses run what stands in them can't be allowed",
+    ),
+    (
+        RuleError::NoPlace,
+        "an element without a place in the tree can't be allowed with the rule tree",
+    ),
+    (
+        RuleError::Depth,
+        "a depth that is no number from 1 to 4294967295",
     ),
     (RuleError::Memory, "out of memory"),
 ];

@@ -1,4 +1,4 @@
-use Rattle.html5cleaner.proofs.NestedPages.{nested-page}
+use Rattle.html5cleaner.proofs.NestedTrees.{nested-page}
 use Rattle.html5cleaner.proofs.OtherPieces.{same-others}
 use Rattle.html5cleaner.proofs.laws.balanced_page.Goals as goal
 

@@ -29,6 +29,6 @@ returns-clause-whole c = λ s references bytes.
     ∙ ap (λ l. record { policy = s.policy; printed = l }) (append-nil (printed_of s M).printed)
 
 pub returns-clause-not_balanced : goal.returns-clause-not_balanced
-returns-clause-not_balanced c = λ s M is.
-    ap (λ (o : List (List _)). record { policy = s.policy; printed = (printed_of s M).printed ++ page_bytes (end_tags o) }) (none-handed s.policy M is)
+returns-clause-not_balanced c = λ s M flat is.
+    ap (λ (o : List (List _)). record { policy = s.policy; printed = (printed_of s M).printed ++ page_bytes (end_tags o) }) (none-handed s.policy M flat is)
     ∙ ap (λ l. record { policy = s.policy; printed = l }) (append-nil (printed_of s M).printed)

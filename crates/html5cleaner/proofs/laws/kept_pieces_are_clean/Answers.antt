@@ -1,4 +1,4 @@
-use Rattle.html5cleaner.proofs.CleanPieces.{are_clean-step}
+use Rattle.html5cleaner.proofs.GoodItems.{are_clean-step}
 use Rattle.html5cleaner.proofs.laws.kept_pieces_are_clean.Goals as goal
 
 pub returns-clause-stay : goal.returns-clause-stay

@@ -25,4 +25,4 @@ returns-in-Ok-clause-clean g c =
     (rw c.in-Ok.is at c.clean_page-cleaner.ensures.finishes))
     in
     ap (list_all (is_clean c.args.policy.now)) kept
-    ∙ clean-handed c.args.policy.now (runs_page clean_step c.args.references.now (at_start c.args.policy.now) c.args.text.now)
+    ∙ clean-handed c.args.policy.now (runs_page clean_step c.args.references.now (at_start c.args.policy.now) c.args.text.now) (λ tree. c.soundness.ensures)

@@ -1,16 +1,16 @@
-use Rattle.std.proofs.Common.{◌∙◌}
+use Rattle.std.proofs.Common.{ap, ◌∙◌}
 use Rattle.html5ever_interface.specs.Token.{told_by}
-use Rattle.html5cleaner.specs.Balance.{is_end}
-use Rattle.html5cleaner.specs.Clean.{kept_where}
-use Rattle.html5cleaner.proofs.CleanBalanced.{are_clean-now}
-use Rattle.html5cleaner.proofs.CleanPieces.{clean-where_shown}
+use Rattle.html5cleaner.specs.Settled.{names_in}
+use Rattle.html5cleaner.specs.Shape.{shape_of}
+use Rattle.html5cleaner.proofs.GoodItems.{are_clean-now}
 use Rattle.html5cleaner.proofs.cleaner.CleanerTokenHandlerToken.take_token.Goals as goal
 
 pub invariant_of-self : goal.invariant_of-self
 invariant_of-self g c =
-    let told = told_by c.args.token in
     let policy = c.self.inside.policy.now in
-    let kept = kept_where policy c.self.inside.hidden.depth c.args.run.now told in
-    are_clean-now policy policy.balance (is_end told) c.self.inside.page c.self.inside.opened kept c.keep_where.new.page c.close.new.self
-    c.in-Ok.ensures.written (c.close.ensures ∙ c.in-Ok.ensures.done) c.self.invariant
-    (clean-where_shown policy c.self.inside.hidden.depth c.args.run.now told)
+    let shape = shape_of policy in (
+      are_clean-now policy c.self.inside.hidden.depth c.args.run.now (told_by c.args.token) c.self.inside.page c.keep_where.new.page
+          (names_in shape c.self.inside.opened) (names_in shape c.settle.new.self) c.soundness.ensures
+          c.in-Ok.ensures.written (ap (names_in shape) c.settle.ensures ∙ c.in-Ok.ensures.done) c.self.invariant.0,
+      ap (λ o. o.tree.limit) c.settle.ensures ∙ c.in-Ok.ensures.limit_done ∙ c.self.invariant.1,
+    )

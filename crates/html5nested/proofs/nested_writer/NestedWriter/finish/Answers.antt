@@ -8,5 +8,5 @@ use Rattle.html5nested.proofs.nested_writer.NestedWriter.finish.Goals as goal
 pub returns-clause-made : goal.returns-clause-made
 returns-clause-made g c = λ items made.
     made-all c.args.self c.close_all.new.page items
-    (subst (λ (p : NestedPage). Adds p.pieces c.close_all.new.page (end_tags p.opened)) c.self.view_is c.in_ok-close_all.ensures)
+    (subst (λ (p : NestedPage). Adds p.pieces c.close_all.new.page (end_tags p.opened)) c.self.view_is c.in_ok-close_all.ensures.added)
     made

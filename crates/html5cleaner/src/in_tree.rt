@@ -1,0 +1,178 @@
+//! What is written of what is kept, where it is made to fit.
+ghost use Rattle.std.specs.Prelude.{◌≡◌, ◌++◌, chars, false, map, OnOk};
+ghost use Rattle.html5ever_interface.specs.Token.{tag_of, told_by};
+ghost use Rattle.html5nested.specs.PageItems.{items_of, items_of_piece};
+ghost use Rattle.html5write.specs.Pieces.Piece.{EndTagPiece, StartTagPiece, TextPiece};
+ghost use Rattle.html5write.specs.Writing.{attribute_of, piece_of};
+ghost use Rattle.html5cleaner.specs.Balance.{is_end, open_by, written_by};
+ghost use Rattle.html5cleaner.specs.Clean.{kept_of_run, kept_of_tag, kept_where};
+ghost use Rattle.html5cleaner.specs.Kept.{AddsAll, AddsLast, Settles, piece_where};
+ghost use Rattle.html5cleaner.specs.Shape.Shape.{Tree};
+
+use crate::attributes::kept_attributes;
+use crate::kept::{is_end, kept_run, kept_tag};
+use crate::opened::{Opened, Pending};
+use html5ever_interface::interface::token::{Tag, Token};
+use html5nested::{Item, close_all, write_fitted};
+use html5policy::Policy;
+use html5tree::nesting::Nesting;
+use html5write::laws::bytes;
+use html5write::{Attribute, Piece, WriteError, Writer};
+use std::alloc::Allocator;
+
+fn write_text<A: Allocator + Copy>(
+    alloc: A,
+    page: &mut Writer<A>,
+    nesting: &mut Nesting<A>,
+    text: &str,
+) -> Result<(), WriteError>
+    ensures { OnOk result (AddsAll page.old page.new nesting.old nesting.new (items_of_piece (TextPiece (chars text.now)))) }
+{
+    write_fitted(alloc, page, nesting, &Item::Text(text))
+}
+
+fn write_start_tag<A: Allocator + Copy>(
+    alloc: A,
+    page: &mut Writer<A>,
+    nesting: &mut Nesting<A>,
+    name: &str,
+    attributes: &[Attribute<'_>],
+) -> Result<(), WriteError>
+    ensures { OnOk result (AddsAll page.old page.new nesting.old nesting.new
+        (items_of_piece (StartTagPiece (chars name.now) (map attribute_of attributes.now)))) }
+{
+    bytes(&Piece::StartTag { name, attributes });
+    write_fitted(alloc, page, nesting, &Item::StartTag { name, attributes })
+}
+
+fn write_end_tag<A: Allocator + Copy>(
+    alloc: A,
+    page: &mut Writer<A>,
+    nesting: &mut Nesting<A>,
+    name: &str,
+) -> Result<(), WriteError>
+    ensures { OnOk result (AddsAll page.old page.new nesting.old nesting.new (items_of_piece (EndTagPiece (chars name.now)))) }
+{
+    write_fitted(alloc, page, nesting, &Item::EndTag(name))
+}
+
+// Writes a piece so that it fits. A comment is none.
+fn write_piece<A: Allocator + Copy>(
+    alloc: A,
+    page: &mut Writer<A>,
+    nesting: &mut Nesting<A>,
+    piece: Piece<'_>,
+) -> Result<(), WriteError>
+    ensures { OnOk result (AddsAll page.old page.new nesting.old nesting.new (items_of_piece (piece_of piece.entry))) }
+{
+    match piece {
+        Piece::Text(text) => write_text(alloc, page, nesting, text),
+        Piece::StartTag { name, attributes } => {
+            write_start_tag(alloc, page, nesting, name, attributes)
+        }
+        Piece::EndTag(name) => write_end_tag(alloc, page, nesting, name),
+        Piece::Comment(_) => Ok(()),
+    }
+}
+
+// Writes a piece so that it fits, where there is one.
+fn write_where<A: Allocator + Copy>(
+    alloc: A,
+    page: &mut Writer<A>,
+    nesting: &mut Nesting<A>,
+    piece: Option<Piece<'_>>,
+) -> Result<(), WriteError>
+    ensures { OnOk result (AddsAll page.old page.new nesting.old nesting.new (items_of (piece_where piece.entry))) }
+{
+    match piece {
+        Some(piece) => write_piece(alloc, page, nesting, piece),
+        None => Ok(()),
+    }
+}
+
+// Writes a run of text and a tag so that they fit, and where the page ends after them closes what is open.
+fn write_step<A: Allocator + Copy>(
+    alloc: A,
+    page: &mut Writer<A>,
+    nesting: &mut Nesting<A>,
+    run: Option<Piece<'_>>,
+    tag: Option<Piece<'_>>,
+    ends: bool,
+) -> Result<(), WriteError>
+    ensures { OnOk result (AddsLast page.old page.new nesting.old nesting.new ends
+        (items_of (piece_where run.entry ++ piece_where tag.entry))) }
+{
+    let _ready = nesting.depth();
+    write_where(alloc, page, nesting, run)?;
+    write_where(alloc, page, nesting, tag)?;
+    if ends {
+        return close_all(page, nesting);
+    }
+    Ok(())
+}
+
+// The same on a page: all of it or nothing.
+fn write_in_tree<A: Allocator + Copy>(
+    alloc: A,
+    opened: &mut Opened<A>,
+    page: &mut Writer<A>,
+    run: Option<Piece<'_>>,
+    tag: Option<Piece<'_>>,
+    ends: bool,
+) -> Result<Pending, WriteError>
+    ensures { Settles (Tree opened.old.tree.limit) result page.old page.new opened.old opened.new
+        (written_by (Tree opened.old.tree.limit) ends opened.old.tree.opened (piece_where run.entry ++ piece_where tag.entry))
+        (open_by (Tree opened.old.tree.limit) ends opened.old.tree.opened (piece_where run.entry ++ piece_where tag.entry)) }
+{
+    opened.next.copy_from(&opened.tree)?;
+    let mut part = Writer::new(alloc);
+    write_step(alloc, &mut part, &mut opened.next, run, tag, ends)?;
+    page.append(&part)?;
+    Ok(Pending::Tree)
+}
+
+// Writes what is kept of a run of text and the tag after it so that it fits, all of it or nothing.
+fn keep_tag<A: Allocator + Copy>(
+    alloc: A,
+    policy: &Policy<A>,
+    opened: &mut Opened<A>,
+    page: &mut Writer<A>,
+    run: &str,
+    tag: &Tag<A>,
+) -> Result<Pending, WriteError>
+    ensures { Settles (Tree opened.old.tree.limit) result page.old page.new opened.old opened.new
+        (written_by (Tree opened.old.tree.limit) false opened.old.tree.opened (kept_of_run run.now ++ kept_of_tag policy.now (tag_of tag.now)))
+        (open_by (Tree opened.old.tree.limit) false opened.old.tree.opened (kept_of_run run.now ++ kept_of_tag policy.now (tag_of tag.now))) }
+{
+    let attributes = kept_attributes(alloc, policy, &tag.name.0, &tag.attrs)?;
+    let tag = kept_tag(policy, tag.kind, &tag.name.0, &attributes);
+    write_in_tree(alloc, opened, page, kept_run(run), tag, false)
+}
+
+/// Writes what is kept of a run of text and the token after it so that it fits, all of it or nothing, where so many
+/// elements hide what stands in them.
+pub fn keep_in_tree<A: Allocator + Copy>(
+    alloc: A,
+    policy: &Policy<A>,
+    depth: u64,
+    opened: &mut Opened<A>,
+    page: &mut Writer<A>,
+    run: &str,
+    token: &Token<A>,
+) -> Result<Pending, WriteError>
+    ensures { Settles (Tree opened.old.tree.limit) result page.old page.new opened.old opened.new
+        (written_by (Tree opened.old.tree.limit) (is_end (told_by token.now)) opened.old.tree.opened (kept_where policy.now depth run.now (told_by token.now)))
+        (open_by (Tree opened.old.tree.limit) (is_end (told_by token.now)) opened.old.tree.opened (kept_where policy.now depth run.now (told_by token.now))) }
+{
+    if is_end(token) {
+        let shown = if depth == 0 { run } else { "" };
+        return write_in_tree(alloc, opened, page, kept_run(shown), None, true);
+    }
+    if depth != 0 {
+        return write_in_tree(alloc, opened, page, None, None, false);
+    }
+    match token {
+        Token::TagToken(tag) => keep_tag(alloc, policy, opened, page, run, tag),
+        _ => write_in_tree(alloc, opened, page, kept_run(run), None, false),
+    }
+}

@@ -1,0 +1,60 @@
+//! What is open on a page.
+ghost use Rattle.std.specs.Prelude.{◌≡◌, []};
+ghost use Rattle.html5tree.specs.Nested.{nothing_nested};
+ghost use Rattle.html5cleaner.specs.Settled.{settled, undone};
+
+use crate::balance::Change;
+use crate::open_elements::OpenElements;
+use html5tree::nesting::Nesting;
+use std::alloc::Allocator;
+use std::mem;
+
+/// What is open on a page: by its tags, or in the tree that is built of it.
+#[derive(Drop)]
+pub struct Opened<A: Allocator> {
+    pub tags: OpenElements<A>,
+    pub tree: Nesting<A>,
+    /// What will be open in the tree, once what was written stands where it should.
+    pub next: Nesting<A>,
+}
+
+/// What is left to be done with what is open, once what was written stands where it should.
+#[derive(Clone, Copy, Debug, PartialEq, Eq)]
+pub enum Pending {
+    Tags(Change),
+    Tree,
+}
+
+impl<A: Allocator + Copy> Opened<A> {
+    /// Nothing is open. In a tree at most so many elements will be.
+    pub fn none(alloc: A, limit: usize) -> Opened<A>
+        ensures tags { result.tags ≡ [] }
+        ensures tree { result.tree ≡ nothing_nested limit }
+    {
+        Opened {
+            tags: OpenElements::none(alloc),
+            tree: Nesting::new(alloc, limit),
+            next: Nesting::new(alloc, limit),
+        }
+    }
+
+    /// What was written stands where it should.
+    pub fn settle(&mut self, pending: Pending)
+        ensures { self.new ≡ settled pending self.old }
+    {
+        match pending {
+            Pending::Tags(change) => self.tags.close(change.close),
+            Pending::Tree => mem::swap(&mut self.tree, &mut self.next),
+        }
+    }
+
+    /// What was written is nowhere.
+    pub fn undo(&mut self, pending: Pending)
+        ensures { self.new ≡ undone pending self.old }
+    {
+        match pending {
+            Pending::Tags(change) => self.tags.close(change.undo),
+            Pending::Tree => {}
+        }
+    }
+}
