@@ -58,6 +58,13 @@ class Cleaning(unittest.TestCase):
             self.assertEqual(cleaner.feed("<b>"), "<p>abc<b>")
             self.assertEqual(cleaner.clean("<p>1"), "<p>1")
 
+    def test_a_tree(self):
+        self.assertEqual(clean("<p>1<p>2", tree=True), "<p>1</p><p>2</p>")
+        self.assertEqual(clean("<table>x", tree=True), "<table><tbody><tr><td>x</td></tr></tbody></table>")
+        self.assertEqual(clean("<i><b>x</i>", tree=True, depth=1), "<i>x</i>")
+        with self.assertRaises(PolicyError):
+            Policy(tags={"p", "x-y"}, tree=True)
+
     def test_a_limit(self):
         with Cleaner(limit=5) as cleaner:
             with self.assertRaises(TokenizerError) as refused:

@@ -81,6 +81,8 @@ pub struct PolicyBuilder {
     clean_content_tags: BTreeSet<String>,
     noopener: bool,
     balance: bool,
+    tree: bool,
+    depth: Option<u32>,
 }
 
 fn strings<'w>(words: impl IntoIterator<Item = &'w str>) -> impl Iterator<Item = String> {
@@ -137,6 +139,18 @@ impl PolicyBuilder {
         self
     }
 
+    /// Whether the page is made to fit, so that a browser builds it as its tags are nested.
+    pub fn tree(&mut self, is_made: bool) -> &mut PolicyBuilder {
+        self.tree = is_made;
+        self
+    }
+
+    /// How many elements may be open in such a page, in place of 511.
+    pub fn depth(&mut self, depth: u32) -> &mut PolicyBuilder {
+        self.depth = Some(depth);
+        self
+    }
+
     // The rules in their text form.
     fn rules(&self) -> String {
         let mut rules = String::new();
@@ -161,11 +175,14 @@ impl PolicyBuilder {
         ] {
             rule(word, names.iter().map(String::as_str).collect());
         }
-        for (word, is_said) in [("noopener", self.noopener), ("balance", self.balance)] {
+        for (word, is_said) in [("noopener", self.noopener), ("balance", self.balance), ("tree", self.tree)] {
             if is_said {
                 rules.push_str(word);
                 rules.push('\n');
             }
+        }
+        if let Some(depth) = self.depth {
+            rules.push_str(&format!("depth {depth}\n"));
         }
         rules
     }

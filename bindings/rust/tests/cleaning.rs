@@ -49,6 +49,14 @@ fn rules_that_no_policy_takes() {
 }
 
 #[test]
+fn a_tree() -> Result<(), Error> {
+    let policy = PolicyBuilder::new().tags(["p", "i", "b"]).tree(true).depth(1).build()?;
+    assert_eq!(policy.clean("<p>1<p>2<i><b>x</i>"), "<p>1</p><p>2x</p>");
+    assert_eq!(PolicyBuilder::new().tags(["x-y"]).tree(true).build(), Err(Error::BadPolicy { line: 2 }));
+    Ok(())
+}
+
+#[test]
 fn refusals() -> Result<(), Error> {
     let mut cleaner = Cleaner::new(&Policy::default())?;
     cleaner.feed(b"<p>ab")?;

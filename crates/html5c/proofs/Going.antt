@@ -1,6 +1,7 @@
 -- When a call found what it was made on over, by what it answered.
 use Rattle.std.proofs.Common.{◌≡◌, ◌↔◌, Bool, true, false, Result, Ok, Err, refl, sym, ap, ◌∙◌}
 use Rattle.std.proofs.lemmas.Bool.{false≢true}
+use Rattle.html5c.specs.Slots.{is_past}
 
 is_false : (b : Bool) → ¬ (b ≡ true) → b ≡ false
 is_false true is_not = absurd (is_not refl)
@@ -27,3 +28,15 @@ refused_over result error over was is when = (λ same. when.0 (is ∙ ap Err sam
 
 pub refused_going : {E : Type 0} (error over : E) (was : Bool) → ((error ≡ over) ↔ (was ≡ true)) → ¬ (error ≡ over) → was ≡ false
 refused_going error over was when other = is_false was (λ so. other (when.1 so))
+
+-- ---- the limit
+
+pub not_past : (over fits : Bool) → is_past over fits ≡ false → over ≡ false → fits ≡ true
+not_past true fits within going = absurd cc
+not_past false true within going = refl
+not_past false false within going = absurd cc
+
+pub past : (over fits : Bool) → is_past over fits ≡ true → (over ≡ false) × (fits ≡ false)
+past true fits is = absurd cc
+past false true is = absurd cc
+past false false is = (refl, refl)

@@ -1,5 +1,5 @@
 -- What a handle is of: a session of the tokenizer, a page that is cleaned, or, where it is closed, neither.
-use Rattle.std.specs.Prelude.{◌||◌, ℕ, Option, None, Some, is_some, if◌then◌else◌}
+use Rattle.std.specs.Prelude.{◌||◌, ◌&&◌, ℕ, Bool, not, Option, None, Some, is_some, if◌then◌else◌}
 use Rattle.html5c.specs.declared.slot.PageSlot.{PageSlot}
 use Rattle.html5c.specs.declared.slot.PageSlot.TheVariants.{Tokenizer, Cleaner}
 use Rattle.html5cleaning.specs.Cleaning.{CleaningOf}
@@ -36,6 +36,10 @@ place_in None = 0
 place_in (Some place) = place
 
 -- ---- the limit, of either kind
+
+-- more is read, and what comes would go past the limit
+abbrev pub is_past : Bool → Bool → Bool
+is_past over fits = not over && not fits
 
 -- a session that may hold so many bytes
 abbrev pub limited : {X : Type 0} → ℕ → SessionOf X → SessionOf X

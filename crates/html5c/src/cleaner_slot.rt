@@ -1,13 +1,22 @@
 //! What the cleaner's calls make of what a handle is of.
 ghost use Rattle.std.specs.Prelude.{◌≡◌, IsNone};
 ghost use Rattle.html5c.specs.CleanerCalls.{CleanerEnds, CleanerFeeds, CleanerTakes, Restarts, cleaner_error_place, cleaner_over_in};
-ghost use Rattle.html5c.specs.Slots.{cleaner_in, session_in};
+ghost use Rattle.html5c.specs.Slots.{cleaner_in, is_past, session_in};
+ghost use Rattle.html5cleaning.specs.Cleaning.{fits_in};
+ghost use Rattle.html5session.specs.Session.{is_over};
 
 use crate::slot::{PageSlot, status_of_error};
 use crate::status;
 use html5cleaning::CleaningSession;
 use std::alloc::Global;
 use std::mem;
+
+// Whether more is read, and so many bytes more would go past the limit.
+fn goes_past_limit(session: &CleaningSession<Global>, more: usize) -> bool
+    ensures { result ≡ is_past (is_over session.now) (fits_in session.now more) }
+{
+    !session.is_over() && !session.has_room(more)
+}
 
 impl PageSlot {
     // The page that is cleaned, if it has one: then it is lent out.
@@ -44,7 +53,7 @@ impl PageSlot {
         let Some(session) = self.take_cleaner() else {
             return status::CLOSED;
         };
-        if !session.is_over() && !session.has_room(bytes.len()) {
+        if goes_past_limit(&session, bytes.len()) {
             *self = PageSlot::Cleaner(session);
             return status::LIMIT;
         }

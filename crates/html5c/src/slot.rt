@@ -1,7 +1,8 @@
 //! What a handle is of, over C's memory, and what the tokenizer's calls make of it.
 ghost use Rattle.std.specs.Prelude.{◌≡◌, IsNone, option_map, string_bytes};
 ghost use Rattle.html5c.specs.Calls.{Feeds, Inserts, RepliesTo, TellsForeign, Ends, Takes, fed_status, error_status, error_place, fits_in, over_in};
-ghost use Rattle.html5c.specs.Slots.{cleaner_in, limited, session_in, status_where_open};
+ghost use Rattle.html5c.specs.Slots.{cleaner_in, is_past, limited, session_in, status_where_open};
+ghost use Rattle.html5session.specs.Session.{is_over};
 ghost use Rattle.html5feed.specs.Feed.{reply_in};
 
 use crate::options::state_of;
@@ -50,6 +51,13 @@ pub(crate) fn status_of_error(error: SessionError) -> u32
     }
 }
 
+// Whether more is read, and so many bytes more would go past the limit.
+fn goes_past_limit(session: &RecordSession<Global>, more: usize) -> bool
+    ensures { result ≡ is_past (is_over session.now) (fits_in session.now more) }
+{
+    !session.is_over() && !fits_in(session, more)
+}
+
 // Whether so many bytes more are within the limit of a session.
 fn fits_in(session: &RecordSession<Global>, more: usize) -> bool
     ensures { result ≡ fits_in session.now more }
@@ -80,7 +88,7 @@ impl PageSlot {
         let Some(session) = self.take_session() else {
             return status::CLOSED;
         };
-        if !session.is_over() && !fits_in(&session, bytes.len()) {
+        if goes_past_limit(&session, bytes.len()) {
             *self = PageSlot::Tokenizer(session);
             return status::LIMIT;
         }

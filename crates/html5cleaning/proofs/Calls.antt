@@ -1,6 +1,6 @@
 -- What a call of the session below says of what was fed to the cleaner.
-use Rattle.std.proofs.Common.{◌≡◌, ℕ, Bool, true, false, List, [], ◌++◌, drop, Option, None, Some, refl, sym, ap, ◌∙◌, subst, inl, inr, take-append-drop}
-use Rattle.std.specs.Prelude.{codes, if◌then◌else◌}
+use Rattle.std.proofs.Common.{◌≡◌, ℕ, Bool, true, false, List, [], ◌++◌, drop, Option, None, Some, Result, Ok, Err, String, string_bytes, refl, sym, ap, ◌∙◌, subst, inl, inr, take-append-drop}
+use Rattle.std.specs.Prelude.{◌-◌, ◌^◌, IfErr, IfOk, IsOk, OnOk, codes, if◌then◌else◌}
 use Rattle.std.proofs.lemmas.Bool.{false≢true}
 use Rattle.std.proofs.lemmas.List.{append-nil}
 use Rattle.std.specs.Str.{IsUtf8, bytes_eq, chars}
@@ -11,7 +11,10 @@ use Rattle.html5ever_interface.specs.Token.Reply.{KeepOn, ReadPlainText}
 use Rattle.html5ever_interface.specs.declared.interface.token.TagKind.{TagKind}
 use Rattle.html5ever_interface.specs.declared.interface.token.TagKind.TheVariants.{StartTag, EndTag}
 use Rattle.html5ever_interface.specs.declared.states.RawKind.{RawKind}
-use Rattle.html5feed.specs.Feed.{pauses}
+use Rattle.html5feed.specs.Feed.{pauses, reply_in}
+use Rattle.html5policy.specs.Policy.{PolicyOf}
+use Rattle.markup5ever.specs.NamedReferences.{NamedReference}
+use Rattle.markup5ever.specs.declared.tokenizer_result.TokenizerResult.{TokenizerResult}
 use Rattle.html5sinks.specs.Replies.{raw_text_in, reply_by_kind, reply_to_raw_text, standard_reply_to_start}
 use Rattle.html5sinks.specs.Runs.{Running}
 use Rattle.html5session.specs.Intake.{IntakeOf, Takes}
@@ -22,7 +25,7 @@ use Rattle.html5session.specs.declared.error.SessionError.{SessionError}
 use Rattle.html5session.specs.declared.error.SessionError.TheVariants.{Memory, NotUtf8, Cut, Waiting, ItemOpen, Over}
 use Rattle.html5session.proofs.Calls.{goes_on, stands_here}
 use Rattle.html5cleaner.specs.Buffering.{Buffered}
-use Rattle.html5cleaning.specs.Cleaning.{CleaningOf, EndRefused, EndsPage, Fed, FedFront, FeedRefused, FeedsPiece, ReadsAtOnce, buffer_means}
+use Rattle.html5cleaning.specs.Cleaning.{CleaningOf, EndRefused, EndsPage, Fed, FedFront, FeedRefused, FeedsPiece, ReadsAtOnce, StartsPage, buffer_means}
 use Rattle.html5cleaning.proofs.Fed.{fed_parts, fed_text, page_ends}
 use Rattle.html5cleaning.proofs.Unpaused.{takes_all}
 use Rattle.html5cleaning.proofs.Waiting.{on_end, on_end_refused, on_feed, on_refused}
@@ -190,3 +193,82 @@ end_refused old new Cut going at_once refused = refused
 end_refused old new Waiting going at_once refused = absurd (refused.1 at_once.read)
 end_refused old new ItemOpen going at_once refused = absurd refused
 end_refused old new Over going at_once refused = refused
+
+-- ---- whole calls, of a session `s` that is seen as `t`
+
+pub feed_ok : {Z : Type 0} (answer : TokenizerResult (Unit {0}) (String Z)) (s t new : CleaningOf) (bytes : List ℕ) → s ≡ t → is_over s ≡ false
+    → ReadsAtOnce s.intake → session.FeedsPiece buffer_means s new bytes (reply_in string_bytes answer) → FeedsPiece t new bytes
+feed_ok answer s t new bytes same going at_once feeds =
+    subst (λ (w : CleaningOf). FeedsPiece w new bytes) same
+    (feeds_piece s new bytes going at_once
+    (subst (λ (r : Reply (Unit {0})). session.FeedsPiece buffer_means s new bytes r) (keeps_on s new bytes (reply_in string_bytes answer) going feeds) feeds))
+
+-- what an answer says as `done` has it
+on_any : {E : Type 0} (out : Result (Unit {0}) E) (P : Type 0) → P → OnOk out P
+on_any (Ok done) P holds = holds
+on_any (Err error) P holds = tt
+
+not_refused : {E : Type 0} (out : Result (Unit {0}) E) (Q : E → Type 0) → IsOk out → IfErr out Q
+not_refused (Ok done) Q is = tt
+not_refused (Err error) Q is = absurd is
+
+pub done_ok : {T E : Type 0} (result : Result T E) (out : Result (Unit {0}) E) (P : Type 0) → IfErr result (λ error. out ≡ Err error)
+    → IfOk result (λ answer. P) → OnOk out P
+done_ok (Ok answer) out P refused holds = on_any out P holds
+done_ok (Err error) out P refused holds = subst (λ o. OnOk o P) (sym refused) tt
+
+pub done_err : {T E : Type 0} (result : Result T E) (out : Result (Unit {0}) E) (Q : E → Type 0) → OnOk result (IsOk out)
+    → IfErr result (λ error. out ≡ Err error) → IfErr result Q → IfErr out Q
+done_err (Ok answer) out Q ok refused holds = not_refused out Q ok
+done_err (Err error) out Q ok refused holds = subst (λ o. IfErr o Q) (sym refused) holds
+
+no_error : {E : Type 0} (out : Result (Unit {0}) E) (e : E) → IsOk out → out ≡ Err e → ⊥
+no_error out e ok is = subst IsOk is ok
+
+pub done_over : {T E : Type 0} (result : Result T E) (out : Result (Unit {0}) E) (e : E) → OnOk result (IsOk out)
+    → IfErr result (λ error. out ≡ Err error) → out ≡ Err e → result ≡ Err e
+done_over (Ok answer) out e ok refused is = absurd (no_error out e ok is)
+done_over (Err error) out e ok refused is =
+    let same = sym refused ∙ is in
+    cc same
+
+-- after a feed
+pub at_once-feed : {Z : Type 0} (result : Result (TokenizerResult (Unit {0}) (String Z)) SessionError) (s new : CleaningOf) (bytes : List ℕ)
+    → is_over s ≡ false → ReadsAtOnce s.intake
+    → IfOk result (λ answer. session.FeedsPiece buffer_means s new bytes (reply_in string_bytes answer))
+    → IfErr result (λ error. session.FeedRefused buffer_means s new bytes error) → is_over new ≡ false → ReadsAtOnce new.intake
+at_once-feed (Ok answer) s new bytes going at_once feeds refused still =
+    at_once-fed s new bytes
+    (subst (λ (r : Reply (Unit {0})). session.FeedsPiece buffer_means s new bytes r) (keeps_on s new bytes (reply_in string_bytes answer) going feeds) feeds)
+at_once-feed (Err error) s new bytes going at_once feeds refused still = at_once-refused s new bytes error (λ _. at_once) refused still
+
+-- after an end
+pub at_once-end : (result : Result (Unit {0}) SessionError) (s new : CleaningOf) → ReadsAtOnce s.intake
+    → OnOk result (session.EndsSession buffer_means s new) → IfErr result (λ error. session.EndRefused buffer_means s new error)
+    → is_over new ≡ false → ReadsAtOnce new.intake
+at_once-end (Ok done) s new at_once ends refused still = absurd (false≢true (sym still ∙ ends.over))
+at_once-end (Err Memory) s new at_once ends refused still =
+    absurd (false≢true (sym (goes_on new.intake.lost new.detached.failed new.detached.ended still).0 ∙ ap (λ (w : CleaningOf). w.intake.lost) refused.kept))
+at_once-end (Err (NotUtf8 place)) s new at_once ends refused still = absurd (false≢true (sym at_once.no_fault ∙ refused.fault))
+at_once-end (Err Cut) s new at_once ends refused still = subst (λ (w : CleaningOf). ReadsAtOnce w.intake) (sym refused.0) at_once
+at_once-end (Err Waiting) s new at_once ends refused still = subst (λ (w : CleaningOf). ReadsAtOnce w.intake) (sym refused.0) at_once
+at_once-end (Err ItemOpen) s new at_once ends refused still = absurd refused
+at_once-end (Err Over) s new at_once ends refused still = subst (λ (w : CleaningOf). ReadsAtOnce w.intake) (sym refused.unchanged) at_once
+
+-- ---- another page
+
+pub starts_again : (p policy : PolicyOf) (r references : List NamedReference) (l limit : ℕ) (s t : CleaningOf) → p ≡ policy → r ≡ references → l ≡ limit
+    → StartsPage p r (2 ^ 64 - 1) s → t ≡ record s { intake = record s.intake { limit = l } } → StartsPage policy references limit t
+starts_again p policy r references l limit s t by table at_most starts is =
+    let u : CleaningOf = record s { intake = record s.intake { limit = l } } in
+    let fed = starts.fed in
+    let same : StartsPage p r l u = record {
+      fed = record { text = fed.text; parts = fed.parts; utf8 = fed.utf8; stands = fed.stands; rules = fed.rules };
+      buffer = starts.buffer;
+      table = starts.table;
+      intake = ap (λ (i : IntakeOf). record i { limit = l }) starts.intake;
+      going_on = starts.going_on;
+    } in
+    subst (λ (w : CleaningOf). StartsPage policy references limit w) (sym is)
+    (subst (λ (n : ℕ). StartsPage policy references n u) at_most
+    (subst (λ (n : List NamedReference). StartsPage policy n l u) table (subst (λ (n : PolicyOf). StartsPage n r l u) by same)))

@@ -1,5 +1,5 @@
 //! A session whose tokens are cleaned.
-ghost use Rattle.std.specs.Prelude.{◌≡◌, ◌↔◌, ◌++◌, ◌-◌, ◌^◌, false, true, length, take, drop, min, Err, OnOk, IfErr};
+ghost use Rattle.std.specs.Prelude.{◌≡◌, ◌↔◌, ◌++◌, ◌-◌, ◌^◌, false, true, length, take, drop, min, Err, IsOk, OnOk, IfErr};
 ghost use Rattle.html5session.specs.Session.{is_over};
 ghost use Rattle.html5cleaning.specs.Cleaning.{after_session_takes, buffer_of, fits_in, waiting_in};
 ghost use Rattle.html5cleaning.specs.Cleaning.{EndRefused, EndsPage, FeedRefused, FeedsPiece, StartsPage, StaysFed};
@@ -30,6 +30,19 @@ impl<A: Allocator> Model for CleaningSession<A> {
     ghost view = { λ c. c.session };
 
     ghost invariant = { λ c. is_over c.session ≡ false → ReadsAtOnce c.session.intake };
+}
+
+// What an answer says of a feed, none of which pauses.
+fn done<A: Allocator>(
+    answer: &Result<TokenizerResult<(), String<A>>, SessionError>,
+) -> Result<(), SessionError>
+    ensures ok { OnOk answer.now (IsOk result) }
+    ensures err { IfErr answer.now (λ error. result ≡ Err error) }
+{
+    match answer {
+        Ok(_) => Ok(()),
+        Err(error) => Err(*error),
+    }
 }
 
 impl<A: Allocator> CleaningSession<A> {
@@ -63,6 +76,15 @@ impl<A: Allocator> CleaningSession<A> {
         self.session.set_limit(limit);
     }
 
+    // Takes the next bytes of what was kept.
+    fn take_bytes(&mut self, into: &mut [u8]) -> usize
+        ensures count { result ≡ min (length into.old) (length (waiting_in self.old)) }
+        ensures copied { into.new ≡ take result (waiting_in self.old) ++ drop result into.old }
+        ensures taken { self.new ≡ after_session_takes self.old result }
+    {
+        self.session.detached.sink.handler_mut().take(into)
+    }
+
     /// Takes the next bytes of what was kept, as many as wait and as there is room for. It answers how many. A character
     /// may be cut in two: what is left of it comes first at the next call.
     pub fn take(&mut self, into: &mut [u8]) -> usize
@@ -71,7 +93,7 @@ impl<A: Allocator> CleaningSession<A> {
         ensures taken { self.new ≡ after_session_takes self.old result }
         ensures fed { StaysFed self.old self.new }
     {
-        self.session.detached.sink.handler_mut().take(into)
+        self.take_bytes(into)
     }
 }
 
@@ -108,13 +130,12 @@ impl<A: Allocator + Copy> CleaningSession<A> {
         ensures refused { IfErr result.1 (λ error. FeedRefused self result.0 bytes.now error) }
         ensures over { (result.1 ≡ Err SessionError.Over) ↔ (is_over self ≡ true) }
     {
+        if self.session.is_over() {
+            return (self, Err(SessionError::Over));
+        }
         let CleaningSession { alloc, session } = self;
         let (session, answer) = session.feed(bytes);
-        match answer {
-            Ok(TokenizerResult::Done) => (CleaningSession { alloc, session }, Ok(())),
-            Ok(_) => unreachable!(),
-            Err(error) => (CleaningSession { alloc, session }, Err(error)),
-        }
+        (CleaningSession { alloc, session }, done(&answer))
     }
 
     /// Ends the page. The rest of what is kept of it can then be taken.
@@ -125,6 +146,9 @@ impl<A: Allocator + Copy> CleaningSession<A> {
         ensures refused { IfErr result.1 (λ error. EndRefused self result.0 error) }
         ensures over { (result.1 ≡ Err SessionError.Over) ↔ (is_over self ≡ true) }
     {
+        if self.session.is_over() {
+            return (self, Err(SessionError::Over));
+        }
         let CleaningSession { alloc, session } = self;
         let (session, ended) = session.end();
         (CleaningSession { alloc, session }, ended)

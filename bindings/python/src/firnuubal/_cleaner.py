@@ -24,7 +24,7 @@ ALLOWED_ATTRIBUTES = {
 ALLOWED_URL_SCHEMES = frozenset({"http", "https", "mailto"})
 
 
-def _rules(tags, attributes, url_schemes, clean_content_tags, link_rel, balance):
+def _rules(tags, attributes, url_schemes, clean_content_tags, link_rel, balance, tree, depth):
     """The rules of these keywords, a line each."""
     for tag in sorted(tags):
         yield " ".join(["allow", tag, *sorted(attributes.get(tag, ()))])
@@ -40,6 +40,10 @@ def _rules(tags, attributes, url_schemes, clean_content_tags, link_rel, balance)
         yield "noopener"
     if balance:
         yield "balance"
+    if tree:
+        yield "tree"
+    if depth is not None:
+        yield f"depth {depth}"
 
 
 class Policy:
@@ -48,8 +52,9 @@ class Policy:
     `Policy(text)` has the rules of a text (crates/html5policy/README.md). With keywords it has the elements `tags`,
     their `attributes` (a mapping from elements to names, "*" for each element) and `url_schemes`, those of the standard
     policy where one isn't given; it drops the `clean_content_tags` with what stands in them. `link_rel="noopener"` adds
-    that to links, and with `balance=True` each end tag closes what was opened inside its element. A rule that no policy
-    takes is a PolicyError.
+    that to links, and with `balance=True` each end tag closes what was opened inside its element. With `tree=True` the
+    page is made to fit, so that a browser builds it as its tags are nested, with at most `depth` elements open, 511 where
+    none is given. A rule that no policy takes is a PolicyError.
     """
 
     def __init__(
@@ -62,14 +67,16 @@ class Policy:
         clean_content_tags: Iterable[str] = (),
         link_rel: Optional[str] = None,
         balance: bool = False,
+        tree: bool = False,
+        depth: Optional[int] = None,
     ):
         if text is None:
             tags = ALLOWED_TAGS if tags is None else tags
             attributes = ALLOWED_ATTRIBUTES if attributes is None else attributes
             url_schemes = ALLOWED_URL_SCHEMES if url_schemes is None else url_schemes
-            rules = _rules(tags, attributes, url_schemes, clean_content_tags, link_rel, balance)
+            rules = _rules(tags, attributes, url_schemes, clean_content_tags, link_rel, balance, tree, depth)
             text = "".join(f"{rule}\n" for rule in rules) or "# nothing\n"
-        elif tags or attributes or url_schemes or clean_content_tags or link_rel or balance:
+        elif tags or attributes or url_schemes or clean_content_tags or link_rel or balance or tree or depth:
             raise TypeError("a policy has a text or keywords, not both")
         self.text = text
         Cleaner(self).close()
@@ -175,7 +182,8 @@ def clean(page, policy: Optional[Policy] = None, **keywords) -> str:
     """What is kept of a page: a text, bytes, a file of either, or an iterable of pieces of either.
 
     Without a policy it is the standard one; keywords are those of `Policy`. A tokenizer that goes on after the kept tags,
-    as the standard's does, reads what is kept as exactly these tags and the text. No promise is made of the tree.
+    as the standard's does, reads what is kept as exactly these tags and the text. By a policy with `tree=True` what a
+    browser builds of it, by the standard's rules, is the nesting of these tags; by another no promise is made of the tree.
 
     >>> clean("<p onclick=x>1")
     '<p>1'

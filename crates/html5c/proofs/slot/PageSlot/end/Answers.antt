@@ -1,9 +1,12 @@
+-- The status is split from what the session's call says, which the tactic doesn't find through the option of a session.
 use Rattle.std.proofs.Common.{ℕ, Option, Some, Result, sym, ◌∙◌, subst}
 use Rattle.std.specs.Prelude.{IfErr, OnOk}
 use Rattle.html5c.specs.Calls.{Ends, EndSays}
 use Rattle.html5c.proofs.Going.{answered_going, refused_over}
 use Rattle.html5c.proofs.Statuses.{end_says-done, end_says-error}
-use Rattle.html5session.specs.Session.{SessionOf, is_over, EndsSession, EndRefused}
+use Rattle.html5records.specs.Recording.{recorded_means}
+use Rattle.html5session.specs.RecordSessions.{RecordSessionOf}
+use Rattle.html5session.specs.Session.{is_over, EndsSession, EndRefused}
 use Rattle.html5session.specs.declared.error.SessionError.{SessionError}
 use Rattle.html5session.specs.declared.error.SessionError.TheVariants.{Over}
 use Rattle.html5c.proofs.slot.PageSlot.end.Goals as goal
@@ -11,14 +14,14 @@ use Rattle.html5c.proofs.slot.PageSlot.end.Goals as goal
 pub returns-in-Ok-clause-ends : goal.returns-in-Ok-clause-ends
 returns-in-Ok-clause-ends c =
     let s = c.in-Some.session in let t = c.end-session.result.0 in
-    let ends = subst (λ (r : Result (Unit {0}) SessionError). OnOk r (EndsSession s t)) c.in-Ok.is c.end-session.ensures.ends in
-    subst (λ (o : Option SessionOf). Ends o (Some t) 0) (sym (sym c.take_session.ensures.session ∙ c.in-Some.is))
-    (end_says-done s t ends (answered_going c.end-session.result.1 _ Over (is_over s) c.in-Ok.is c.end-session.ensures.over))
+    let ends = subst (λ (r : Result (Unit {0}) SessionError). OnOk r (EndsSession recorded_means s t)) c.in-Ok.is c.end-session.ensures.ends in
+    subst (λ (o : Option RecordSessionOf). Ends o (Some t) 0) (sym (sym c.take_session.ensures.session ∙ c.in-Some.is))
+    (end_says-done s t (answered_going c.end-session.result.1 _ Over (is_over s) c.in-Ok.is c.end-session.ensures.over) ends)
 
 pub returns-in-Err-clause-ends : goal.returns-in-Err-clause-ends
 returns-in-Err-clause-ends c =
     let s = c.in-Some.session in let t = c.end-session.result.0 in
-    let refused = subst (λ (r : Result (Unit {0}) SessionError). IfErr r (λ error. EndRefused s t error)) c.in-Err.is c.end-session.ensures.refused in
-    subst (λ (o : Option SessionOf). Ends o (Some t) c.status_of_error.result) (sym (sym c.take_session.ensures.session ∙ c.in-Some.is))
+    let refused = subst (λ (r : Result (Unit {0}) SessionError). IfErr r (λ error. EndRefused recorded_means s t error)) c.in-Err.is c.end-session.ensures.refused in
+    subst (λ (o : Option RecordSessionOf). Ends o (Some t) c.status_of_error.result) (sym (sym c.take_session.ensures.session ∙ c.in-Some.is))
     (subst (λ (n : ℕ). EndSays s t n) (sym c.status_of_error.ensures) (end_says-error s t c.in-Err.error refused
     (refused_over c.end-session.result.1 c.in-Err.error Over (is_over s) c.in-Err.is c.end-session.ensures.over)))
