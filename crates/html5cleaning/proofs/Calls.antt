@@ -210,7 +210,7 @@ on_any (Err error) P holds = tt
 
 not_refused : {E : Type 0} (out : Result (Unit {0}) E) (Q : E → Type 0) → IsOk out → IfErr out Q
 not_refused (Ok done) Q is = tt
-not_refused (Err error) Q is = absurd is
+not_refused (Err error) Q is = absurd (false≢true is)
 
 pub done_ok : {T E : Type 0} (result : Result T E) (out : Result (Unit {0}) E) (P : Type 0) → IfErr result (λ error. out ≡ Err error)
     → IfOk result (λ answer. P) → OnOk out P
@@ -223,7 +223,7 @@ done_err (Ok answer) out Q ok refused holds = not_refused out Q ok
 done_err (Err error) out Q ok refused holds = subst (λ o. IfErr o Q) (sym refused) holds
 
 no_error : {E : Type 0} (out : Result (Unit {0}) E) (e : E) → IsOk out → out ≡ Err e → ⊥
-no_error out e ok is = subst IsOk is ok
+no_error out e ok is = false≢true (subst IsOk is ok)
 
 pub done_over : {T E : Type 0} (result : Result T E) (out : Result (Unit {0}) E) (e : E) → OnOk result (IsOk out)
     → IfErr result (λ error. out ≡ Err error) → out ≡ Err e → result ≡ Err e
