@@ -1,4 +1,4 @@
-"""What html5clean makes of a text: crates/html5policy/README.md and crates/html5cleaner/README.md."""
+"""What firnuubal clean makes of a text: crates/html5policy/README.md and crates/html5cleaner/README.md."""
 
 from __future__ import annotations
 
