@@ -1,5 +1,5 @@
 #!/usr/bin/env python3
-"""Times html5links, html5text and html5clean beside programs of the same work over html5ever, and prints a table.
+"""Times the commands links, text and clean of firnuubal beside programs of the same work over html5ever, and prints a table.
 
     python3 bench/programs.py [--quick] [--real]
 
@@ -19,14 +19,14 @@ import build
 import corpora
 import measure
 
-CRATES = pathlib.Path(__file__).resolve().parent.parent / "crates"
+PROGRAM = pathlib.Path(__file__).resolve().parent.parent / "crates/firnuubal/out/firnuubal"
 # What does the same work over html5ever: a program of beside/ and its words.
-PROGRAMS = {"html5links": ["pages", "links"], "html5text": ["pages", "text"], "html5clean": ["clean"]}
+COMMANDS = {"links": ["pages", "links"], "text": ["pages", "text"], "clean": ["clean"]}
 
 
-def peak_memory(program, corpus):
-    """The most memory that a program had after the whole input, in bytes."""
-    process = subprocess.Popen([program], stdin=subprocess.PIPE, stdout=subprocess.DEVNULL)
+def peak_memory(command, corpus):
+    """The most memory that a command had after the whole input, in bytes."""
+    process = subprocess.Popen([PROGRAM, command], stdin=subprocess.PIPE, stdout=subprocess.DEVNULL)
     with process.stdin, open(corpus, "rb") as source:
         while piece := source.read(1 << 16):
             process.stdin.write(piece)
@@ -48,20 +48,19 @@ def difference(name, turns):
     for number, (program, words, corpus) in enumerate(turns):
         files.append(corpus.with_suffix(f".{number}"))
         measure.print_to(program, words, corpus, files[-1])
-    kept = without_number if name == "html5links" else bytes
+    kept = without_number if name == "links" else bytes
     return f"{measure.lines_apart(*files, kept):,}"
 
 
-def print_program(name, corpus, beside, runs):
-    """Prints the row of a program and a corpus; `beside` is where the programs over html5ever are."""
-    program = CRATES / name / "out" / name
-    turns = [(program, [], corpus)]
+def print_command(name, corpus, beside, runs):
+    """Prints the row of a command and a corpus; `beside` is where the programs over html5ever are."""
+    turns = [(PROGRAM, [name], corpus)]
     if beside:
-        other, *words = PROGRAMS[name]
+        other, *words = COMMANDS[name]
         turns.append((beside / other, words, corpus))
     size = corpus.stat().st_size / corpora.MB
     ours, *theirs = measure.best_times(turns, runs)
-    peak = peak_memory(program, corpus) / corpora.MB
+    peak = peak_memory(name, corpus) / corpora.MB
     cells = [f"`{name}`", f"{size:.0f}", f"{ours:.2f}", f"{size / ours:.0f}", f"{peak:.1f}"]
     for seconds in theirs:
         cells += [f"{seconds:.2f}", f"{seconds / ours:.2f}", difference(name, turns)]
@@ -97,15 +96,15 @@ def main():
     with tempfile.TemporaryDirectory() as name:
         folder = pathlib.Path(name)
         beside = built_beside(folder / "beside")
-        header = ["Program", "MB", "Seconds", "MB/s", "Peak, MB"]
+        header = ["Command", "MB", "Seconds", "MB/s", "Peak, MB"]
         if beside:
             header += ["html5ever, s", "Ratio", "Lines that differ"]
         print(f"| {' | '.join(header)} |\n|{'---|' * len(header)}")
         corpus = folder / "pages"
         for text in texts(chosen):
             corpus.write_bytes(text)
-            for program in PROGRAMS:
-                print_program(program, corpus, beside, 2 if chosen.quick else 3)
+            for command in COMMANDS:
+                print_command(command, corpus, beside, 2 if chosen.quick else 3)
 
 
 if __name__ == "__main__":

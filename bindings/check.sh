@@ -1,7 +1,7 @@
 #!/bin/bash
 # Builds the library (build.sh), and checks it and the one that is shipped in dist/: the calls from C, also under valgrind,
 # and what stands on them in C, Rust and Python. Their readers print pages in pieces of 1, 7 and 4,096 bytes as html5tok
-# does, and clean them as html5clean. The wheel is installed as a user would, and so is the library for C. What is made
+# does, and clean them as firnuubal. The wheel is installed as a user would, and so is the library for C. What is made
 # stands in bindings/out. It wants the toolchain and, for each language, gcc with valgrind and pkg-config, cargo, and
 # python3; what isn't there is left out, and it says so, also at the end.
 set -eu
@@ -66,14 +66,14 @@ leaks_nothing() {
         $under "$out/clean-c" 7 <"$out/page.html" >/dev/null && $under "$out/cleaning-c"
 }
 
-# The pages, what html5tok prints of each, and what html5clean does.
+# The pages, what html5tok prints of each, and what firnuubal cleans of it.
 pages() {
     local page
     cp page.html "$out/page.html"
     printf 'a\0b\1\177<a href="x\ny">\r\n<p\0><!--\0' >"$out/odd.html"
     for page in "$out/page.html" "$out/odd.html"; do
         ../crates/html5tok/out/html5tok --table "$(python3 ../tools/entities.py)" <"$page" >"$page.tokens"
-        ../crates/html5clean/out/html5clean <"$page" >"$page.cleaned"
+        ../crates/firnuubal/out/firnuubal clean <"$page" >"$page.cleaned"
     done
 }
 
@@ -138,10 +138,10 @@ check_library() {
 
 mkdir -p "$out"
 ./build.sh
-for program in html5tok html5clean; do
+for program in html5tok firnuubal; do
     [ -x "../crates/$program/out/$program" ] || (cd "../crates/$program" && rt run </dev/null >/dev/null 2>"$out/rt.log")
 done
-check "html5tok and html5clean" pages
+check "html5tok and firnuubal" pages
 check_library "$out"
 if [ -d ../dist ]; then
     check "what is shipped" python3 ../tools/dist.py --check

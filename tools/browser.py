@@ -1,12 +1,12 @@
 #!/usr/bin/env python3
-"""Has a real browser read what html5clean prints, and says what it finds that the policy doesn't allow.
+"""Has a real browser read what firnuubal clean prints, and says what it finds that the policy doesn't allow.
 
     python3 tools/browser.py [FOLDER..]
 
-Cleaned by the program's own policy are the texts of tools/hostile.jsonl, and 300 HTML files of each folder. Chromium
+Cleaned by the standard policy are the texts of tools/hostile.jsonl, and 300 HTML files of each folder. Chromium
 (Debian's, headless) puts each cleaned page into an element of a page, waits for what that loads, and looks at each
 element: its name, its attributes, and the scheme that an address has. It also counts scripts that ran. What the
-policy keeps is said by tools/model/cleaning.py. The program is the one that `rt ci` left in crates/html5clean/out.
+policy keeps is said by tools/model/cleaning.py. The program is the one that `rt ci` left in crates/firnuubal/out.
 
 Status 0: nothing was found that is not allowed. 1: something was. 2: there is no browser here, or no program.
 """
@@ -23,7 +23,7 @@ import tempfile
 from model.cleaning import ADDRESSES, STANDARD, policy_of
 
 TOP = pathlib.Path(__file__).resolve().parent.parent
-PROGRAM = TOP / "crates/html5clean/out/html5clean"
+PROGRAM = TOP / "crates/firnuubal/out/firnuubal"
 PAGES = 300
 SECONDS = 600
 DRIVER = """<!doctype html><meta charset="utf-8"><body><pre id="found"></pre><script>
@@ -62,7 +62,7 @@ setTimeout(say, 500)
 def cleaned(page):
     """What the program prints of a page, which may hold bytes that are no UTF-8."""
     text = page.decode(errors="replace").encode()
-    return subprocess.run([PROGRAM], input=text, capture_output=True, check=True).stdout.decode()
+    return subprocess.run([PROGRAM, "clean"], input=text, capture_output=True, check=True).stdout.decode()
 
 
 def given_pages(folders):

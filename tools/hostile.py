@@ -1,10 +1,10 @@
 #!/usr/bin/env python3
-"""What html5clean makes, by its own policy, of texts that attack sanitizers.
+"""What firnuubal clean makes, by the standard policy, of texts that attack sanitizers.
 
     python3 tools/hostile.py
 
 tools/hostile.jsonl has a row a line: the text, and what has to be printed of it, written by hand. The program is the one
-that `rt ci` proved and left in crates/html5clean/out. Each row that differs is said, and then the status is 1.
+that `rt ci` proved and left in crates/firnuubal/out. Each row that differs is said, and then the status is 1.
 """
 
 import json
@@ -13,12 +13,12 @@ import subprocess
 import sys
 
 TOP = pathlib.Path(__file__).resolve().parent.parent
-PROGRAM = TOP / "crates/html5clean/out/html5clean"
+PROGRAM = TOP / "crates/firnuubal/out/firnuubal"
 
 
 def cleaned(text):
     """What the program prints of a text."""
-    return subprocess.run([PROGRAM], input=text.encode(), capture_output=True, check=True).stdout.decode()
+    return subprocess.run([PROGRAM, "clean"], input=text.encode(), capture_output=True, check=True).stdout.decode()
 
 
 def main():

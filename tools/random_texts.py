@@ -1,4 +1,4 @@
-"""Compares html5tok with a model of the grammar or another tokenizer, and html5clean with a model, on random texts.
+"""Compares html5tok with a model of the grammar or another tokenizer, and firnuubal clean with a model, on random texts.
 
     python3 tools/random_texts.py [--cases N] [--seed S] [--program PATH]
     python3 tools/random_texts.py --clean [--cases N] [--seed S]
@@ -11,7 +11,7 @@ has to print the lines of the model (`tools/model`), which is checked first: it 
 cases that have an end (crates/test_cases/stdin). The first case that differs is made as small as it goes, and shown
 with a command line, the program's lines and the model's.
 
---clean compares html5clean with a model of cleaning (`tools/model/cleaning.py`), by its own policy and by those of
+--clean compares firnuubal clean with a model of cleaning (`tools/model/cleaning.py`), by its own policy and by those of
 tools/cases/policies. --peer html5lib compares with Debian's html5lib instead. `tools/cases/peer.py` says of what both speak.
 --self-test plants wrong changes in copies of the model, with --clean in that of cleaning, and says at which case the
 comparison finds each.
@@ -47,7 +47,7 @@ BATCH = 50  # cases that a process runs at once
 class Comparison:
     """What is compared: a program, by the cases of a seed, with a model or with a peer."""
 
-    program: str
+    program: list[str]
     seed: str
     peer: str | None
     clean: bool
@@ -177,8 +177,8 @@ def arguments() -> argparse.Namespace:
     parser = argparse.ArgumentParser(description=__doc__, formatter_class=argparse.RawDescriptionHelpFormatter)
     parser.add_argument("--cases", type=int, default=5000, help="how many cases; without it 5000")
     parser.add_argument("--seed", default="1", help="a word that chooses the cases, or `today`; without it 1")
-    parser.add_argument("--program", help="without it the html5tok or html5clean that `rt ci` left in crates/")
-    parser.add_argument("--clean", action="store_true", help="compare html5clean with a model of cleaning")
+    parser.add_argument("--program", help="without it the html5tok or firnuubal that `rt ci` left in crates/")
+    parser.add_argument("--clean", action="store_true", help="compare firnuubal clean with a model of cleaning")
     parser.add_argument("--peer", choices=["html5lib"], help="compare with this tokenizer, and not with the model")
     parser.add_argument("--self-test", action="store_true", help="plant wrong changes in the model, and find each")
     return parser.parse_args()
@@ -187,12 +187,13 @@ def arguments() -> argparse.Namespace:
 def main() -> int:
     said = arguments()
     seed = datetime.date.today().isoformat() if said.seed == "today" else said.seed
-    name = "html5clean" if said.clean else "html5tok"
+    name = "firnuubal" if said.clean else "html5tok"
     program = said.program or str(CRATES / name / "out" / name)
     if not os.access(program, os.X_OK):
         print(f"{program}: no such program; `rt ci` leaves it there", file=sys.stderr)
         return 2
-    comparison = Comparison(program, seed, said.peer, said.clean)
+    words = [program, "clean"] if said.clean else [program]
+    comparison = Comparison(words, seed, said.peer, said.clean)
     return self_test(comparison, said.cases) if said.self_test else compare(comparison, said.cases)
 
 

@@ -1,5 +1,5 @@
 #!/usr/bin/env python3
-"""Says whether all parts have one version: that of the newest entry of CHANGELOG.md.
+"""Says whether all parts have one version: that of the newest entry of CHANGELOG.md that is released.
 
     python3 tools/version.py
 """
@@ -12,7 +12,7 @@ TOP = pathlib.Path(__file__).resolve().parent.parent
 
 # Where the version stands, and how it is written there.
 PLACES = {
-    "CHANGELOG.md": r"^## (\S+)",
+    "CHANGELOG.md": r"^## (\S+)$",
     "crates/html5programs/src/version.rt": r'^const VERSION: &str = "(.*)";',
     "bindings/c/firnuubal.h": r'^#define FIRNUUBAL_VERSION "(.*)"',
     "bindings/python/src/firnuubal/__init__.py": r'^__version__ = "(.*)"',

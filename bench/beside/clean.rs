@@ -1,4 +1,4 @@
-//! Prints of a page what is allowed, as html5clean does, over html5ever.
+//! Prints of a page what is allowed, as firnuubal clean does, over html5ever.
 //!
 //!     clean
 //!

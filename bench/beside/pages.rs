@@ -1,4 +1,4 @@
-//! Prints the links or the text of a page, as html5links and html5text do, over html5ever.
+//! Prints the links or the text of a page, as firnuubal links and text do, over html5ever.
 //!
 //!     pages links|text
 //!

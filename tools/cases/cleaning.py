@@ -1,4 +1,4 @@
-"""Makes random cases of html5clean: a policy, or none, and a text in which allowed and hidden elements are likely."""
+"""Makes random cases of firnuubal clean: a policy, or none, and a text in which allowed and hidden elements are likely."""
 
 from __future__ import annotations
 
@@ -18,7 +18,7 @@ SCHEMES = ("http:", "https:", "HTTPS:", "Http:", "mailto:", "ftp:", "javascript:
 
 
 def clean_case_of(seed: str, number: int) -> Case:
-    """The case of html5clean of that number."""
+    """The case of firnuubal clean of that number."""
     return CleanMaker(random.Random(f"{seed} clean {number}")).clean_case()
 
 

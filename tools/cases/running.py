@@ -46,8 +46,8 @@ class Model:
         return Ended(*self.run(case.flat_words, case.text.encode()))
 
 
-def run_program(program: str, case: Case) -> Ended:
-    command = [program, *case.flat_words]
+def run_program(program: list[str], case: Case) -> Ended:
+    command = [*program, *case.flat_words]
     try:
         run = subprocess.run(command, input=case.text.encode(), capture_output=True, timeout=SECONDS)
     except subprocess.TimeoutExpired:
@@ -55,7 +55,7 @@ def run_program(program: str, case: Case) -> Ended:
     return Ended(run.returncode, run.stdout.decode(errors="replace"), run.stderr.decode(errors="replace"))
 
 
-def differs(program: str, judge: Judge, case: Case) -> bool:
+def differs(program: list[str], judge: Judge, case: Case) -> bool:
     expected = judge.expected(case)
     return expected is not SKIPPED and judge.of_program(run_program(program, case)) != expected
 
@@ -73,8 +73,8 @@ def shell_word(word: str) -> str:
     return '"$(python3 tools/entities.py)"' if word == standard_table() else shlex.quote(word)
 
 
-def command_line(program: str, case: Case) -> str:
-    return f"printf -- '{printf_format(case.text)}' | {' '.join(map(shell_word, [program, *case.flat_words]))}"
+def command_line(program: list[str], case: Case) -> str:
+    return f"printf -- '{printf_format(case.text)}' | {' '.join(map(shell_word, [*program, *case.flat_words]))}"
 
 
 def shown(answer: object) -> str:
@@ -84,7 +84,7 @@ def shown(answer: object) -> str:
     return "".join(f"{event}\n" for event in answer)
 
 
-def difference(program: str, judge: Judge, name: str, case: Case) -> str:
+def difference(program: list[str], judge: Judge, name: str, case: Case) -> str:
     """A case that differs: a command line, what comes of the program, and what the judge says."""
     found = judge.of_program(run_program(program, case))
     return f"{command_line(program, case)}\n---- the program\n{shown(found)}---- {name}\n{shown(judge.expected(case))}"

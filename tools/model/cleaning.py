@@ -1,4 +1,4 @@
-"""What html5clean makes of a text: crates/html5policy/README.md, crates/html5cleaner/README.md and, by the rule `tree`, normal.py."""
+"""What firnuubal clean makes of a text: crates/html5policy/README.md, crates/firnuubal cleaner/README.md and, by the rule `tree`, normal.py."""
 
 from __future__ import annotations
 

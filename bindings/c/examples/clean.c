@@ -1,5 +1,5 @@
 /*
- * Prints what the standard policy, or that of a file, keeps of the page on standard input, as html5clean does.
+ * Prints what the standard policy, or that of a file, keeps of the page on standard input, as firnuubal clean does.
  *
  *     clean [PIECE [POLICY]] < PAGE
  *

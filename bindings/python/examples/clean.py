@@ -1,5 +1,5 @@
 #!/usr/bin/env python3
-"""Prints what the standard policy keeps of the page on standard input, as html5clean does.
+"""Prints what the standard policy keeps of the page on standard input, as firnuubal clean does.
 
     clean.py [PIECE] < PAGE
 """

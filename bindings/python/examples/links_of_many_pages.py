@@ -10,7 +10,7 @@ workers is started here.
 Each batch of pages makes one part, `part-00000.jsonl` and so on, with a line of JSON for each link
 (`{"page": .., "line": .., "link": ..}`) or, with --text, for each page (`{"page": .., "text": ..}`). A part stands under
 its name once it is whole. A page that can't be read is named, has no line in its part, and the others go on. Links and
-texts are those that html5links and html5text print.
+texts are those that firnuubal links and text print.
 """
 
 import argparse

@@ -1,4 +1,4 @@
-//! Prints what the standard policy keeps of the page on standard input, as html5clean does.
+//! Prints what the standard policy keeps of the page on standard input, as firnuubal clean does.
 //!
 //!     clean < PAGE
 

@@ -85,8 +85,9 @@ impl<W: Target + Drop> Filter<W> for CleanPrinter<W> {
 
     ghost State = { Standing };
 
+    ghost state = { standing_of };
+
     ghost means = { record {
-      state = standing_of;
       started = λ settings printed. record { policy = settings.policy; printed = printed };
       begun = λ s. s;
       page = page_messages;

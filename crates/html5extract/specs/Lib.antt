@@ -1,2 +1,4 @@
 pub mod Links
+pub mod Makings
 pub mod PageText
+pub mod TokenLines

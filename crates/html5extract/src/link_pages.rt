@@ -37,21 +37,15 @@ pub fn read_links<R: Source, W: Target, A: Allocator + Copy>(
 
 impl<W: Target + Drop> Filter<W> for Links<W> {
     ghost use Rattle.std.specs.Prelude.{ℕ, List};
-    ghost use Rattle.html5stream.specs.Pages.{tags_page, tags_handed};
-    ghost use Rattle.html5extract.specs.Links.{links_step};
+    ghost use Rattle.html5extract.specs.Makings.{links_made};
 
     type Settings = ();
 
     ghost State = { List ℕ };
 
-    ghost means = { record {
-      state = λ l. l.printer.printed;
-      started = λ settings printed. printed;
-      begun = λ s. s;
-      page = tags_page links_step;
-      handed = tags_handed links_step;
-      printed = λ s. s;
-    } };
+    ghost state = { λ l. l.printer.printed };
+
+    ghost means = { links_made };
 
     fn new(alloc: Global, printer: Printer<W>, _settings: ()) -> Links<W>
         ensures { result.printer.printed ≡ printer.printed }

@@ -36,21 +36,16 @@ pub fn read_text<R: Source, W: Target, A: Allocator + Copy>(
 }
 
 impl<W: Target + Drop> Filter<W> for PageText<W> {
-    ghost use Rattle.html5stream.specs.Pages.{runs_page, runs_handed};
-    ghost use Rattle.html5extract.specs.PageText.{Reading, at_start, reading_of, text_step};
+    ghost use Rattle.html5extract.specs.Makings.{text_made};
+    ghost use Rattle.html5extract.specs.PageText.{Reading, reading_of};
 
     type Settings = ();
 
     ghost State = { Reading };
 
-    ghost means = { record {
-      state = reading_of;
-      started = λ settings printed. at_start printed;
-      begun = λ s. at_start s.printed;
-      page = runs_page text_step;
-      handed = runs_handed text_step;
-      printed = λ s. s.printed;
-    } };
+    ghost state = { reading_of };
+
+    ghost means = { text_made };
 
     fn new(alloc: Global, printer: Printer<W>, _settings: ()) -> PageText<W>
         ensures { reading_of result ≡ at_start printer.printed }

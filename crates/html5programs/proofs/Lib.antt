@@ -1,3 +1,3 @@
-pub mod Asking
-pub mod Files
+pub mod FilesRead
+pub mod Listing
 pub mod Saying

@@ -1,9 +1,9 @@
 -- How a run ends: its status, and what was read and printed.
-use Rattle.std.specs.Prelude.{◌≡◌, ℕ, List, [], ◌∷◌, Option, option_map, IsSome, true, false}
-use Rattle.html5programs.specs.Filtering.{AreSettingsAsked, Filtering, ReadsFiles}
+use Rattle.std.specs.Prelude.{◌≡◌, ℕ, List, [], ◌∷◌, Option, IsSome, codes, true, false}
+use Rattle.html5programs.specs.Filtering.{AreSettingsAsked, Making, ReadsFiles}
 use Rattle.html5programs.specs.References.{IsTableAsked}
-use Rattle.html5programs.specs.Words.{Asked, files_asked, words_asked}
-use Rattle.html5programs.specs.declared.running.Program.{Program}
+use Rattle.html5programs.specs.Words.{Asked, entities_asked, files_asked, has_option, known_options, settings_asked, words_asked}
+use Rattle.html5programs.specs.declared.program.Program.{Program}
 use Rattle.html5programs.specs.declared.ending.Ending.{Ending}
 use Rattle.html5programs.specs.declared.ending.Ending.TheVariants.{Done, Closed, Missed, Unprinted, NoMemory, WrongWord, NoTable, NoSettings}
 use Rattle.markup5ever.specs.NamedReferences.{NamedReference}
@@ -21,24 +21,36 @@ status_of NoSettings = 2
 
 -- what words ask of a program
 abbrev pub asked_of : Program → List (List ℕ) → Asked
-asked_of program words = words_asked (option_map (λ option. option.now) program.settings) words
+asked_of program words = words_asked (known_options program.choices.now) words
 
 -- the words ask how the program is used
 abbrev pub AsksHelp : Asked → Type 0
-AsksHelp asked = asked.help ≡ true
+AsksHelp asked = has_option (codes "--help") asked ≡ true
 
 -- they don't, and ask for its version
 pub record AsksVersion (asked : Asked) : Type 0 where
-  pub no_help : asked.help ≡ false
-  pub version : asked.version ≡ true
+  pub no_help : has_option (codes "--help") asked ≡ false
+  pub version : has_option (codes "--version") asked ≡ true
 
--- they ask for neither, and one of them is wrong
+-- they ask for neither, and for its own settings as a text
+pub record AsksSettings (asked : Asked) : Type 0 where
+  pub no_help : has_option (codes "--help") asked ≡ false
+  pub no_version : has_option (codes "--version") asked ≡ false
+  pub settings : has_option (codes "--print-policy") asked ≡ true
+
+-- they ask for none of these texts
+pub record AsksNoText (asked : Asked) : Type 0 where
+  pub no_help : has_option (codes "--help") asked ≡ false
+  pub no_version : has_option (codes "--version") asked ≡ false
+  pub no_settings : has_option (codes "--print-policy") asked ≡ false
+
+-- they ask for neither help nor version, and one of them is wrong
 pub record HasWrongWord (asked : Asked) : Type 0 where
-  pub no_help : asked.help ≡ false
-  pub no_version : asked.version ≡ false
+  pub no_help : has_option (codes "--help") asked ≡ false
+  pub no_version : has_option (codes "--version") asked ≡ false
   pub wrong : IsSome asked.wrong
 
-module _ {F T S : Type 0} (means : Filtering F T S) where
+module _ {T S : Type 0} (means : Making T S) where
   -- these files were read by a table and by settings, and what was written is what the filter printed of them
   pub record PrintsFiles (references : List NamedReference) (settings : T) (files : List (List ℕ)) (unread left : Option (List ℕ)) (written : List ℕ) : Type 0 where
     pub after : S
@@ -49,6 +61,6 @@ module _ {F T S : Type 0} (means : Filtering F T S) where
   pub record PrintsAsked (unsaid : T) (said_by : List ℕ → Option T) (asked : Asked) (unread left : Option (List ℕ)) (written : List ℕ) : Type 0 where
     pub references : List NamedReference
     pub settings : T
-    pub table : IsTableAsked asked.references references
-    pub said : AreSettingsAsked unsaid said_by asked.settings settings
+    pub table : IsTableAsked (entities_asked asked) references
+    pub said : AreSettingsAsked unsaid said_by (settings_asked asked) settings
     pub prints : PrintsFiles references settings (files_asked asked) unread left written

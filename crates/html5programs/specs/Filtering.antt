@@ -5,10 +5,8 @@ use Rattle.std.specs.Str.{IsUtf8}
 use Rattle.html5ever_interface.specs.Sink.{Message}
 use Rattle.markup5ever.specs.NamedReferences.{NamedReference}
 
--- what a filter makes of its settings and of pages, where S is that of its state
-pub record Filtering (F T S : Type 0) : Type 0 where
-  -- where a filter stands
-  pub state : F → S
+-- what a filter makes of settings, which are of type T, and of pages, where its states are of type S
+pub record Making (T S : Type 0) : Type 0 where
   -- a filter with these settings, to whose printer this was printed
   pub started : T → List ℕ → S
   -- where a page begins, after what was read before
@@ -24,7 +22,7 @@ pub record Filtering (F T S : Type 0) : Type 0 where
 abbrev pub IsInput : List ℕ → Type 0
 IsInput file = file ≡ codes "-"
 
-module _ {F T S : Type 0} (means : Filtering F T S) (references : List NamedReference) where
+module _ {T S : Type 0} (means : Making T S) (references : List NamedReference) where
   -- a file was read to its end, its bytes are UTF-8, and the filter was handed all of their messages. Of standard input they are all that
   -- it had left. Which bytes another file holds no contract says.
   pub record ReadsFile (file : List ℕ) (unread left : Option (List ℕ)) (before after : S) : Type 0 where

@@ -8,7 +8,7 @@ use std::alloc::Global;
 /// What a program makes of the pages that it reads: what it prints.
 pub trait Filter<W: Target + Drop>: Drop {
     ghost use Rattle.std.specs.Prelude.{◌≡◌, ℕ, ◌+◌, List, OnOk, OnErr};
-    ghost use Rattle.html5programs.specs.Filtering.{Filtering};
+    ghost use Rattle.html5programs.specs.Filtering.{Making};
     ghost use Rattle.html5stream.specs.Pages.{ReadsPage, StopsPage, passage_of};
     ghost use Rattle.html5stream.specs.Streams.{failed_reads};
 
@@ -18,11 +18,13 @@ pub trait Filter<W: Target + Drop>: Drop {
     // The abstract state of a filter, and what it makes of settings and pages.
     ghost State: { Type 0 };
 
-    ghost means: { Filtering Self Self.Settings State };
+    ghost state: { Self → State };
+
+    ghost means: { Making Self.Settings State };
 
     /// A filter that has read nothing, and prints to this printer.
     fn new(alloc: Global, printer: Printer<W>, settings: Self::Settings) -> Self
-        ensures { means.state result ≡ means.started settings printer.printed };
+        ensures { state result ≡ means.started settings printer.printed };
 
     /// Reads a page, and prints what it makes of it as it arrives: of the whole page, or after an error
     /// of a beginning of it.
@@ -33,12 +35,12 @@ pub trait Filter<W: Target + Drop>: Drop {
         references: &NamedReferences,
     ) -> (Self, Result<(), StreamError>)
         ensures finishes { OnOk result.1 (ReadsPage (λ s bytes. means.handed s (means.page references.now s bytes))
-            (passage_of R.remaining source.old source.new (means.begun (means.state self)) (means.state result.0))) }
+            (passage_of R.remaining source.old source.new (means.begun (state self)) (state result.0))) }
         ensures beginning { OnErr result.1 (StopsPage (means.page references.now) means.handed
-            (passage_of R.remaining source.old source.new (means.begun (means.state self)) (means.state result.0))) }
+            (passage_of R.remaining source.old source.new (means.begun (state self)) (state result.0))) }
         ensures read { R.failures source.new ≡ R.failures source.old + failed_reads result.1 };
 
     /// The printer, with what was printed.
     fn into_printer(self) -> Printer<W>
-        ensures { result.printed ≡ means.printed (means.state self) };
+        ensures { result.printed ≡ means.printed (state self) };
 }

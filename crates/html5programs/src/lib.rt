@@ -2,20 +2,27 @@
 #![tactic(auto)]
 
 mod ending;
+mod files;
 mod filter;
+mod input;
 mod messages;
 mod output;
+mod program;
 mod references;
 mod running;
 mod settings;
+mod suggestions;
 mod version;
 mod words;
 
 pub use crate::ending::Ending;
 pub use crate::filter::Filter;
+pub use crate::input::Input;
 pub use crate::messages::Messages;
 pub use crate::output::Output;
+pub use crate::program::Program;
 pub use crate::references::{ReferencesError, read_references, table_of_text};
-pub use crate::running::{Program, filter_by_words, run, run_by_words};
+pub use crate::running::{filter_by_words, print_text, print_version};
 pub use crate::settings::Settings;
-pub use crate::words::{Words, words_of};
+pub use crate::suggestions::{NoSuch, no_such};
+pub use crate::words::{Choice, GivenOption, Words, wants_word, words_of};

@@ -6,11 +6,12 @@ use std::io;
 use std::io::{ErrorKind, Write};
 use std::marker::Model;
 
-/// A writer as a target, which knows whether its reader has gone away.
+/// A writer as a target, which knows why a write failed, and whether its reader has gone away.
 #[derive(Drop)]
 pub struct Output<W> {
     target: WriteTarget<W>,
     is_closed: bool,
+    fault: Option<io::Error>,
 }
 
 impl<W> Model for Output<W> {
@@ -30,6 +31,7 @@ impl<W> Output<W> {
         Output {
             target: WriteTarget::new(inner),
             is_closed: false,
+            fault: None,
         }
     }
 
@@ -38,6 +40,11 @@ impl<W> Output<W> {
         ensures { result ≡ self.now.is_closed }
     {
         self.is_closed
+    }
+
+    /// Why the last write that failed did.
+    pub fn fault(&self) -> Option<io::Error> {
+        self.fault
     }
 }
 
@@ -51,6 +58,7 @@ impl<W: Write> Target for Output<W> {
             Ok(n) => Ok(n),
             Err(e) => {
                 self.is_closed = e.kind() == ErrorKind::BrokenPipe;
+                self.fault = Some(e);
                 Err(e)
             }
         }

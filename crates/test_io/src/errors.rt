@@ -10,6 +10,8 @@ use html5write::WriteError;
 use markup5ever::data::TableError;
 use std::alloc::Global;
 use std::fmt::Display;
+use std::io;
+use std::io::ErrorKind;
 use std::process::Abort;
 use std::test::Fail;
 use utf8_pieces::DecodeError;
@@ -84,10 +86,13 @@ fn of_bytes_that_come_in(rt: HostRuntime) -> Result<(), Fail> {
     ];
     check_texts(&rt, rt.alloc(), &session)?;
     let references = [
-        (ReferencesError::Unreadable, "the file can't be read"),
+        (
+            ReferencesError::Unreadable(io::Error::from(ErrorKind::NotFound)),
+            "entity not found",
+        ),
         (
             ReferencesError::NoList,
-            "the file has no list of references",
+            "the file has no list of entities: entries are NAME=HEX or NAME=HEX+HEX, a line each or joined by commas",
         ),
         (
             ReferencesError::Table(TableError::BadName(3)),

@@ -7,6 +7,8 @@ mod carried_bytes;
 #[cfg(test)]
 mod decoder;
 #[cfg(test)]
+mod entity_files;
+#[cfg(test)]
 mod errors;
 #[cfg(test)]
 mod filtered;

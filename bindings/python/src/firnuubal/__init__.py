@@ -29,7 +29,7 @@ from ._records import (
 )
 from ._tokenizer import Fed, Link, Replies, State, Tokenizer, links, text, tokens
 
-__version__ = "0.3.0"
+__version__ = "0.4.0"
 
 __all__ = [
     "ALLOWED_ATTRIBUTES",

@@ -172,7 +172,7 @@ _LINKS = {"a": "href", "area": "href", "link": "href", "img": "src", "script": "
 
 
 def links(page) -> Iterator[Link]:
-    """The links of a page: `href` of a, area and link, `src` of img, script and iframe, as html5links prints them but
+    """The links of a page: `href` of a, area and link, `src` of img, script and iframe, as firnuubal links prints them but
     for tabs and line breaks in them, which stay."""
     for token in tokens(page, texts=False, tags=_LINKS):
         if type(token) is StartTag:
@@ -182,7 +182,7 @@ def links(page) -> Iterator[Link]:
 
 
 def text(page) -> str:
-    """The text of a page, without its scripts and styles, as html5text prints it."""
+    """The text of a page, without its scripts and styles, as firnuubal text prints it."""
     runs, within = [], False
     for token in tokens(page, tags=("script", "style")):
         if type(token) is StartTag or type(token) is EndTag:

@@ -1,0 +1,9 @@
+//! Prints the tokens, the links or the text of HTML pages, or the pages cleaned.
+#![tactic(auto)]
+
+use html5commands::run;
+use std::process::ExitCode;
+
+fn main(rt: HostRuntime) -> ExitCode {
+    ExitCode::from(run(&rt, rt.stdin(), rt.stdout(), rt.stderr()))
+}

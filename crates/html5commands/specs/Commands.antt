@@ -1,0 +1,102 @@
+-- The commands of the program, the options that each knows, and what each prints.
+use Rattle.std.specs.Prelude.{◌≡◌, ℕ, Bool, true, false, List, [], ◌∷◌, ◌++◌, Option, None, Some, codes, option_map, if◌then◌else◌}
+use Rattle.std.specs.Str.{bytes_eq}
+use Rattle.html5cleaner.specs.Cleaning.{Standing, page_messages, policy_in, printed_of}
+use Rattle.html5cleaner.specs.declared.settings.PolicySettings.{PolicySettings}
+use Rattle.html5commands.specs.declared.command.Command.{Command}
+use Rattle.html5commands.specs.declared.command.Command.TheVariants.{Tokens, Links, Text, Clean}
+use Rattle.html5extract.specs.Makings.{links_made, text_made, tokens_made}
+use Rattle.html5policy.specs.Standard.{standard_policy}
+use Rattle.html5policy.specs.Text.{policy_said}
+use Rattle.html5programs.specs.Ending.{PrintsAsked}
+use Rattle.html5programs.specs.Filtering.{Making}
+use Rattle.html5programs.specs.Words.{Asked, KnownOption, words_asked}
+
+-- the name of the program
+abbrev pub program_name : List ℕ
+program_name = codes "firnuubal"
+
+-- the command of this name
+unfoldable pub command_of : List ℕ → Option Command
+command_of word =
+    if bytes_eq word (codes "tokens") then Some Tokens
+    else if bytes_eq word (codes "links") then Some Links
+    else if bytes_eq word (codes "text") then Some Text
+    else if bytes_eq word (codes "clean") then Some Clean
+    else None
+
+-- ---- the options
+
+abbrev pub flag : List ℕ → KnownOption
+flag name = record { name = name; takes_word = false }
+
+-- an option with a word after it
+abbrev pub before_word : List ℕ → KnownOption
+before_word name = record { name = name; takes_word = true }
+
+-- those of each command
+abbrev pub reading_options : List KnownOption
+reading_options = flag (codes "--help") ∷ flag (codes "--version") ∷ before_word (codes "--entities") ∷ []
+
+unfoldable pub options_of : Command → List KnownOption
+options_of Tokens = reading_options
+options_of Links = reading_options
+options_of Text = reading_options
+options_of Clean = reading_options ++ before_word (codes "--policy") ∷ flag (codes "--print-policy") ∷ []
+
+-- ---- the words
+
+-- a command, and the words after it
+pub record Named : Type 0 where
+  pub command : Command
+  pub words : List (List ℕ)
+
+abbrev pub named_by : List (List ℕ) → Option Command → Option Named
+named_by words None = None
+named_by words (Some command) = Some (record { command = command; words = words })
+
+-- the command that words name
+abbrev pub command_named : List (List ℕ) → Option Named
+command_named [] = None
+command_named (word ∷ words) = named_by words (command_of word)
+
+-- a word that is no command, and asks for no text
+pub record IsUnknownWord (word : List ℕ) : Type 0 where
+  pub no_command : command_of word ≡ None
+  pub no_help : bytes_eq word (codes "--help") ≡ false
+  pub no_version : bytes_eq word (codes "--version") ≡ false
+
+-- words that name no command and ask for no text: there is none, or the first is unknown
+abbrev pub NamesNothing : List (List ℕ) → Type 0
+NamesNothing [] = Unit {0}
+NamesNothing (word ∷ words) = IsUnknownWord word
+
+-- what the words after it ask of a command
+abbrev pub asked_of_command : Named → Asked
+asked_of_command named = words_asked (options_of named.command) named.words
+
+-- ---- what is printed
+
+-- pages that are cleaned by a policy, after what was printed before
+abbrev pub clean_made : Making PolicySettings Standing
+clean_made = record {
+  started = λ settings printed. record { policy = settings.policy; printed = printed };
+  begun = λ s. s;
+  page = page_messages;
+  handed = printed_of;
+  printed = λ s. s.printed;
+}
+
+-- the standard policy, and that which a text says
+abbrev pub standard_settings : PolicySettings
+standard_settings = record { policy = standard_policy }
+
+abbrev pub settings_said : List ℕ → Option PolicySettings
+settings_said text = option_map (λ policy. record { policy = policy }) (policy_in (policy_said text))
+
+-- all files that the words ask for were read, and what was written is what the command prints of them
+abbrev pub PrintsBy : Command → Asked → Option (List ℕ) → Option (List ℕ) → List ℕ → Type 0
+PrintsBy Tokens asked unread left written = PrintsAsked tokens_made tt (λ text. Some tt) asked unread left written
+PrintsBy Links asked unread left written = PrintsAsked links_made tt (λ text. Some tt) asked unread left written
+PrintsBy Text asked unread left written = PrintsAsked text_made tt (λ text. Some tt) asked unread left written
+PrintsBy Clean asked unread left written = PrintsAsked clean_made standard_settings settings_said asked unread left written

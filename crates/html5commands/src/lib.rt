@@ -1,0 +1,12 @@
+//! The commands of the program `firnuubal`: what each reads and prints, by the words after its name.
+#![tactic(auto)]
+
+mod command;
+mod help;
+mod policy;
+mod running;
+
+pub use crate::command::{Command, command_of, program_of};
+pub use crate::help::HELP;
+pub use crate::policy::policy_text;
+pub use crate::running::{command_by_words, run, run_by_words};

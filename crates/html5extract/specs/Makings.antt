@@ -1,0 +1,38 @@
+-- What programs make of pages: their tokens, their links, and their text.
+use Rattle.std.specs.Prelude.{ℕ, false, List}
+use Rattle.html5stream.specs.Pages.{runs_handed, runs_page, tags_handed, tags_page}
+use Rattle.html5programs.specs.Filtering.{Making}
+use Rattle.html5extract.specs.Links.{links_step}
+use Rattle.html5extract.specs.PageText.{Reading, at_start, text_step}
+use Rattle.html5extract.specs.TokenLines.{line_output, tokens_page, tokens_printed}
+use Rattle.token_printer.specs.Output.{Output}
+
+-- the tokens of pages, after what was printed before
+abbrev pub tokens_made : Making (Unit {0}) Output
+tokens_made = record {
+  started = λ settings printed. record (line_output false) { lines = printed };
+  begun = λ s. s;
+  page = tokens_page;
+  handed = tokens_printed;
+  printed = λ s. s.lines;
+}
+
+-- the links of pages, after what was printed before
+abbrev pub links_made : Making (Unit {0}) (List ℕ)
+links_made = record {
+  started = λ settings printed. printed;
+  begun = λ s. s;
+  page = tags_page links_step;
+  handed = tags_handed links_step;
+  printed = λ s. s;
+}
+
+-- their text, where each page begins outside of scripts and styles
+abbrev pub text_made : Making (Unit {0}) Reading
+text_made = record {
+  started = λ settings printed. at_start printed;
+  begun = λ s. at_start s.printed;
+  page = runs_page text_step;
+  handed = runs_handed text_step;
+  printed = λ s. s.printed;
+}

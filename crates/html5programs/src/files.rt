@@ -1,0 +1,189 @@
+//! Files that a filter reads, one after the other.
+ghost use Rattle.std.specs.Prelude.{◌≡◌, ◌≢◌, true, IsOk, OnOk, map};
+ghost use Rattle.html5programs.specs.Ending.{PrintsFiles};
+ghost use Rattle.html5programs.specs.Filtering.{ReadsFile, ReadsFiles};
+
+use crate::ending::Ending;
+use crate::filter::Filter;
+use crate::input::Input;
+use crate::messages::Messages;
+use crate::output::Output;
+use devices::{Logged, Printer, Target};
+use html5stream::StreamError;
+use markup5ever::data::NamedReferences;
+use std::alloc::Global;
+use std::fs::{File, Files};
+use std::io;
+use std::io::{Read, Write};
+use thiserror::Error;
+
+// Why a file was not read to its end.
+#[derive(Clone, Copy, Debug, Error)]
+enum FileError {
+    // The system's reason.
+    #[error("{0}")]
+    System(io::Error),
+    #[error("{0}")]
+    Stream(StreamError),
+}
+
+// How reading the files ends.
+#[derive(Clone, Copy, Debug, PartialEq, Eq)]
+enum Outcome {
+    // All were read.
+    Read,
+    // Some were not, and it was said why.
+    Missed,
+    // What the filter makes of one can't be printed.
+    Stopped,
+}
+
+// Why a file was not read to its end, where the system said this of a read.
+fn file_error(error: StreamError, fault: Option<io::Error>) -> FileError {
+    match (error, fault) {
+        (StreamError::Read, Some(fault)) => FileError::System(fault),
+        _ => FileError::Stream(error),
+    }
+}
+
+// The same answer in words of files.
+fn read_or_error(read: Result<(), StreamError>, fault: Option<io::Error>) -> Result<(), FileError>
+    ensures { OnOk result (IsOk read) }
+{
+    match read {
+        Ok(()) => Ok(()),
+        Err(error) => Err(file_error(error, fault)),
+    }
+}
+
+// Reads a file, or standard input where it is named `-`.
+fn read_file<F: Filter<W>, W: Target + Drop, R: Files + Alloc<A = Global>, I: Read>(
+    rt: &R,
+    filter: F,
+    references: &NamedReferences,
+    stdin: &mut Input<I>,
+    file: &str,
+) -> (F, Result<(), FileError>)
+    ensures file { OnOk result.1 (ReadsFile F.means references.now file.now
+        (I.remaining stdin.old.inner) (I.remaining stdin.new.inner) (F.state filter) (F.state result.0)) }
+    ensures read { OnOk result.1 (stdin.new.failures ≡ stdin.old.failures) }
+{
+    if file == "-" {
+        let (filter, read) = filter.read_page(rt.alloc(), stdin, references);
+        return (filter, read_or_error(read, stdin.fault()));
+    }
+    match File::open(rt, file) {
+        Ok(opened) => {
+            let mut opened = Input::new(opened);
+            let (filter, read) = filter.read_page(rt.alloc(), &mut opened, references);
+            (filter, read_or_error(read, opened.fault()))
+        }
+        Err(fault) => (filter, Err(FileError::System(fault))),
+    }
+}
+
+// Reads the files, up to one that can't be printed.
+fn read_files<F: Filter<W>, W: Target + Drop, R: Files + Alloc<A = Global>, I: Read, E: Target>(
+    rt: &R,
+    filter: F,
+    references: &NamedReferences,
+    stdin: &mut Input<I>,
+    files: &[&str],
+    messages: &mut Messages<'_, E>,
+) -> (F, Outcome)
+    ensures files { result.1 ≡ Outcome.Read → ReadsFiles F.means references.now (map (λ file. file.now) files.now)
+        (I.remaining stdin.old.inner) (I.remaining stdin.new.inner) (F.state filter) (F.state result.0) }
+    ensures read { result.1 ≡ Outcome.Read → stdin.new.failures ≡ stdin.old.failures }
+{
+    let mut filter = filter;
+    let mut outcome = Outcome::Read;
+    for file in files {
+        let (afterwards, read) = read_file(rt, filter, references, stdin, file);
+        filter = afterwards;
+        match read {
+            Ok(()) => {}
+            Err(FileError::Stream(StreamError::Sink)) => return (filter, Outcome::Stopped),
+            Err(error) => {
+                messages.say(file, error);
+                outcome = Outcome::Missed;
+            }
+        }
+    }
+    (filter, outcome)
+}
+
+// How a run over files ends, where what was made of them was written or not.
+fn ending_of(outcome: Outcome, is_written: bool, is_closed: bool) -> Ending
+    ensures done { result ≡ Ending.Done → (outcome ≡ Outcome.Read) × (is_written ≡ true) }
+    ensures closed { (result ≡ Ending.Closed) → is_closed ≡ true }
+    ensures words { (result ≢ Ending.WrongWord) × (result ≢ Ending.NoMemory) }
+{
+    if is_closed {
+        return Ending::Closed;
+    }
+    match outcome {
+        Outcome::Read if is_written => Ending::Done,
+        Outcome::Missed if is_written => Ending::Missed,
+        _ => Ending::Unprinted,
+    }
+}
+
+/// How a run ends that printed one text, which was written or not. Where it can't be printed it says why.
+pub fn ending_of_text<O: Write, E: Target>(
+    output: &Output<O>,
+    is_written: bool,
+    messages: &mut Messages<'_, E>,
+) -> Ending
+    ensures done { result ≡ Ending.Done → is_written ≡ true }
+    ensures closed { result ≡ Ending.Closed → output.now.is_closed ≡ true }
+    ensures words { (result ≢ Ending.WrongWord) × (result ≢ Ending.NoMemory) }
+{
+    let ending = ending_of(Outcome::Read, is_written, output.is_closed());
+    say_unprinted(ending, output, messages);
+    ending
+}
+
+// Says why what was printed can't be written, where it can't.
+fn say_unprinted<O: Write, E: Target>(
+    ending: Ending,
+    output: &Output<O>,
+    messages: &mut Messages<'_, E>,
+) {
+    if ending != Ending::Unprinted {
+        return;
+    }
+    match output.fault() {
+        Some(fault) => messages.say("output", fault),
+        None => messages.say("output", "can't be printed"),
+    }
+}
+
+/// Reads the files and prints what the filter makes of them.
+pub fn filter_files<
+    F: Filter<Output<O>>,
+    R: Files + Alloc<A = Global>,
+    I: Read,
+    O: Write + Drop,
+    E: Target,
+>(
+    rt: &R,
+    references: &NamedReferences,
+    settings: F::Settings,
+    files: &[&str],
+    stdin: &mut Input<I>,
+    stdout: O,
+    messages: &mut Messages<'_, E>,
+) -> (Logged<Output<O>>, Ending)
+    ensures done { result.1 ≡ Ending.Done → PrintsFiles F.means references.now settings (map (λ file. file.now) files.now)
+        (I.remaining stdin.old.inner) (I.remaining stdin.new.inner) result.0.taken }
+    ensures closed { result.1 ≡ Ending.Closed → result.0.inner.is_closed ≡ true }
+    ensures words { (result.1 ≢ Ending.WrongWord) × (result.1 ≢ Ending.NoMemory) }
+{
+    let printer = Printer::new(rt.alloc(), Output::new(stdout));
+    let filter = F::new(rt.alloc(), printer, settings);
+    let (filter, outcome) = read_files(rt, filter, references, stdin, files, messages);
+    let (target, written) = filter.into_printer().finish();
+    let ending = ending_of(outcome, written.is_ok(), target.inner().is_closed());
+    say_unprinted(ending, target.inner(), messages);
+    (target, ending)
+}

@@ -1,0 +1,85 @@
+#!/usr/bin/env python3
+"""Makes the manual pages of docs/man from the texts of `--help`.
+
+    python3 tools/man.py [--check]
+
+The texts are the constants of crates/html5commands/src/help.rt: the first is that of the program, each other that of
+the command of its name. A page has the text's usage, its sentences and its options. With --check nothing is written,
+and the status is 1 where a page differs from what would be.
+"""
+
+import pathlib
+import re
+import sys
+
+TOP = pathlib.Path(__file__).resolve().parent.parent
+SOURCE = TOP / "crates/html5commands/src/help.rt"
+PAGES = TOP / "docs/man"
+TEXT = re.compile(r'^pub const (\w+): &str = "(.*?)";$', re.MULTILINE | re.DOTALL)
+COMMAND = re.compile(r"^  (\w+) +(\S.*)$", re.MULTILINE)
+OPTION = re.compile(r"^  (--[\w-]+(?: [A-Z]+)?) +(\S.*)$")
+
+
+def texts():
+    """The name of each page, in small letters, and its text."""
+    return {name.lower(): text.replace('\\"', '"') for name, text in TEXT.findall(SOURCE.read_text(encoding="utf-8"))}
+
+
+def escaped(line):
+    """A line as roff has it."""
+    line = line.replace("\\", "\\e").replace("-", "\\-")
+    return "\\&" + line if line.startswith((".", "'")) else line
+
+
+def parts(text):
+    """The usage, the lines before the options, and each option with its lines."""
+    usage, *lines = text.rstrip("\n").split("\n")
+    before, options = [], []
+    for line in lines:
+        option = OPTION.match(line)
+        if option:
+            options.append((option[1], [option[2]]))
+        elif options and line.startswith("   "):
+            options[-1][1].append(line.strip())
+        else:
+            before.append(line)
+    return usage.removeprefix("usage: "), before, options
+
+
+def page(name, summary, text):
+    """A page, as roff."""
+    usage, before, options = parts(text)
+    lines = [f'.TH {name.upper()} 1 "" firnuubal', ".SH NAME", f"{escaped(name)} \\- {escaped(summary)}"]
+    lines += [".SH SYNOPSIS", escaped(usage), ".SH DESCRIPTION", ".nf", *map(escaped, before), ".fi", ".SH OPTIONS"]
+    for option, words in options:
+        lines += [".TP", f".B {escaped(option)}", ".nf", *map(escaped, words), ".fi"]
+    return "\n".join(lines) + "\n"
+
+
+def pages():
+    """The text of each page, by its file's name."""
+    found = texts()
+    summaries = dict(COMMAND.findall(found["help"]))
+    made = {"firnuubal.1": page("firnuubal", "what HTML pages hold, and pages cleaned", found.pop("help"))}
+    for command, text in found.items():
+        made[f"firnuubal-{command}.1"] = page(f"firnuubal-{command}", summaries[command], text)
+    return made
+
+
+def main():
+    check = sys.argv[1:] == ["--check"]
+    wrong = 0
+    PAGES.mkdir(exist_ok=True)
+    for name, text in pages().items():
+        path = PAGES / name
+        if not check:
+            path.write_text(text, encoding="utf-8")
+        elif not path.is_file() or path.read_text(encoding="utf-8") != text:
+            wrong += 1
+            print(f"tools/man.py: docs/man/{name} is not what the help says; run python3 tools/man.py")
+    print(f"tools/man.py: {len(pages())} pages, {wrong} otherwise")
+    return min(wrong, 1)
+
+
+if __name__ == "__main__":
+    sys.exit(main())
