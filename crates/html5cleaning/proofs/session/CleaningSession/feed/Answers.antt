@@ -29,5 +29,6 @@ returns-clause-refused g c =
 pub returns-clause-over : goal.returns-clause-over
 returns-clause-over g c =
     let going = sym c.is_over.ensures ∙ c.if-is_over.false in (
-    λ is. sym (ap is_over c.self.view_is) ∙ c.feed-session.ensures.over.0 (done_over c.feed-session.result.1 c.done.result Over c.done.ensures.ok c.done.ensures.err is),
-    λ was. absurd (false≢true (sym going ∙ ap is_over c.self.view_is ∙ was)))
+      λ is. sym (ap is_over c.self.view_is) ∙ c.feed-session.ensures.over.0 (done_over c.feed-session.result.1 c.done.result Over c.done.ensures.ok c.done.ensures.err is),
+      λ was. absurd (false≢true (sym going ∙ ap is_over c.self.view_is ∙ was)),
+    )
