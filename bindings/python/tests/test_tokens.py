@@ -1,12 +1,15 @@
 """Tests of the tokenizer: pauses, refusals, texts that arrive in pieces, pages of each kind."""
 
 import io
+import pathlib
 import pickle
 import threading
 import unittest
 
 import firnuubal
 from firnuubal import End, EndTag, Fed, Replies, StartTag, State, Status, Text, Tokenizer, TokenizerError
+
+PAGE = pathlib.Path(__file__).resolve().parents[2] / "page.html"
 
 
 class Calls(unittest.TestCase):
@@ -78,7 +81,7 @@ class Calls(unittest.TestCase):
             self.assertEqual((refused.exception.status, refused.exception.at), (Status.NOT_UTF8, 17))
 
     def test_tokens_come_before_the_error(self):
-        read = tokens(b"<p>a\xffb")
+        read = firnuubal.tokens(b"<p>a\xffb")
         self.assertEqual(next(read), StartTag(1, "p", (), False, False))
         with self.assertRaises(TokenizerError):
             next(read)
@@ -90,6 +93,27 @@ class Calls(unittest.TestCase):
                 tokenizer.feed(b"c")
             self.assertEqual(refused.exception.status, Status.LIMIT)
             self.assertFalse(tokenizer.is_over())
+
+    def test_each_limit(self):
+        """By each limit a page is read whole, or up to a piece that goes past it."""
+        page = PAGE.read_bytes()
+        due = list(firnuubal.tokens(page))
+        whole = 0
+        for limit in range(4097):
+            with Tokenizer(limit=limit) as tokenizer:
+                told = []
+                try:
+                    for at in range(0, len(page), 16):
+                        tokenizer.feed(page[at : at + 16])
+                        told += tokenizer.tokens()
+                    tokenizer.end()
+                except TokenizerError as refused:
+                    self.assertEqual(refused.status, Status.LIMIT)
+                    self.assertEqual(told, due[: len(told)])
+                else:
+                    self.assertEqual(told + list(tokenizer.tokens()), due)
+                    whole += 1
+        self.assertGreater(whole, 3000)
 
     def test_a_character_that_is_cut(self):
         with Tokenizer() as tokenizer:
