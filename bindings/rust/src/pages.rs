@@ -81,7 +81,7 @@ fn read_text(page: &str, take: impl FnMut(Token<'_>)) {
 impl From<Error> for io::Error {
     fn from(error: Error) -> io::Error {
         let kind = match error {
-            Error::NoMemory => io::ErrorKind::OutOfMemory,
+            Error::NoMemory | Error::Limit => io::ErrorKind::OutOfMemory,
             Error::NotUtf8 { .. } | Error::Cut => io::ErrorKind::InvalidData,
             Error::Waiting | Error::ItemOpen | Error::Over | Error::BadPolicy { .. } => io::ErrorKind::InvalidInput,
         };
