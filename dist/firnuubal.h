@@ -8,10 +8,10 @@
 #define FIRNUUBAL_H
 
 /* The version of the library, of this header and of the readers. */
-#define FIRNUUBAL_VERSION "0.3.0"
+#define FIRNUUBAL_VERSION "0.4.0"
 
 /* The same as a number, its three numbers a byte each. `html5_version` says it of the library that is linked. */
-#define FIRNUUBAL_VERSION_NUMBER 0x000300
+#define FIRNUUBAL_VERSION_NUMBER 0x000400
 
 #include <stdbool.h>
 #include <stddef.h>
@@ -43,7 +43,7 @@ enum html5_status {
     HTML5_SCRIPT = 1,     /* a pause: a script ends here; what follows it waits */
     HTML5_ENCODING = 2,   /* a pause: a meta tag names an encoding; what follows it waits */
     HTML5_NO_MEMORY = 3,  /* a request for memory was refused */
-    HTML5_NOT_UTF8 = 4,   /* these bytes are no UTF-8, whatever follows them */
+    HTML5_NOT_UTF8 = 4,   /* bytes are no UTF-8, whatever follows them; all before them was read */
     HTML5_CUT = 5,        /* the input ends within a character */
     HTML5_WAITING = 6,    /* text waits after a pause: feed first, if only no bytes */
     HTML5_OVER = 7,       /* the end was told, or an earlier call was refused for good */
@@ -52,7 +52,8 @@ enum html5_status {
     HTML5_BAD_POLICY = 10,     /* a line of the policy is no rule that it takes */
     HTML5_POLICY_NOT_UTF8 = 11, /* the policy is no UTF-8 */
     HTML5_TAG = 12,             /* a pause: a tag to which the caller replies; what follows it waits */
-    HTML5_ITEM_OPEN = 13        /* a tag or another item is open, so no state can be set */
+    HTML5_ITEM_OPEN = 13,       /* a tag or another item is open, so no state can be set */
+    HTML5_LIMIT = 14            /* more bytes would be held than the limit: the piece was not taken */
 };
 
 typedef enum html5_status html5_status;
@@ -64,7 +65,8 @@ static inline const char *html5_status_text(html5_status status) {
         "the page is no UTF-8", "the page ends within a character", "text waits after a pause",
         "the page has ended, or an earlier call was refused for good", "the handle is closed",
         "an option has no such value", "a line of the policy is no rule that it takes", "the policy is no UTF-8",
-        "paused after a tag to which the caller replies", "a tag or another item is open"};
+        "paused after a tag to which the caller replies", "a tag or another item is open",
+        "more bytes would be held than the limit"};
     return (size_t)status < sizeof texts / sizeof *texts ? texts[status] : "no such status";
 }
 
@@ -109,7 +111,13 @@ static inline const uint8_t *html5_bytes_or_none(const void *bytes) {
  */
 html5_status html5_new(html5_handle *handle, const uint8_t *last_start_tag, size_t len, const html5_options *options);
 
-/* Reads the next bytes, in pieces of any size. After a pause it goes on, with what waits and these bytes. */
+/*
+ * Reads the next bytes, in pieces of any size. After a pause it goes on, with what waits and these bytes.
+ *
+ * Where bytes of them are no UTF-8, whatever follows, those before are read, and then it answers HTML5_NOT_UTF8. They are
+ * not taken, and none after them: the next feed goes on with what is to stand in their place. A pause before them comes
+ * first. Then no feed takes any bytes, until all that waits was read and one answered HTML5_NOT_UTF8.
+ */
 html5_status html5_feed(html5_handle *handle, const uint8_t *bytes, size_t len);
 #define html5_feed(handle, bytes, len) html5_feed(handle, html5_bytes_or_none(bytes), len)
 
@@ -129,13 +137,25 @@ html5_status html5_reply(html5_handle *handle, uint32_t state);
 /* Says whether the current node is outside the HTML namespace, so that <![CDATA[ opens a section in what follows. */
 html5_status html5_set_foreign(html5_handle *handle, bool foreign);
 
-/* Tells the end of the page. */
+/*
+ * Sets how many bytes the handle may hold, of a tokenizer or of a cleaner: what was fed since all was read and no tag or
+ * other item was open, and what waits to be taken. Before it is set there is no limit. A piece that goes past it is not
+ * taken: a feed or an insert answers HTML5_LIMIT, just then, and nothing changes. What else is held is some multiple of that
+ * and of what the last piece made. A cleaner also holds the text that no tag has ended yet, and the names of the elements
+ * that are open, by a policy that balances: these are not counted.
+ */
+html5_status html5_set_limit(html5_handle *handle, uint64_t limit);
+
+/* Tells the end of the page. A fault that is still to be said, after a pause, is answered here too: HTML5_NOT_UTF8. */
 html5_status html5_end(html5_handle *handle);
 
 /* Moves the next bytes of the records to `out`, as many as fit, and answers how many. */
 size_t html5_take(html5_handle *handle, uint8_t *out, size_t len);
 
-/* After HTML5_NOT_UTF8: the place of the first byte that is no UTF-8, counted from the page's first. */
+/*
+ * After HTML5_NOT_UTF8: the place of the first byte that is no UTF-8, counted from the first that was fed. All bytes
+ * before it were taken, and none from it on.
+ */
 uint64_t html5_error_at(html5_handle *handle);
 
 /*
@@ -158,10 +178,13 @@ void html5_free(html5_handle *handle);
  */
 html5_status html5_cleaner_new(html5_handle *handle, const uint8_t *policy, size_t len, uint64_t *place);
 
-/* Begins another page, by the same policy. What was not taken is gone. */
+/* Begins another page, by the same policy and limit. What was not taken is gone. */
 html5_status html5_cleaner_restart(html5_handle *handle);
 
-/* Reads the next bytes of the page, in pieces of any size. */
+/*
+ * Reads the next bytes of the page, in pieces of any size. Where bytes of them are no UTF-8, those before are read, and then
+ * it answers HTML5_NOT_UTF8. `html5_set_limit` sets how many bytes may be held.
+ */
 html5_status html5_cleaner_feed(html5_handle *handle, const uint8_t *bytes, size_t len);
 #define html5_cleaner_feed(handle, bytes, len) html5_cleaner_feed(handle, html5_bytes_or_none(bytes), len)
 
@@ -171,7 +194,7 @@ html5_status html5_cleaner_end(html5_handle *handle);
 /* Moves the next bytes of what is kept to `out`, as many as wait and fit, and answers how many. */
 size_t html5_cleaner_take(html5_handle *handle, uint8_t *out, size_t len);
 
-/* After HTML5_NOT_UTF8: the place of the first byte that is no UTF-8, counted from the page's first. */
+/* After HTML5_NOT_UTF8: the place of the first byte that is no UTF-8, as `html5_error_at` says it. */
 uint64_t html5_cleaner_error_at(html5_handle *handle);
 
 /* Whether nothing more is read of the page: it has ended, or a call was refused for good. Of a closed one it is false. */
