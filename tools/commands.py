@@ -69,6 +69,7 @@ CASES = [
     (["text", "--entities", "folder"], "", [f"folder: {FOLDER}"], 2),
     (["clean", "--policy", "policy", "page"], '<a href="x">y</a>', [], 0),
     (["clean", "--policy", "policy", "other"], "\n", [], 0),
+    (["clean", "--policy", "empty", "page"], "y", [], 0),
     (["clean", "--policy", "missing"], "", [f"missing: {MISSING}"], 2),
 ]
 

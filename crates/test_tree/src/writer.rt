@@ -1,40 +1,53 @@
 //! Tags that no cleaner hands in, since its policy has dropped them, and one that is refused.
-use html5nested::NestedWriter;
+use html5nested::{Item, NestedWriter};
 use html5write::{Attribute, WriteError};
 use std::alloc::Global;
 
-// A `br` of an end tag, and tags of names that are none of the 94.
-fn other_tags(alloc: Global) -> Result<String, WriteError> {
-    let mut page = NestedWriter::new(alloc, 511);
-    page.end_tag("br")?;
-    page.start_tag("svg", &[])?;
-    page.start_tag("p", &[])?;
-    page.text("1")?;
-    page.end_tag("svg")?;
-    page.text("2")?;
+fn start_tag(name: &str) -> Item<'_> {
+    Item::StartTag {
+        name,
+        attributes: &[],
+    }
+}
+
+// The page of these items, with so many elements open at most.
+fn made(alloc: Global, limit: usize, items: &[Item<'_>]) -> Result<String, WriteError> {
+    let mut page = NestedWriter::new(alloc, limit);
+    for item in items {
+        match item {
+            Item::StartTag { name, attributes } => page.start_tag(name, attributes)?,
+            Item::EndTag(name) => page.end_tag(name)?,
+            Item::Text(text) => page.text(text)?,
+        }
+    }
     Ok(page.finish()?.into_string())
 }
 
 #[test]
 fn writes_a_line_break_and_no_other_names(rt: HostRuntime) {
-    let page = other_tags(rt.alloc()).expect(&rt, "memory");
+    let items = [
+        Item::EndTag("br"),
+        start_tag("svg"),
+        start_tag("p"),
+        Item::Text("1"),
+        Item::EndTag("svg"),
+        Item::Text("2"),
+    ];
+    let page = made(rt.alloc(), 511, &items).expect(&rt, "memory");
     assert!(rt; page.as_str() == "<br><p>12</p>");
 }
 
-// Nothing may be open: neither an element, nor the empty `p` of an end tag.
-fn nothing_open(alloc: Global) -> Result<String, WriteError> {
-    let mut page = NestedWriter::new(alloc, 0);
-    page.start_tag("b", &[])?;
-    page.text("1")?;
-    page.end_tag("b")?;
-    page.start_tag("br", &[])?;
-    page.end_tag("p")?;
-    Ok(page.finish()?.into_string())
-}
-
+// An element, and the empty `p` of an end tag, want to be open.
 #[test]
 fn opens_nothing_by_a_limit_of_0(rt: HostRuntime) {
-    let page = nothing_open(rt.alloc()).expect(&rt, "memory");
+    let items = [
+        start_tag("b"),
+        Item::Text("1"),
+        Item::EndTag("b"),
+        start_tag("br"),
+        Item::EndTag("p"),
+    ];
+    let page = made(rt.alloc(), 0, &items).expect(&rt, "memory");
     assert!(rt; page.as_str() == "1<br>");
 }
 
