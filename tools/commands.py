@@ -31,7 +31,6 @@ FILES = {
     "first.bad": b"\xff<a href=x>",
     "middle.bad": b"<a href=m>\n<p>\xc3<a href=y>",
     "last.bad": b"<a href=x>\xe2\x98",
-    "text.bad": b"<p>a</p>b\xc3",
     "-x": PAGE,
     "entities": b"own=2603\r\nnGt;=226B+20D2\r\n",
     "entities.commas": b"own=2603,nGt;=226B+20D2",
@@ -51,7 +50,6 @@ CASES = [
     (["tokens", "byte"], 'text "a"\neof 1\n', [], 0),
     (["tokens", "empty"], "eof 1\n", [], 0),
     (["clean", "page"], '<a href="x">y</a>', [], 0),
-    (["clean", "text.bad"], "<p>a</p>", ["text.bad: the bytes from place 9 on are no UTF-8"], 1),
     (["links", "missing", "page"], "1 x\n", [f"missing: {MISSING}"], 1),
     (["links", "folder", "page"], "1 x\n", [f"folder: {FOLDER}"], 1),
     (["links", "page", "folder", "missing"], "1 x\n", [f"folder: {FOLDER}", f"missing: {MISSING}"], 1),
@@ -69,7 +67,6 @@ CASES = [
     (["text", "--entities", "folder"], "", [f"folder: {FOLDER}"], 2),
     (["clean", "--policy", "policy", "page"], '<a href="x">y</a>', [], 0),
     (["clean", "--policy", "policy", "other"], "\n", [], 0),
-    (["clean", "--policy", "empty", "page"], "y", [], 0),
     (["clean", "--policy", "missing"], "", [f"missing: {MISSING}"], 2),
 ]
 
