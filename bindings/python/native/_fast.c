@@ -12,8 +12,9 @@
 
 /* ---- a reader's parts */
 
-/* A name that was met: its str, and what the reader's table says of it, or null. One without a str is none. */
+/* A name that was met: its str once that was asked for, and what the reader's table says of it, or null. */
 typedef struct {
+    bool is_met;
     PyObject *str;
     PyObject *meaning;
     size_t len;
@@ -87,11 +88,12 @@ static PyObject *held_str(reader *self) {
 static void forget(name *known) {
     Py_DecRef(known->str);
     known->str = NULL;
-    known->meaning = NULL;
+    known->is_met = false;
 }
 
 /* Sets what the reader's table says of a name. The table keeps it. */
 static bool look_up(reader *self, name *known, html5_text text) {
+    known->meaning = NULL;
     if (!self->table) return true;
     PyObject *bytes = PyBytes_FromStringAndSize(text.at, (Py_ssize_t)text.len);
     if (!bytes) return false;
@@ -104,10 +106,9 @@ static bool look_up(reader *self, name *known, html5_text text) {
 static bool learn(reader *self, name *known, html5_text text) {
     forget(known);
     if (!look_up(self, known, text)) return false;
-    known->str = str_of(text);
-    if (!known->str) return false;
     known->len = text.len;
     if (text.len <= sizeof known->bytes) memcpy(known->bytes, text.at, text.len);
+    known->is_met = true;
     return true;
 }
 
@@ -117,13 +118,14 @@ static name *name_of(reader *self, html5_text text) {
     size_t sum = text.len;
     for (size_t at = 0; at < text.len; at++) sum = sum * 31 + (unsigned char)text.at[at];
     name *known = &self->names[sum % NAMES];
-    if (known->str && known->len == text.len && memcmp(known->bytes, text.at, text.len) == 0) return known;
+    if (known->is_met && known->len == text.len && memcmp(known->bytes, text.at, text.len) == 0) return known;
     return learn(self, known, text) ? known : NULL;
 }
 
 static PyObject *name_str(reader *self, html5_text text) {
     name *known = name_of(self, text);
     if (!known) return NULL;
+    if (!known->str) known->str = str_of(text);
     Py_IncRef(known->str);
     return known->str;
 }
@@ -218,13 +220,11 @@ static PyObject *attributes_of(reader *self, html5_attributes left) {
     return pairs;
 }
 
-static bool append_tag(reader *self, PyObject *found, const html5_token *tag, PyObject *named) {
-    Py_IncRef(named);
-    PyObject *attributes = attributes_of(self, tag->attributes);
+static bool append_tag(reader *self, PyObject *found, const html5_token *tag) {
     PyObject *members[] = {
         line_of(self, tag->line),
-        named,
-        attributes,
+        name_str(self, tag->text),
+        attributes_of(self, tag->attributes),
         PyBool_FromLong(tag->self_closing),
         PyBool_FromLong(tag->duplicate_attributes),
     };
@@ -291,8 +291,7 @@ static bool text_as_token(reader *self, html5_text part, PyObject *found) {
 static bool tag_as_token(reader *self, html5_token *tag, PyObject *found) {
     name *named = name_of(self, tag->text);
     if (!named) return false;
-    if (self->table && !named->meaning) return true;
-    return append_tag(self, found, tag, named->str);
+    return (self->table && !named->meaning) || append_tag(self, found, tag);
 }
 
 static bool token_as_token(reader *self, html5_token *token, PyObject *found) {

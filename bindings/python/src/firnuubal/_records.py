@@ -192,7 +192,7 @@ class Reader:
         tokens = []
         try:
             end = self._read_records(taken, tokens)
-        except (struct.error, LookupError):
+        except (struct.error, LookupError, OverflowError):
             end = None
         if end != len(taken):
             raise ValueError("what was taken is no whole record")
@@ -248,12 +248,14 @@ class Reader:
         return end
 
     def _read_other(self, kind, taken, at, tokens):
+        if kind == _ERROR and not self._errors:
+            self._line, size = _two_numbers(taken, at)
+            return at + 16 + size
+        if self._run:
+            self._end_run(tokens)
         token, at = _other(kind, taken, at)
         self._line = token.line
-        if self._errors or kind != _ERROR:
-            if self._run:
-                self._end_run(tokens)
-            tokens.append(token)
+        tokens.append(token)
         return at
 
     def _end_run(self, tokens):
