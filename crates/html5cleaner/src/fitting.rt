@@ -1,7 +1,7 @@
 //! Whether a run of text and a tag fit in the tree of a page as they are.
 ghost use Rattle.std.specs.Prelude.{◌≡◌, List, [], ◌∷◌, ◌++◌, chars, true};
 ghost use Rattle.html5write.specs.Pieces.{NameAndValue};
-ghost use Rattle.html5write.specs.Pieces.Piece.{EndTagPiece, StartTagPiece};
+ghost use Rattle.html5write.specs.Pieces.Piece.{EndTagPiece, StartTagPiece, TextPiece};
 ghost use Rattle.html5cleaner.specs.Fits.{ComesFirst, IsFit};
 ghost use Rattle.html5cleaner.specs.Kept.{piece_where};
 
@@ -23,16 +23,21 @@ pub enum Fit {
     Closes,
 }
 
+// Whether a text fits. It opens no element and closes none.
+fn text_fits<A: Allocator>(nesting: &Nesting<A>, text: &str) -> bool
+    ensures { result ≡ true → ComesFirst nesting.now (TextPiece (chars text.now) ∷ []) }
+{
+    let _open = nesting.depth();
+    nesting.text_fits(text)
+}
+
 // Whether a run of text fits, if there is one.
 fn run_fits<A: Allocator>(nesting: &Nesting<A>, run: Option<Piece<'_>>) -> bool
     ensures { result ≡ true → ComesFirst nesting.now (piece_where run.entry) }
 {
     match run {
         None => true,
-        Some(Piece::Text(text)) => {
-            let _open = nesting.depth();
-            nesting.text_fits(text)
-        }
+        Some(Piece::Text(text)) => text_fits(nesting, text),
         Some(_) => false,
     }
 }

@@ -143,7 +143,7 @@ fn write_opening<A: Allocator + Copy>(
     tag: Option<Piece<'_>>,
     name: ElementName,
 ) -> Result<Pending, WriteError>
-    requires { IsFit (Opens name) opened.old.tree (piece_where run.entry ++ piece_where tag.entry) }
+    requires { IsFit (Opens name) opened.old.tree (piece_where run ++ piece_where tag) }
     ensures { Settles (Tree opened.old.tree.limit) result page.old page.new opened.old opened.new
         (written_by (Tree opened.old.tree.limit) false opened.old.tree.opened (piece_where run.entry ++ piece_where tag.entry))
         (open_by (Tree opened.old.tree.limit) false opened.old.tree.opened (piece_where run.entry ++ piece_where tag.entry)) }
