@@ -1,4 +1,4 @@
-use Rattle.std.proofs.Common.{ap, subst, sym, ◌≤◌, ◌∙◌}
+use Rattle.std.proofs.Common.{ap, sym, ◌∙◌}
 use Rattle.html5tree.specs.Fitting.{fits}
 use Rattle.html5tree.specs.Items.Item.{EndTag}
 use Rattle.html5cleaner.proofs.FittingPieces.{end-closes}
