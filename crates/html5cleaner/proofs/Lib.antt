@@ -9,6 +9,7 @@ pub mod ItemPieces
 pub mod Balancing
 pub mod TreePages
 pub mod TreeSteps
+pub mod FittingPieces
 pub mod CleanBalanced
 pub mod CleanPieces
 pub mod Links

@@ -113,7 +113,7 @@ one-open : (limit : ℕ) (opened : List (List ℕ)) (item : Item) (items : List 
 unfolding open_after_all
 one-open limit opened item items f l = ap (λ o. open_after_all limit o items) (unchanged-item limit opened item f l).after_is
 
-tree-run_where : (limit : ℕ) (ends : Bool) (opened : List (List ℕ)) (text : List ℕ) (writable : Bool) (later : List Piece) → TextFits (Tree limit) opened text
+pub tree-run_where : (limit : ℕ) (ends : Bool) (opened : List (List ℕ)) (text : List ℕ) (writable : Bool) (later : List Piece) → TextFits (Tree limit) opened text
     → written_by (Tree limit) ends opened ((if writable then TextPiece text ∷ [] else []) ++ later)
     ≡ (if writable then TextPiece text ∷ [] else []) ++ written_by (Tree limit) ends opened later
 unfolding written_by items_of open_after
@@ -122,7 +122,7 @@ tree-run_where limit ends opened text true later fit =
     ∙ ap (λ p. p ∷ (pieces_in (all_fitted limit opened (items_of later)) ++ closed_at_end ends (open_after_all limit opened (items_of later)))) (text-back text)
 tree-run_where limit ends opened text false later fit = refl
 
-tree-open_where : (limit : ℕ) (ends : Bool) (opened : List (List ℕ)) (text : List ℕ) (writable : Bool) (later : List Piece) → TextFits (Tree limit) opened text
+pub tree-open_where : (limit : ℕ) (ends : Bool) (opened : List (List ℕ)) (text : List ℕ) (writable : Bool) (later : List Piece) → TextFits (Tree limit) opened text
     → open_by (Tree limit) ends opened ((if writable then TextPiece text ∷ [] else []) ++ later) ≡ open_by (Tree limit) ends opened later
 unfolding open_by items_of open_after
 tree-open_where limit ends opened text true later fit =

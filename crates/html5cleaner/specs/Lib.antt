@@ -6,6 +6,7 @@ pub mod Balance
 pub mod Clean
 pub mod Settled
 pub mod Kept
+pub mod Fits
 pub mod Reading
 pub mod Urls
 pub mod Cleaning

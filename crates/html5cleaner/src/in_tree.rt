@@ -6,15 +6,19 @@ ghost use Rattle.html5write.specs.Pieces.Piece.{EndTagPiece, StartTagPiece, Text
 ghost use Rattle.html5write.specs.Writing.{attribute_of, piece_of};
 ghost use Rattle.html5cleaner.specs.Balance.{is_end, open_by, written_by};
 ghost use Rattle.html5cleaner.specs.Clean.{kept_of_run, kept_of_tag, kept_where};
+ghost use Rattle.html5cleaner.specs.Fits.{IsFit};
+ghost use Rattle.html5cleaner.specs.declared.fitting.Fit.TheVariants.{Opens};
 ghost use Rattle.html5cleaner.specs.Kept.{AddsAll, AddsLast, Settles, piece_where};
 ghost use Rattle.html5cleaner.specs.Shape.Shape.{Tree};
 
 use crate::attributes::kept_attributes;
-use crate::kept::{is_end, kept_run, kept_tag};
+use crate::fitting::{Fit, fit_of};
+use crate::kept::{is_end, kept_run, kept_tag, write_kept};
 use crate::opened::{Opened, Pending};
 use html5ever_interface::interface::token::{Tag, Token};
 use html5nested::{Item, close_all, write_fitted};
 use html5policy::Policy;
+use html5tree::names::ElementName;
 use html5tree::nesting::Nesting;
 use html5write::laws::bytes;
 use html5write::{Attribute, Piece, WriteError, Writer};
@@ -131,6 +135,58 @@ fn write_in_tree<A: Allocator + Copy>(
     Ok(Pending::Tree)
 }
 
+// Opens an element of the tree, and writes a run of text and its start tag, which fit: all of it or nothing.
+fn write_opening<A: Allocator + Copy>(
+    opened: &mut Opened<A>,
+    page: &mut Writer<A>,
+    run: Option<Piece<'_>>,
+    tag: Option<Piece<'_>>,
+    name: ElementName,
+) -> Result<Pending, WriteError>
+    requires { IsFit (Opens name) opened.old.tree (piece_where run ++ piece_where tag) }
+    ensures { Settles (Tree opened.old.tree.limit) result page.old page.new opened.old opened.new
+        (written_by (Tree opened.old.tree.limit) false opened.old.tree.opened (piece_where run.entry ++ piece_where tag.entry))
+        (open_by (Tree opened.old.tree.limit) false opened.old.tree.opened (piece_where run.entry ++ piece_where tag.entry)) }
+{
+    opened.tree.start_tag(name)?;
+    match write_kept(page, run, tag) {
+        Ok(()) => Ok(Pending::Opened),
+        Err(error) => {
+            opened.tree.close_one();
+            Err(error)
+        }
+    }
+}
+
+// Writes a run of text and a tag within a page, all of it or nothing: as they are where both fit, as most do, and
+// else made to fit.
+fn write_within<A: Allocator + Copy>(
+    alloc: A,
+    limit: usize,
+    opened: &mut Opened<A>,
+    page: &mut Writer<A>,
+    run: Option<Piece<'_>>,
+    tag: Option<Piece<'_>>,
+) -> Result<Pending, WriteError>
+    requires { limit ≡ opened.old.tree.limit }
+    ensures { Settles (Tree opened.old.tree.limit) result page.old page.new opened.old opened.new
+        (written_by (Tree opened.old.tree.limit) false opened.old.tree.opened (piece_where run.entry ++ piece_where tag.entry))
+        (open_by (Tree opened.old.tree.limit) false opened.old.tree.opened (piece_where run.entry ++ piece_where tag.entry)) }
+{
+    match fit_of(&opened.tree, limit, run, tag) {
+        Fit::Unfit => write_in_tree(alloc, opened, page, run, tag, false),
+        Fit::Stays => {
+            write_kept(page, run, tag)?;
+            Ok(Pending::Nothing)
+        }
+        Fit::Closes => {
+            write_kept(page, run, tag)?;
+            Ok(Pending::Closes)
+        }
+        Fit::Opens(name) => write_opening(opened, page, run, tag, name),
+    }
+}
+
 // Writes what is kept of a run of text and the tag after it so that it fits, all of it or nothing.
 fn keep_tag<A: Allocator + Copy>(
     alloc: A,
@@ -140,13 +196,14 @@ fn keep_tag<A: Allocator + Copy>(
     run: &str,
     tag: &Tag<A>,
 ) -> Result<Pending, WriteError>
+    requires { opened.old.tree.limit ≡ policy.now.depth }
     ensures { Settles (Tree opened.old.tree.limit) result page.old page.new opened.old opened.new
         (written_by (Tree opened.old.tree.limit) false opened.old.tree.opened (kept_of_run run.now ++ kept_of_tag policy.now (tag_of tag.now)))
         (open_by (Tree opened.old.tree.limit) false opened.old.tree.opened (kept_of_run run.now ++ kept_of_tag policy.now (tag_of tag.now))) }
 {
     let attributes = kept_attributes(alloc, policy, &tag.name.0, &tag.attrs)?;
     let tag = kept_tag(policy, tag.kind, &tag.name.0, &attributes);
-    write_in_tree(alloc, opened, page, kept_run(run), tag, false)
+    write_within(alloc, policy.depth(), opened, page, kept_run(run), tag)
 }
 
 /// Writes what is kept of a run of text and the token after it so that it fits, all of it or nothing, where so many
@@ -160,6 +217,7 @@ pub fn keep_in_tree<A: Allocator + Copy>(
     run: &str,
     token: &Token<A>,
 ) -> Result<Pending, WriteError>
+    requires { opened.old.tree.limit ≡ policy.now.depth }
     ensures { Settles (Tree opened.old.tree.limit) result page.old page.new opened.old opened.new
         (written_by (Tree opened.old.tree.limit) (is_end (told_by token.now)) opened.old.tree.opened (kept_where policy.now depth run.now (told_by token.now)))
         (open_by (Tree opened.old.tree.limit) (is_end (told_by token.now)) opened.old.tree.opened (kept_where policy.now depth run.now (told_by token.now))) }
@@ -169,10 +227,10 @@ pub fn keep_in_tree<A: Allocator + Copy>(
         return write_in_tree(alloc, opened, page, kept_run(shown), None, true);
     }
     if depth != 0 {
-        return write_in_tree(alloc, opened, page, None, None, false);
+        return write_within(alloc, policy.depth(), opened, page, None, None);
     }
     match token {
         Token::TagToken(tag) => keep_tag(alloc, policy, opened, page, run, tag),
-        _ => write_in_tree(alloc, opened, page, kept_run(run), None, false),
+        _ => write_within(alloc, policy.depth(), opened, page, kept_run(run), None),
     }
 }

@@ -22,7 +22,14 @@ pub struct Opened<A: Allocator> {
 #[derive(Clone, Copy, Debug, PartialEq, Eq)]
 pub enum Pending {
     Tags(Change),
+    /// What will be open in the tree takes the place of what is.
     Tree,
+    /// What is open stays open.
+    Nothing,
+    /// The innermost element of the tree was opened.
+    Opened,
+    /// The innermost element of the tree is to be closed.
+    Closes,
 }
 
 impl<A: Allocator + Copy> Opened<A> {
@@ -45,6 +52,10 @@ impl<A: Allocator + Copy> Opened<A> {
         match pending {
             Pending::Tags(change) => self.tags.close(change.close),
             Pending::Tree => mem::swap(&mut self.tree, &mut self.next),
+            Pending::Nothing | Pending::Opened => {}
+            Pending::Closes => {
+                self.tree.close_one();
+            }
         }
     }
 
@@ -54,7 +65,10 @@ impl<A: Allocator + Copy> Opened<A> {
     {
         match pending {
             Pending::Tags(change) => self.tags.close(change.undo),
-            Pending::Tree => {}
+            Pending::Tree | Pending::Nothing | Pending::Closes => {}
+            Pending::Opened => {
+                self.tree.close_one();
+            }
         }
     }
 }

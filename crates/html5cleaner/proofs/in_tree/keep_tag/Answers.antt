@@ -21,5 +21,5 @@ returns g c =
     let attributes = ap (map writing.attribute_of) c.deref-4.ensures.value ∙ c.in_ok-attributes.ensures
     ∙ attributes-same c.args.policy.now _ _ _ _ (ap chars c.deref.ensures) (ap (λ l. map attribute_chars (map attribute_of l)) c.deref-2.ensures.value) in
     let tag = c.kept_tag-tag.ensures ∙ parts-same c.args.policy.now _ _ _ _ _ (ap chars c.deref-3.ensures) attributes in
-    settles-same (Tree c.args.opened.now.tree.limit) c.write_in_tree.result c.args.page.now c.write_in_tree.new.page c.args.opened.now c.write_in_tree.new.opened false false
-    c.args.opened.now.tree.opened _ _ refl ((λ i. c.kept_run.ensures i ++ tag i)) c.write_in_tree.ensures
+    settles-same (Tree c.args.opened.now.tree.limit) c.write_within.result c.args.page.now c.write_within.new.page c.args.opened.now c.write_within.new.opened false false
+    c.args.opened.now.tree.opened _ _ refl ((λ i. c.kept_run.ensures i ++ tag i)) c.write_within.ensures
