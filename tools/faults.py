@@ -4,10 +4,11 @@
     python3 tools/faults.py [--self-test]
 
 Each request is refused in turn, each read of a byte and each write of a byte fails in turn, until a run has no such call
-left. After each is compared what was printed, what was said and the status, with what was written by hand in
-tools/faults_rows.py: so a refusal that is swallowed shows, and a byte that is printed after a failure. Reads and writes
-of a byte each change nothing. The programs are those that `rt ci` proved and left in crates/firnuubal/out and
-crates/html5tok/out. The calls fail by tools/faults.c, which gcc builds; where there is none, that is said.
+left; by the standard's table, which asks for memory some two thousand times, many of the requests are. After each is
+compared what was printed, what was said and the status, with what was written by hand in tools/faults_rows.py: so a
+refusal that is swallowed shows, and a byte that is printed after a failure. Reads and writes of a byte each change
+nothing. The programs are those that `rt ci` proved and left in crates/firnuubal/out and crates/html5tok/out. The calls
+fail by tools/faults.c, which gcc builds; where there is none, that is said.
 
 By --self-test the same is tried of a small program, tools/faults_planted.c, with a mistake in each run. Each must be
 found, and nothing where there is no mistake. Each run that differs is said, and then the status is 1.

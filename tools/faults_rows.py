@@ -98,6 +98,10 @@ def filters():
     yield by_own(["links"], b'<a href="&own;">y\n<img src=z>', links, *of_page(links))
     text = "a\u2603bd"
     yield by_own(["text"], b"a&own;<p>b<script>c</script>d", text, *of_page(text))
+    text = "a\u65e5b"
+    # A decoder that wants for memory is a source of which a read fails.
+    ends = (End(said("-", "a read failed"), 1, text), *of_page(text))
+    yield by_own(["text", "--encoding", "shift_jis"], b"a\x93\xfa<p>b", text, *ends)
     kept = '<p title="\u2603">a &#60; b<a href="x">c</a>'
     page = b'<p title="&own;" onclick=x>a < b<a href=x>c</a><script>d'
     yield by_own(["clean"], page, kept, NO_SETTINGS, *of_page(kept))
@@ -169,10 +173,11 @@ def refused():
 # line is closed by the next token; the last run of text ends at the end of the page; a tag brings the text in front of it.
 LINES = 'start 1 "p"\ntext "a'
 PAGES = [
-    ("tokens", b"<p>a", LINES + '"\neof 1\n', [(0, ""), (3, 'start 1 "p"\n'), (4, LINES)]),
-    ("links", b"<a href=x>y<a href=z>", "1 x\n1 z\n", [(0, ""), (10, "1 x\n"), (21, "1 x\n1 z\n")]),
-    ("text", b"a<p>bc", "abc", [(0, ""), (4, "a")]),
-    ("clean", b"<p>a<b x>c", "<p>a<b>c", [(0, ""), (3, "<p>"), (9, "<p>a<b>")]),
+    (["tokens"], b"<p>a", LINES + '"\neof 1\n', [(0, ""), (3, 'start 1 "p"\n'), (4, LINES)]),
+    (["links"], b"<a href=x>y<a href=z>", "1 x\n1 z\n", [(0, ""), (10, "1 x\n"), (21, "1 x\n1 z\n")]),
+    (["text"], b"a<p>bc", "abc", [(0, ""), (4, "a")]),
+    (["text", "--encoding", "latin1"], b"a<p>b\xe9", "ab\u00e9", [(0, ""), (4, "a")]),
+    (["clean"], b"<p>a<b x>c", "<p>a<b>c", [(0, ""), (3, "<p>"), (9, "<p>a<b>")]),
 ]
 
 
@@ -180,7 +185,7 @@ def failing_reads():
     """Where a read fails."""
     for command, given, printed, after in PAGES:
         failing = tuple(Failing(reads, text, said("-", WHY_FAILED), 1) for reads, text in after)
-        yield Row(["firnuubal", command], given, printed, failing=failing)
+        yield Row(["firnuubal", *command], given, printed, failing=failing)
     yield Row(["firnuubal", "links", "--wrong"], b"a", "", said("--wrong", "no such option; try --help"), 2)
     for words, given, lines in [(PLAIN, MIXED, MIXED_LINES), (["html5tok"], META, META_LINES)]:
         yield Row(words, given, lines, failing=(Failing(0, "", UNREAD, 6),))
@@ -200,7 +205,7 @@ REFUSALS = (
 def failing_writes():
     """Where a write fails."""
     for command, given, printed, _ in PAGES:
-        yield by_own([command], given, printed)._replace(refusals=REFUSALS)
+        yield by_own(command, given, printed)._replace(refusals=REFUSALS)
     yield Row(["firnuubal", "--version"], b"", VERSION, refusals=REFUSALS)
     for words, text in [(["--help"], HELP["help"]), (["clean", "--print-policy"], POLICY)]:
         yield Row(["firnuubal", *words], b"", text, refusals=REFUSALS, writes=(1, 2, 500))
