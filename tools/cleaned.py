@@ -14,19 +14,14 @@ nothing. The program is the one that `rt ci` proved and left in crates/firnuubal
 then the status is 1.
 """
 
-import contextlib
 import json
-import os
 import pathlib
-import subprocess
 import sys
 import tempfile
 
-TOP = pathlib.Path(__file__).resolve().parent.parent
-PROGRAM = TOP / "crates/firnuubal/out/firnuubal"
+import commands
 
-# The most bytes that are read at once.
-WHOLE = 4096
+TOP = pathlib.Path(__file__).resolve().parent.parent
 
 # Policies, pages and what is printed of them, where many elements are open or many rules are said.
 MANY = range(200)
@@ -42,24 +37,18 @@ LONG = [
 ]
 
 
-def run(folder, policy, page, size):
-    """What the program prints, says and ends with. One read takes so many bytes of the page."""
-    words = []
+def run(folder, policy, page, size=None):
+    """What the program prints, says and ends with, where a read takes so many bytes of the page, or as many as it can."""
+    words = ["firnuubal", "clean"]
     if policy is not None:
-        (folder / "policy").write_text(policy, encoding="utf-8", newline="")
-        words = ["--policy", "policy"]
-    # By O_DIRECT a read takes what one write wrote, and no more.
-    source, target = os.pipe2(os.O_DIRECT | os.O_CLOEXEC)
-    with open(folder / "printed", "w+b") as printed:
-        streams = {"stdin": source, "stdout": printed, "stderr": subprocess.PIPE}
-        with subprocess.Popen([PROGRAM, "clean", *words], cwd=folder, **streams) as process:
-            os.close(source)
-            with open(target, "wb", buffering=0) as pipe, contextlib.suppress(BrokenPipeError):
-                for at in range(0, len(page), size):
-                    pipe.write(page[at : at + size])
-            said = process.stderr.read()
-        printed.seek(0)
-        return printed.read().decode(), said.decode(), process.returncode
+        (folder / "policy").write_bytes(policy.encode())
+        words += ["--policy", "policy"]
+    given = page.encode()
+    if size is None:
+        ran = commands.run(folder, words, input=given)
+    else:
+        ran = commands.run_by_pieces(folder, words, [given[at : at + size] for at in range(0, len(given), size)])
+    return ran.stdout.decode(), ran.stderr.decode(), ran.returncode
 
 
 def shown(ran):
@@ -68,11 +57,11 @@ def shown(ran):
     return text if len(text) < 2000 else f"{text[:2000]}.."
 
 
-def of_page(folder, policy, page, printed, sizes=(WHOLE, 1, 2, 3)):
-    """What differs where a page is cleaned, read in pieces of these sizes, and where that is cleaned once more."""
-    runs = [(f"in pieces of {size}", page, size) for size in sizes] + [("once more", printed, WHOLE)]
+def of_page(folder, policy, page, printed, sizes=(1, 2, 3)):
+    """What differs where a page is cleaned, whole and in pieces of these sizes, and where that is cleaned once more."""
+    runs = [("whole", page, None), *((f"in pieces of {size}", page, size) for size in sizes), ("once more", printed, None)]
     for how, text, size in runs:
-        found = run(folder, policy, text.encode(), size)
+        found = run(folder, policy, text, size)
         if found != (printed, "", 0):
             return f"{policy!r}, {shown(page)}, {how}: expected {shown(printed)}, found {shown(found)}"
     return ""
@@ -81,7 +70,7 @@ def of_page(folder, policy, page, printed, sizes=(WHOLE, 1, 2, 3)):
 def of_fault(folder, policy, line, fault):
     """What differs where a policy is refused."""
     expected = ("", f"firnuubal: policy: line {line}: {fault}\n", 2)
-    found = run(folder, policy, b"<p>1", WHOLE)
+    found = run(folder, policy, "<p>1")
     return "" if found == expected else f"{policy!r}: expected {expected!r}, found {shown(found)}"
 
 
@@ -101,7 +90,7 @@ def main():
     with tempfile.TemporaryDirectory() as name:
         folder = pathlib.Path(name)
         found = [answer for rows in ("hostile", "cleaned") for answer in of_rows(folder, TOP / f"tools/{rows}.jsonl")]
-        found += [of_page(folder, *row, sizes=(WHOLE,)) for row in LONG]
+        found += [of_page(folder, *row, sizes=()) for row in LONG]
     faults = list(filter(None, found))
     for answer in faults:
         print(f"tools/cleaned.py: {answer}")
