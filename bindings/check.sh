@@ -98,7 +98,7 @@ serves_as_a_wheel() {
     python3 -m venv "$env"
     FIRNUUBAL_LIB=$library "$env/bin/pip" wheel --quiet --no-index --no-deps --wheel-dir "$wheels" ./python
     "$env/bin/pip" install --quiet --no-index "$wheels"/firnuubal-*.whl
-    (cd "$out" && "$env/bin/python" -c 'import firnuubal; assert firnuubal.clean("<p onclick=x>1") == "<p>1"')
+    (cd "$out" && "$env/bin/python" -c 'import firnuubal; assert firnuubal.clean("<p onclick=x>1") == "<p>1</p>"')
 }
 
 in_c() {
