@@ -14,6 +14,8 @@ mod options;
 #[cfg(test)]
 mod print_sink;
 #[cfg(test)]
+mod refusing;
+#[cfg(test)]
 mod small_char_set;
 #[cfg(test)]
 mod states;
