@@ -49,7 +49,7 @@ class Cleaning(unittest.TestCase):
 
     def test_a_page_whose_pieces_are_cleaned(self):
         pieces = ("<p>", clean("<b>1</b>"), "2")
-        self.assertEqual(clean(clean(piece) for piece in pieces), "<p><b>1</b>2</p>")
+        self.assertEqual(clean(clean(piece) for piece in pieces), "<p></p><b>1</b>2")
 
     def test_more_policies_than_are_kept(self):
         for _ in range(2):
