@@ -1,8 +1,12 @@
-//! Worked cases of what the tokenizer stands on, and of the sinks beside it.
+//! Worked cases of what the tokenizer stands on, of the sinks beside it, and of the texts of errors.
 #![tactic(auto)]
 
 #[cfg(test)]
+mod bytes;
+#[cfg(test)]
 mod collector;
+#[cfg(test)]
+mod errors;
 #[cfg(test)]
 mod links;
 #[cfg(test)]
