@@ -5,7 +5,8 @@
 
 All read pages as they arrive. A time is the processor time of a process, user and system, the best of some runs in
 which the programs take turns. The peak of memory is read where all but the end of the input was handed in. MB are
-1,000,000 bytes. Where html5ever can't be built the programs are timed alone.
+1,000,000 bytes. Where html5ever can't be built the programs are timed alone. What cleans over html5ever makes no tree, so
+beside it stands `clean` by the standard policy without the rule `tree`, and `clean` with it alone.
 """
 
 import argparse
@@ -20,13 +21,24 @@ import corpora
 import measure
 
 PROGRAM = pathlib.Path(__file__).resolve().parent.parent / "crates/firnuubal/out/firnuubal"
+NO_TREE = "clean without tree"
 # What does the same work over html5ever: a program of beside/ and its words.
-COMMANDS = {"links": ["pages", "links"], "text": ["pages", "text"], "clean": ["clean"]}
+COMMANDS = {"links": ["pages", "links"], "text": ["pages", "text"], NO_TREE: ["clean"], "clean": None}
 
 
-def peak_memory(command, corpus):
+def words_of(name, folder):
+    """The words of a command."""
+    if name != NO_TREE:
+        return [name]
+    policy = subprocess.run([PROGRAM, "clean", "--print-policy"], capture_output=True, check=True).stdout
+    file = folder / "policy"
+    file.write_bytes(policy.replace(b"\ntree\n", b"\n"))
+    return ["clean", "--policy", str(file)]
+
+
+def peak_memory(words, corpus):
     """The most memory that a command had after the whole input, in bytes."""
-    process = subprocess.Popen([PROGRAM, command], stdin=subprocess.PIPE, stdout=subprocess.DEVNULL)
+    process = subprocess.Popen([PROGRAM, *words], stdin=subprocess.PIPE, stdout=subprocess.DEVNULL)
     with process.stdin, open(corpus, "rb") as source:
         while piece := source.read(1 << 16):
             process.stdin.write(piece)
@@ -54,13 +66,14 @@ def difference(name, turns):
 
 def print_command(name, corpus, beside, runs):
     """Prints the row of a command and a corpus; `beside` is where the programs over html5ever are."""
-    turns = [(PROGRAM, [name], corpus)]
-    if beside:
+    own = words_of(name, corpus.parent)
+    turns = [(PROGRAM, own, corpus)]
+    if beside and COMMANDS[name]:
         other, *words = COMMANDS[name]
         turns.append((beside / other, words, corpus))
     size = corpus.stat().st_size / corpora.MB
     ours, *theirs = measure.best_times(turns, runs)
-    peak = peak_memory(name, corpus) / corpora.MB
+    peak = peak_memory(own, corpus) / corpora.MB
     cells = [f"`{name}`", f"{size:.0f}", f"{ours:.2f}", f"{size / ours:.0f}", f"{peak:.1f}"]
     for seconds in theirs:
         cells += [f"{seconds:.2f}", f"{seconds / ours:.2f}", difference(name, turns)]

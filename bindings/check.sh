@@ -95,7 +95,7 @@ serves_as_a_wheel() {
     python3 -m venv "$env"
     FIRNUUBAL_LIB=$library "$env/bin/pip" wheel --quiet --no-index --no-deps --wheel-dir "$wheels" ./python
     "$env/bin/pip" install --quiet --no-index "$wheels"/firnuubal-*.whl
-    (cd "$out" && "$env/bin/python" -c "import firnuubal as f; assert (f.clean('<p onclick=x>1'), f.IS_FAST) == ('<p>1', $is_fast)")
+    (cd "$out" && "$env/bin/python" -c "import firnuubal as f; assert (f.clean('<p onclick=x>1'), f.IS_FAST) == ('<p>1</p>', $is_fast)")
 }
 
 # Whether Python's extension is beside the library.

@@ -1,16 +1,23 @@
 #!/usr/bin/env python3
 """Has a real browser read what firnuubal clean prints, and says what it finds that the policy doesn't allow.
 
-    python3 tools/browser.py [FOLDER..]
+    python3 tools/browser.py [--tree] [FOLDER..]
 
 Cleaned by the standard policy are the texts of tools/hostile.jsonl, and 300 HTML files of each folder. Chromium
 (Debian's, headless) puts each cleaned page into an element of a page, waits for what that loads, and looks at each
 element: its name, its attributes, and the scheme that an address has. It also counts scripts that ran. What the
 policy keeps is said by tools/model/cleaning.py. The program is the one that `rt ci` left in crates/firnuubal/out.
 
-Status 0: nothing was found that is not allowed. 1: something was. 2: there is no browser here, or no program.
+With --tree it also asks whether the tree that Chromium built is the nesting of the page's tags, as Python's html.parser
+reads them. Each page is built twice: as a page's `innerHTML` alone, for which Chromium has a short way, and after a
+comment, where it has not. What `innerHTML` writes of the tree has to be built and written again as the same.
+
+Status 0: nothing was found that is not allowed, and each tree is the nesting. 1: something was. 2: there is no browser
+here, or no program.
 """
 
+import argparse
+import html.parser
 import json
 import os
 import pathlib
@@ -20,7 +27,7 @@ import subprocess
 import sys
 import tempfile
 
-from model.cleaning import ADDRESSES, STANDARD, policy_of
+from model.cleaning import ADDRESSES, STANDARD, VOID, policy_of
 
 TOP = pathlib.Path(__file__).resolve().parent.parent
 PROGRAM = TOP / "crates/firnuubal/out/firnuubal"
@@ -44,6 +51,26 @@ function look(node) {
         if (!given.schemes.includes(url.protocol)) found.push([of, "address " + value])
     }
 }
+const escaped = text => text.replaceAll("&", "&amp;").replaceAll("<", "&lt;").replaceAll('"', "&quot;")
+function shown(node) {
+    let text = ""
+    for (const child of node.childNodes) {
+        if (child.nodeType === Node.TEXT_NODE) { text += escaped(child.data); continue }
+        text += "<" + child.nodeName.toLowerCase()
+        for (const {name, value} of child.attributes ?? []) text += ` ${name}="${escaped(value)}"`
+        text += ">" + shown(child) + "</>"
+    }
+    return text
+}
+function compare(tree, page) {
+    const whole = document.createElement("div"), again = document.createElement("div")
+    whole.innerHTML = "<!---->" + page
+    whole.firstChild.remove()
+    for (const built of [holder, whole]) if (shown(built) !== tree) found.push([of, "another tree: " + built.innerHTML.slice(0, 500)])
+    // What innerHTML writes loses two things: a line feed straight after <pre>, and a CR, which is read as a line feed.
+    again.innerHTML = holder.innerHTML.replace(/(<pre[^>]*>)\\n/g, "$1\\n\\n").replaceAll("\\r", "&#13;")
+    if (again.innerHTML !== holder.innerHTML) found.push([of, "written otherwise: " + again.innerHTML.slice(0, 500)])
+}
 const holder = document.createElement("div")
 document.body.append(holder)
 let elements = 0
@@ -51,6 +78,7 @@ for (const page of given.pages) {
     of += 1
     holder.innerHTML = page
     for (const node of holder.querySelectorAll("*")) { elements += 1; look(node) }
+    if (given.trees) compare(given.trees[of], page)
 }
 holder.innerHTML = ""
 const say = () => { document.getElementById("found").textContent = "FOUND" + JSON.stringify({found, elements, ran}) + "END" }
@@ -65,6 +93,45 @@ def cleaned(page):
     return subprocess.run([PROGRAM, "clean"], input=text, capture_output=True, check=True).stdout.decode()
 
 
+def escaped(text):
+    return text.replace("&", "&amp;").replace("<", "&lt;").replace('"', "&quot;")
+
+
+class Nesting(html.parser.HTMLParser):
+    """The tree that the tags of a cleaned page show, as the driver shows one. A tag that closes another is said in it."""
+
+    def __init__(self):
+        super().__init__()
+        self.shown, self.opened, self.is_fresh = [], [], False
+
+    def handle_starttag(self, name, attributes):
+        said = "".join(f' {key}="{escaped(value)}"' for key, value in attributes)
+        self.shown.append(f"<{name}{said}>")
+        if name in VOID:
+            self.shown.append("</>")
+        else:
+            self.opened.append(name)
+        self.is_fresh = name == "pre"
+
+    def handle_endtag(self, name):
+        is_innermost = self.opened[-1:] == [name]
+        self.shown.append("</>" if is_innermost else f"</{name} where {self.opened} are open>")
+        self.opened = self.opened[:-1] if is_innermost else self.opened
+        self.is_fresh = False
+
+    def handle_data(self, text):
+        text = text.removeprefix("\n") if self.is_fresh else text
+        self.shown.append(escaped(text))
+        self.is_fresh = False
+
+
+def nesting(page):
+    reader = Nesting()
+    reader.feed(page)
+    reader.close()
+    return "".join(reader.shown) + "".join(f"<{name} is open>" for name in reader.opened)
+
+
 def given_pages(folders):
     rows = (TOP / "tools/hostile.jsonl").read_text(encoding="utf-8").splitlines()
     pages = [(json.loads(row)[0], json.loads(row)[0].encode()) for row in rows]
@@ -72,15 +139,16 @@ def given_pages(folders):
         files = sorted(it for it in pathlib.Path(folder).rglob("*.htm*") if it.is_file())
         step = max(1, len(files) // PAGES)
         pages += [(str(file), file.read_bytes()) for file in files[::step][:PAGES]]
-    return pages
+    return [*pages, ("an i in an i, 600 times", b"<i>" * 600 + b"x")]
 
 
-def looked_at(browser, pages):
-    """What the browser finds in these cleaned pages."""
+def looked_at(browser, pages, trees):
+    """What the browser finds in these cleaned pages, of which it has to build these trees, if any are given."""
     policy = policy_of(STANDARD)
     given = {
         "pages": pages,
-        "elements": sorted(policy.elements | {"tbody", "tr", "colgroup"}),
+        "trees": trees,
+        "elements": sorted(policy.elements),
         "own": sorted(" ".join(own) for own in policy.own),
         "everywhere": sorted(policy.everywhere),
         "addresses": sorted(ADDRESSES),
@@ -100,6 +168,10 @@ def looked_at(browser, pages):
 
 
 def main():
+    parser = argparse.ArgumentParser(description=__doc__, formatter_class=argparse.RawDescriptionHelpFormatter)
+    parser.add_argument("--tree", action="store_true", help="compare the trees that are built with the tags")
+    parser.add_argument("folders", nargs="*", metavar="FOLDER", help="300 HTML files of each are taken, too")
+    words = parser.parse_args()
     browser = shutil.which("chromium") or shutil.which("chromium-browser")
     if browser is None:
         print("tools/browser.py: there is no chromium here (apt-get install chromium)")
@@ -107,8 +179,9 @@ def main():
     if not os.access(PROGRAM, os.X_OK):
         print(f"tools/browser.py: there is no {PROGRAM}; `rt ci` leaves it there")
         return 2
-    pages = given_pages(sys.argv[1:])
-    found = looked_at(browser, [cleaned(page) for _, page in pages])
+    pages = given_pages(words.folders)
+    kept = [cleaned(page) for _, page in pages]
+    found = looked_at(browser, kept, [nesting(page) for page in kept] if words.tree else None)
     for number, what in found["found"]:
         print(f"{pages[number][0]!r}: {what}")
     count = len(found["found"])

@@ -23,9 +23,12 @@ import commands
 
 TOP = pathlib.Path(__file__).resolve().parent.parent
 
-# Policies, pages and what is printed of them, where many elements are open or many rules are said.
+# Policies, or none for the standard one, pages and what is printed of them, where many elements are open or many rules
+# are said.
 MANY = range(200)
 LONG = [
+    (None, "<i>" * 600 + "1", "<i>" * 511 + "1" + "</i>" * 511),
+    (None, "<i>" * 510 + "<table>1 2", "<i>" * 510 + "<table> </table>" + "</i>" * 510),
     ("allow b\nallow i\nbalance", "<b>" * 20_000 + "</i>" * 20_000, "<b>" * 20_000 + "</b>" * 20_000),
     ("allow div\ntree", "<div>" * 511 + "1", "<div>" * 511 + "1" + "</div>" * 511),
     ("allow div\ntree", "<div>" * 600 + "1", "<div>" * 511 + "1" + "</div>" * 511),

@@ -59,7 +59,7 @@ PARTS = [
     (
         "<p id=x>a &amp; b <a href=y>c</a><!--d-->",
         130_000,
-        {"links": "1 y\n", "text": "a & b c", "clean": '<p>a &#38; b <a href="y">c</a>'},
+        {"links": "1 y\n", "text": "a & b c", "clean": '<p>a &#38; b <a href="y">c</a></p>'},
     ),
     ("abcdefghij", 100_000, {"links": "", "text": "abcdefghij", "clean": "abcdefghij"}),
 ]

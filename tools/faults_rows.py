@@ -102,7 +102,7 @@ def filters():
     # A decoder that wants for memory is a source of which a read fails.
     ends = (End(said("-", "a read failed"), 1, text), *of_page(text))
     yield by_own(["text", "--encoding", "shift_jis"], b"a\x93\xfa<p>b", text, *ends)
-    kept = '<p title="\u2603">a &#60; b<a href="x">c</a>'
+    kept = '<p title="\u2603">a &#60; b<a href="x">c</a></p>'
     page = b'<p title="&own;" onclick=x>a < b<a href=x>c</a><script>d'
     yield by_own(["clean"], page, kept, NO_SETTINGS, *of_page(kept))
     kept = '1<a href="https:x">2</a>'
@@ -177,7 +177,7 @@ PAGES = [
     (["links"], b"<a href=x>y<a href=z>", "1 x\n1 z\n", [(0, ""), (10, "1 x\n"), (21, "1 x\n1 z\n")]),
     (["text"], b"a<p>bc", "abc", [(0, ""), (4, "a")]),
     (["text", "--encoding", "latin1"], b"a<p>b\xe9", "ab\u00e9", [(0, ""), (4, "a")]),
-    (["clean"], b"<p>a<b x>c", "<p>a<b>c", [(0, ""), (3, "<p>"), (9, "<p>a<b>")]),
+    (["clean"], b"<p>a<b x>c", "<p>a<b>c</b></p>", [(0, ""), (3, "<p>"), (9, "<p>a<b>")]),
 ]
 
 

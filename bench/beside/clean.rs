@@ -1,9 +1,9 @@
-//! Prints of a page what is allowed, as firnuubal clean does, over html5ever.
+//! Prints of a page what is allowed, as firnuubal clean does by the standard policy without the rule `tree`, over html5ever.
 //!
 //!     clean
 //!
 //! It reads its input as it arrives and prints as it goes. What it keeps is what the policy of
-//! crates/html5cleaner/README.md says.
+//! crates/html5policy/README.md says.
 
 use beside::{read_input, reply, PIECE};
 use html5ever::tokenizer::{Tag, TagKind, Token, TokenSink, TokenSinkResult};

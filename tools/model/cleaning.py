@@ -1,4 +1,4 @@
-"""What firnuubal clean makes of a text: crates/html5policy/README.md, crates/firnuubal cleaner/README.md and, by the rule `tree`, normal.py."""
+"""What firnuubal clean makes of a text: crates/html5policy/README.md, crates/html5cleaner/README.md and, by the rule `tree`, normal.py."""
 
 from __future__ import annotations
 
@@ -35,6 +35,7 @@ allow ol start
 allow q cite
 everywhere title lang dir
 schemes http https mailto
+tree
 """ + "".join(
     f"allow {name}\n"
     for name in "abbr b br caption cite code dd div dl dt em h1 h2 h3 h4 h5 h6 hr i kbd li mark p pre s samp small span"

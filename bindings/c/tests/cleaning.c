@@ -53,7 +53,7 @@ static void cleans_a_page_in_pieces(void) {
     CHECK(html5_cleaner_restart(&cleaner) == HTML5_DONE);
     CHECK(feed(&cleaner, "<b>4") == HTML5_DONE);
     CHECK(html5_cleaner_end(&cleaner) == HTML5_DONE);
-    CHECK(takes(&cleaner, 256, "<b>4"));
+    CHECK(takes(&cleaner, 256, "<b>4</b>"));
     html5_free(&cleaner);
 }
 
@@ -82,7 +82,7 @@ static void says_where_bytes_are_no_text(void) {
     CHECK(!html5_cleaner_is_over(&cleaner));
     CHECK(feed(&cleaner, "d") == HTML5_DONE);
     CHECK(html5_cleaner_end(&cleaner) == HTML5_DONE);
-    CHECK(takes(&cleaner, 256, "<p>abcd"));
+    CHECK(takes(&cleaner, 256, "<p>abcd</p>"));
     html5_free(&cleaner);
 }
 

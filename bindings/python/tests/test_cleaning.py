@@ -11,7 +11,7 @@ import firnuubal
 from firnuubal import Cleaner, Policy, PolicyError, Status, TokenizerError, clean
 
 PAGE = "<p onclick=x>1 &lt; 2<script>x</script><a href=javascript:x>y</a>é"
-KEPT = "<p>1 &#60; 2<a>y</a>é"
+KEPT = "<p>1 &#60; 2<a>y</a>é</p>"
 
 
 def rows_of(name):
@@ -35,7 +35,7 @@ class Cleaning(unittest.TestCase):
 
     def test_one_page_after_the_other(self):
         with Cleaner() as cleaner:
-            self.assertEqual([cleaner.clean("<b>1"), cleaner.clean("<i>2")], ["<b>1", "<i>2"])
+            self.assertEqual([cleaner.clean("<b>1"), cleaner.clean("<i>2")], ["<b>1</b>", "<i>2</i>"])
 
     def test_worked_pages(self):
         for text, kept in rows_of("hostile"):
@@ -49,7 +49,7 @@ class Cleaning(unittest.TestCase):
 
     def test_a_page_whose_pieces_are_cleaned(self):
         pieces = ("<p>", clean("<b>1</b>"), "2")
-        self.assertEqual(clean(clean(piece) for piece in pieces), "<p><b>1</b>2")
+        self.assertEqual(clean(clean(piece) for piece in pieces), "<p></p><b>1</b>2")
 
     def test_more_policies_than_are_kept(self):
         for _ in range(2):
@@ -66,12 +66,15 @@ class Cleaning(unittest.TestCase):
                 cleaner.feed(b"c\xff")
             self.assertEqual((refused.exception.status, refused.exception.at), (Status.NOT_UTF8, 6))
             self.assertEqual(cleaner.feed("<b>"), "abc<b>")
-            self.assertEqual(cleaner.clean("<p>1"), "<p>1")
+            self.assertEqual(cleaner.clean("<p>1"), "<p>1</p>")
 
     def test_a_tree(self):
-        self.assertEqual(clean("<p>1<p>2", tree=True), "<p>1</p><p>2</p>")
-        self.assertEqual(clean("<table>x", tree=True), "<table><tbody><tr><td>x</td></tr></tbody></table>")
-        self.assertEqual(clean("<i><b>x</i>", tree=True, depth=1), "<i>x</i>")
+        self.assertEqual(clean("<p>1<p>2"), "<p>1</p><p>2</p>")
+        self.assertEqual(clean("<table>x"), "<table><tbody><tr><td>x</td></tr></tbody></table>")
+        self.assertEqual(clean("<i><b>x</i>", depth=1), "<i>x</i>")
+        self.assertEqual(clean("<p>1<p>2", tags={"p"}, tree=True), "<p>1</p><p>2</p>")
+        self.assertEqual(clean("<p>1<p>2", tags={"p"}), "<p>1<p>2")
+        self.assertEqual(clean("<p>1<p>2", tree=False), "<p>1<p>2")
         with self.assertRaises(PolicyError):
             Policy(tags={"p", "x-y"}, tree=True)
 
@@ -90,7 +93,7 @@ class Cleaning(unittest.TestCase):
         with self.assertRaises(TokenizerError) as refused:
             clean(b"\xc3")
         self.assertEqual(refused.exception.status, Status.CUT)
-        self.assertEqual(clean("<p>1"), "<p>1")
+        self.assertEqual(clean("<p>1"), "<p>1</p>")
 
     def test_a_closed_cleaner(self):
         cleaner = Cleaner()
@@ -117,10 +120,10 @@ class Policies(unittest.TestCase):
 
     def test_keywords(self):
         self.assertEqual(clean("<p class=x lang=y><b>1</b>", tags={"p"}), '<p lang="y">1')
-        self.assertEqual(clean("<p class=x lang=y>", attributes={"p": ["class"]}), '<p class="x">')
-        self.assertEqual(clean("<a href=ftp:x>", url_schemes=["ftp"]), '<a href="ftp:x">')
-        self.assertEqual(clean("<a href=x>", link_rel="noopener"), '<a href="x" rel="noopener">')
-        self.assertEqual(clean("<p>1<b>2</p>", balance=True), "<p>1<b>2</b></p>")
+        self.assertEqual(clean("<p class=x lang=y>", attributes={"p": ["class"]}), '<p class="x"></p>')
+        self.assertEqual(clean("<a href=ftp:x>", url_schemes=["ftp"]), '<a href="ftp:x"></a>')
+        self.assertEqual(clean("<a href=x>", link_rel="noopener"), '<a href="x" rel="noopener"></a>')
+        self.assertEqual(clean("<p>1<b>2</p><p>3<p>4", tags={"p", "b"}, balance=True), "<p>1<b>2</b></p><p>3<p>4</p></p>")
         self.assertEqual(clean("<q>1</q>2", tags={"p"}, clean_content_tags={"q"}), "2")
         self.assertEqual(clean("<p>1", tags=(), attributes={}, url_schemes=()), "1")
 
@@ -129,7 +132,7 @@ class Policies(unittest.TestCase):
         for tag in sorted(firnuubal.ALLOWED_TAGS | {"u", "form", "video", "font"}):
             for name in ("title", "href", "src", "alt", "width", "height", "start", "cite", "class", "id"):
                 for address in ("x", "http:x", "https:x", "mailto:x", "ftp:x"):
-                    page = f"<{tag} {name}={address}>1"
+                    page = f"<table><{tag} {name}={address}>1"
                     self.assertEqual(clean(page, lists), clean(page), page)
 
     def test_worked_faults(self):

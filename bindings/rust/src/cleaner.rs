@@ -8,7 +8,7 @@ use std::io::{self, Read, Write};
 /// What is kept of a page: the rules of a text, which were tried.
 ///
 /// `Policy::parse` takes the text form (crates/html5policy/README.md), `PolicyBuilder` elements, attributes and schemes
-/// one by one. `Policy::default` is the standard policy.
+/// one by one. `Policy::default` is the standard policy, which has the rule `tree`.
 #[derive(Clone, Debug, Default, PartialEq, Eq)]
 pub struct Policy {
     // No text is the standard policy.
@@ -53,16 +53,18 @@ impl Policy {
     }
 }
 
-/// What the standard policy keeps of a page: text, its blocks, lists and tables, links and images.
+/// What the standard policy keeps of a page: text, its blocks, lists and tables, links and images. It is made to fit, so
+/// that a browser builds it as its tags are nested.
 ///
 /// ```
-/// assert_eq!(firnuubal::clean("<p onclick=x>1 <a href=javascript:x>2</a>"), "<p>1 <a>2</a>");
+/// assert_eq!(firnuubal::clean("<p onclick=x>1 <a href=javascript:x>2</a>"), "<p>1 <a>2</a></p>");
 /// ```
 pub fn clean(page: &str) -> String {
     Policy::default().clean(page)
 }
 
-/// Makes a policy of elements, attributes and schemes, as ammonia's `Builder` does. It begins with none.
+/// Makes a policy of elements, attributes and schemes, as ammonia's `Builder` does. It begins with none, and without the
+/// rule `tree`.
 ///
 /// ```
 /// use firnuubal::PolicyBuilder;

@@ -3,7 +3,7 @@
 //! What the library says is proved; this crate, which calls it and reads its records, is not.
 //!
 //! ```
-//! assert_eq!(firnuubal::clean("<p onclick=x>1"), "<p>1");
+//! assert_eq!(firnuubal::clean("<p onclick=x>1"), "<p>1</p>");
 //! ```
 //!
 //! ```

@@ -3,7 +3,7 @@
 use firnuubal::{clean, Cleaner, Error, Options, OwnedToken, Policy, PolicyBuilder, Tokenizer};
 
 const PAGE: &str = "<p onclick=x>1 &lt; 2<script>x</script><a href=javascript:x>y</a>é";
-const KEPT: &str = "<p>1 &#60; 2<a>y</a>é";
+const KEPT: &str = "<p>1 &#60; 2<a>y</a>é</p>";
 
 #[test]
 fn a_page_in_pieces() -> Result<(), Error> {
@@ -50,6 +50,7 @@ fn rules_that_no_policy_takes() {
 
 #[test]
 fn a_tree() -> Result<(), Error> {
+    assert_eq!(clean("<p>1<p>2"), "<p>1</p><p>2</p>");
     let policy = PolicyBuilder::new().tags(["p", "i", "b"]).tree(true).depth(1).build()?;
     assert_eq!(policy.clean("<p>1<p>2<i><b>x</i>"), "<p>1</p><p>2x</p>");
     assert_eq!(PolicyBuilder::new().tags(["x-y"]).tree(true).build(), Err(Error::BadPolicy { line: 2 }));

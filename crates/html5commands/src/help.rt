@@ -85,7 +85,8 @@ Without a FILE, or where it is -, standard input is read. After -- all words are
 pub const CLEAN: &str = "usage: firnuubal clean [OPTION...] [FILE...]
 Prints HTML pages with only allowed elements and attributes in them, and addresses that are
 relative or of allowed schemes. The text is kept, but for that of scripts, styles and their
-like; comments are not. A page is printed as it arrives.
+like; comments are not. A page is printed as it arrives, by the standard policy so that a
+browser builds it as it is nested.
   Example: firnuubal clean page.html
 
 Without a FILE, or where it is -, standard input is read. After -- all words are files.

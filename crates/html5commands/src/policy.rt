@@ -63,9 +63,12 @@ everywhere title lang dir
 # Where addresses may lead, if they are not relative.
 schemes http https mailto
 
+# A page is made to fit, so that a browser builds it as it is nested. It may have at most 511
+# elements open at once, or as many as a rule 'depth NUMBER' says.
+tree
+
 # More rules: 'hide ELEMENT..' drops elements with what stands in them, 'noopener' gives each
-# link rel=noopener, 'balance' has end tags close what is open, and no more, and 'tree' makes
-# a page that a browser builds as it is nested.
+# link rel=noopener. Without 'tree', 'balance' has end tags close what is open, and no more.
 ";
 
 /// A text that says the standard policy.

@@ -1,6 +1,6 @@
 -- The policy where no other is given.
-use Rattle.std.specs.Prelude.{ℕ, false, List, [], ◌∷◌, codes}
-use Rattle.html5policy.specs.Policy.{OwnAttribute, PolicyOf}
+use Rattle.std.specs.Prelude.{ℕ, true, false, List, [], ◌∷◌, ◌++◌, codes}
+use Rattle.html5policy.specs.Policy.{OwnAttribute, PolicyOf, implied_elements}
 
 unfoldable pub standard_elements : List (List ℕ)
 standard_elements =
@@ -30,13 +30,13 @@ standard_own =
 
 unfoldable pub standard_policy : PolicyOf
 standard_policy = record {
-  elements = standard_elements;
+  elements = standard_elements ++ implied_elements;
   own = standard_own;
   everywhere = codes "title" ∷ codes "lang" ∷ codes "dir" ∷ [];
   schemes = codes "http" ∷ codes "https" ∷ codes "mailto" ∷ [];
   hidden = [];
   noopener = false;
   balance = false;
-  tree = false;
+  tree = true;
   depth = 511;
 }

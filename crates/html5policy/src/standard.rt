@@ -1,5 +1,5 @@
 //! The policy where no other is given.
-ghost use Rattle.std.specs.Prelude.{◌≡◌, IfOk};
+ghost use Rattle.std.specs.Prelude.{◌≡◌, true, IfOk};
 ghost use Rattle.html5policy.specs.Rules.{IsSound};
 ghost use Rattle.html5policy.specs.Standard.{standard_policy};
 
@@ -58,13 +58,16 @@ allow var
 allow wbr
 everywhere title lang dir
 schemes http https mailto
+tree
 ";
 
 impl<A: Allocator + Copy> Policy<A> {
-    /// Text, its blocks, lists and tables, links and images, with no style of their own.
+    /// Text, its blocks, lists and tables, links and images, with no style of their own. A page is made
+    /// to fit, so that a browser builds it as it is nested.
     pub fn standard(alloc: A) -> Result<Policy<A>, AllocError>
         ensures standard { IfOk result (λ policy. policy ≡ standard_policy) }
         ensures sound { IfOk result (λ policy. IsSound policy) }
+        ensures tree { IfOk result (λ policy. policy.tree ≡ true) }
     {
         match Policy::parse(alloc, STANDARD) {
             Ok(policy) => Ok(policy),

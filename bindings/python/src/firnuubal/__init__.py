@@ -2,7 +2,7 @@
 
     import firnuubal
 
-    firnuubal.clean("<p onclick=x>1")  # '<p>1'
+    firnuubal.clean("<p onclick=x>1")  # '<p>1</p>'
 
     with open("page.html", "rb") as page:
         for token in firnuubal.tokens(page):

@@ -8,8 +8,8 @@ from ._errors import PolicyError, Status, TokenizerError
 from ._library import ROOM, Handle, bytes_of, library, pieces_of, taken
 
 ALLOWED_TAGS = frozenset(
-    "a abbr b blockquote br caption cite code dd del div dl dt em h1 h2 h3 h4 h5 h6 hr i img ins kbd li mark ol p pre q s "
-    "samp small span strong sub sup table tbody td tfoot th thead tr u ul var wbr".split()
+    "a abbr b blockquote br caption cite code colgroup dd del div dl dt em h1 h2 h3 h4 h5 h6 hr i img ins kbd li mark ol p "
+    "pre q s samp small span strong sub sup table tbody td tfoot th thead tr u ul var wbr".split()
 )
 ALLOWED_ATTRIBUTES = {
     "*": frozenset({"title", "lang", "dir"}),
@@ -54,7 +54,8 @@ class Policy:
     policy where one isn't given; it drops the `clean_content_tags` with what stands in them. `link_rel="noopener"` adds
     that to links, and with `balance=True` each end tag closes what was opened inside its element. With `tree=True` the
     page is made to fit, so that a browser builds it as its tags are nested, with at most `depth` elements open, 511 where
-    none is given. A rule that no policy takes is a PolicyError.
+    none is given. Where neither `tree` nor `tags` is given it is so, too, as by the standard policy. A rule that no policy
+    takes is a PolicyError.
     """
 
     def __init__(
@@ -67,10 +68,11 @@ class Policy:
         clean_content_tags: Iterable[str] = (),
         link_rel: Optional[str] = None,
         balance: bool = False,
-        tree: bool = False,
+        tree: Optional[bool] = None,
         depth: Optional[int] = None,
     ):
         if text is None:
+            tree = tags is None if tree is None else tree
             tags = ALLOWED_TAGS if tags is None else tags
             attributes = ALLOWED_ATTRIBUTES if attributes is None else attributes
             url_schemes = ALLOWED_URL_SCHEMES if url_schemes is None else url_schemes
@@ -182,11 +184,12 @@ def clean(page, policy: Optional[Policy] = None, **keywords) -> str:
     """What is kept of a page: a text, bytes, a file of either, or an iterable of pieces of either.
 
     Without a policy it is the standard one; keywords are those of `Policy`. A tokenizer that goes on after the kept tags,
-    as the standard's does, reads what is kept as exactly these tags and the text. By a policy with `tree=True` what a
-    browser builds of it, by the standard's rules, is the nesting of these tags; by another no promise is made of the tree.
+    as the standard's does, reads what is kept as exactly these tags and the text. By the standard policy, or one with
+    `tree=True`, what a browser builds of it in a `div`, by the standard's rules, is the nesting of these tags, but for a
+    line feed straight after a `<pre>`, which is ignored; by another no promise is made of the tree.
 
     >>> clean("<p onclick=x>1")
-    '<p>1'
+    '<p>1</p>'
     """
     if keywords:
         if policy is not None:
