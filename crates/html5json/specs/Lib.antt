@@ -1,0 +1,4 @@
+pub mod Adding
+pub mod Lines
+pub mod Links
+pub mod Tokens

@@ -1,0 +1,40 @@
+//! The tokens of a page as lines of JSON.
+use crate::lines::token_lines;
+use devices::{Printer, Target};
+use html5ever_interface::interface::token::{SinkFault, Token};
+use html5sinks::text_runs::TokenHandler;
+use std::alloc::{Allocator, Global};
+
+/// Prints the tokens that it takes, an object of JSON a line. A run of text is one object, and a parse error within
+/// it stands before it.
+#[derive(Drop)]
+pub struct JsonTokens<W, A: Allocator = Global> {
+    pub alloc: A,
+    pub printer: Printer<W, A>,
+}
+
+impl<W: Target, A: Allocator + Copy> TokenHandler<Token<A>> for JsonTokens<W, A> {
+    ghost use Rattle.std.specs.Prelude.{ℕ, List};
+    ghost use Rattle.html5json.specs.Lines.{json_tokens_step};
+
+    ghost State = { List ℕ };
+
+    ghost state = { λ t. t.printer.printed };
+
+    ghost step = { json_tokens_step };
+
+    fn take_token(
+        &mut self,
+        run: &str,
+        token: Token<A>,
+        line_number: u64,
+    ) -> Result<(), SinkFault> {
+        let Ok(lines) = token_lines(self.alloc, run, &token, line_number) else {
+            return Err(SinkFault);
+        };
+        match self.printer.print(&lines) {
+            Ok(()) => Ok(()),
+            Err(_) => Err(SinkFault),
+        }
+    }
+}
