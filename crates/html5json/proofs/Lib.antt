@@ -1,1 +1,3 @@
 pub mod Addings
+pub mod InLine
+pub mod ReadBack
