@@ -36,7 +36,8 @@ before_word name = record { name = name; takes_word = true }
 
 -- those of each command
 abbrev pub reading_options : List KnownOption
-reading_options = flag (codes "--help") ∷ flag (codes "--version") ∷ before_word (codes "--entities") ∷ []
+reading_options =
+    flag (codes "--help") ∷ flag (codes "--version") ∷ before_word (codes "--encoding") ∷ before_word (codes "--entities") ∷ []
 
 unfoldable pub options_of : Command → List KnownOption
 options_of Tokens = reading_options

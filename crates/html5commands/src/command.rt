@@ -18,7 +18,7 @@ pub enum Command {
     Clean,
 }
 
-static READING: [Choice<'static>; 3] = [
+static READING: [Choice<'static>; 4] = [
     Choice {
         name: "--help",
         takes_word: false,
@@ -26,6 +26,10 @@ static READING: [Choice<'static>; 3] = [
     Choice {
         name: "--version",
         takes_word: false,
+    },
+    Choice {
+        name: "--encoding",
+        takes_word: true,
     },
     Choice {
         name: "--entities",
@@ -33,7 +37,7 @@ static READING: [Choice<'static>; 3] = [
     },
 ];
 
-static CLEANING: [Choice<'static>; 5] = [
+static CLEANING: [Choice<'static>; 6] = [
     Choice {
         name: "--help",
         takes_word: false,
@@ -41,6 +45,10 @@ static CLEANING: [Choice<'static>; 5] = [
     Choice {
         name: "--version",
         takes_word: false,
+    },
+    Choice {
+        name: "--encoding",
+        takes_word: true,
     },
     Choice {
         name: "--entities",

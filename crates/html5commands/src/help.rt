@@ -16,8 +16,8 @@ Without a FILE, or where it is -, standard input is read. After -- all words are
   --version  the program's name and its version
 
 The status is 0 where all was done, or nobody reads the output any more; 1 where something could
-not be read or printed, and each such file is named; 2 where words, or a file that they name for
-entities or a policy, are wrong.
+not be read or printed, and each such file is named; 2 where words, the label of an encoding, or a
+file that they name for entities or a policy, are wrong.
 ";
 
 /// How `tokens` is used.
@@ -27,6 +27,10 @@ that the tokenizer has reached, and what it holds. Parse errors have lines of th
   Example: firnuubal tokens page.html
 
 Without a FILE, or where it is -, standard input is read. After -- all words are files.
+  --encoding LABEL the encoding of the pages, where it isn't UTF-8: a label of the Encoding
+                   Standard, as windows-1252, shift_jis or utf-16le. Bytes that are none of it
+                   are read as U+FFFD, by utf-8 too. What is printed is UTF-8
+                   Example: firnuubal tokens --encoding shift_jis page.html
   --entities FILE  the named character references, in place of the standard's 2,231: an entry
                    a line, or joined by commas, each NAME=HEX or NAME=HEX+HEX
                    Example: firnuubal tokens --entities names.txt page.html
@@ -44,6 +48,10 @@ script and iframe, as they are written: <base> is neglected.
   Example: firnuubal links page.html
 
 Without a FILE, or where it is -, standard input is read. After -- all words are files.
+  --encoding LABEL the encoding of the pages, where it isn't UTF-8: a label of the Encoding
+                   Standard, as windows-1252, shift_jis or utf-16le. Bytes that are none of it
+                   are read as U+FFFD, by utf-8 too. What is printed is UTF-8
+                   Example: firnuubal links --encoding shift_jis page.html
   --entities FILE  the named character references, in place of the standard's 2,231: an entry
                    a line, or joined by commas, each NAME=HEX or NAME=HEX+HEX
                    Example: firnuubal links --entities names.txt page.html
@@ -60,6 +68,10 @@ scripts and styles.
   Example: firnuubal text page.html
 
 Without a FILE, or where it is -, standard input is read. After -- all words are files.
+  --encoding LABEL the encoding of the pages, where it isn't UTF-8: a label of the Encoding
+                   Standard, as windows-1252, shift_jis or utf-16le. Bytes that are none of it
+                   are read as U+FFFD, by utf-8 too. What is printed is UTF-8
+                   Example: firnuubal text --encoding shift_jis page.html
   --entities FILE  the named character references, in place of the standard's 2,231: an entry
                    a line, or joined by commas, each NAME=HEX or NAME=HEX+HEX
                    Example: firnuubal text --entities names.txt page.html
@@ -90,6 +102,10 @@ Without a FILE, or where it is -, standard input is read. After -- all words are
                    Example: firnuubal clean --policy policy.txt page.html
   --print-policy   the standard policy, to begin one's own from
                    Example: firnuubal clean --print-policy > policy.txt
+  --encoding LABEL the encoding of the pages, where it isn't UTF-8: a label of the Encoding
+                   Standard, as windows-1252, shift_jis or utf-16le. Bytes that are none of it
+                   are read as U+FFFD, by utf-8 too. What is printed is UTF-8
+                   Example: firnuubal clean --encoding shift_jis page.html
   --entities FILE  the named character references, in place of the standard's 2,231: an entry
                    a line, or joined by commas, each NAME=HEX or NAME=HEX+HEX
                    Example: firnuubal clean --entities names.txt page.html

@@ -3,7 +3,7 @@ ghost use Rattle.std.specs.Prelude.{◌≡◌, ◌⊎◌, ◌∷◌, [], true, C
 ghost use Rattle.html5commands.specs.Commands.{IsUnknownWord, NamesNothing, PrintsBy, asked_of_command, command_named, options_of, program_name};
 ghost use Rattle.html5policy.specs.Standard.{standard_policy};
 ghost use Rattle.html5policy.specs.Text.{policy_said};
-ghost use Rattle.html5programs.specs.Ending.{AsksNoText, AsksSettings, AsksVersion, HasWrongWord};
+ghost use Rattle.html5programs.specs.Ending.{AsksNoText, AsksSettings, AsksVersion, HasWrongWord, NamesNoEncoding};
 ghost use Rattle.html5programs.specs.Version.{version_line};
 ghost use Rattle.html5programs.specs.Words.{words_asked};
 
@@ -46,6 +46,8 @@ fn by_command<R: Files + Alloc<A = Global>, I: Read, O: Write + Drop, E: Target>
     ensures policy { AsksSettings (words_asked (options_of command) (map string_bytes words.now)) → result.1 ≡ Ending.Done
         → policy_said result.0.taken ≡ Ok standard_policy }
     ensures closed { result.1 ≡ Ending.Closed → result.0.inner.is_closed ≡ true }
+    ensures encoding { NamesNoEncoding (words_asked (options_of command) (map string_bytes words.now))
+        → ((result.1 ≡ Ending.WrongValue) ⊎ (result.1 ≡ Ending.NoMemory)) × (stdin.new ≡ stdin.old) × (result.0.taken ≡ []) }
     ensures wrong { result.1 ≡ Ending.WrongWord
         → HasWrongWord (words_asked (options_of command) (map string_bytes words.now)) }
     ensures usage { HasWrongWord (words_asked (options_of command) (map string_bytes words.now))
@@ -116,6 +118,9 @@ pub fn command_by_words<R: Files + Alloc<A = Global>, I: Read, O: Write + Drop, 
     ensures closed { result.1 ≡ Ending.Closed → result.0.inner.is_closed ≡ true }
 
     // When words are wrong, and that nothing is read and written then.
+    ensures encoding { IfSome (command_named (map string_bytes words.now)) (λ named.
+        NamesNoEncoding (asked_of_command named)
+        → ((result.1 ≡ Ending.WrongValue) ⊎ (result.1 ≡ Ending.NoMemory)) × (stdin.new ≡ stdin.old) × (result.0.taken ≡ [])) }
     ensures usage { IfSome (command_named (map string_bytes words.now)) (λ named.
         HasWrongWord (asked_of_command named) → (result.1 ≡ Ending.WrongWord) ⊎ (result.1 ≡ Ending.NoMemory)) }
     ensures wrong { IfSome (command_named (map string_bytes words.now)) (λ named.

@@ -1,3 +1,3 @@
+pub mod EntityLines
 pub mod FilesRead
-pub mod Listing
 pub mod Saying

@@ -1,11 +1,13 @@
 -- How a run ends: its status, and what was read and printed.
-use Rattle.std.specs.Prelude.{◌≡◌, ℕ, List, [], ◌∷◌, Option, IsSome, codes, true, false}
+use Rattle.std.specs.Prelude.{◌≡◌, ℕ, List, [], ◌∷◌, Option, IsNone, IsSome, codes, true, false}
+use Rattle.html5programs.specs.Encodings.{IsEncodingAsked, IsUnknownLabel}
 use Rattle.html5programs.specs.Filtering.{AreSettingsAsked, Making, ReadsFiles}
 use Rattle.html5programs.specs.References.{IsTableAsked}
-use Rattle.html5programs.specs.Words.{Asked, entities_asked, files_asked, has_option, known_options, settings_asked, words_asked}
+use Rattle.html5programs.specs.Words.{Asked, entities_asked, files_asked, has_option, known_options, label_asked, settings_asked, words_asked}
 use Rattle.html5programs.specs.declared.program.Program.{Program}
 use Rattle.html5programs.specs.declared.ending.Ending.{Ending}
-use Rattle.html5programs.specs.declared.ending.Ending.TheVariants.{Done, Closed, Missed, Unprinted, NoMemory, WrongWord, NoTable, NoSettings}
+use Rattle.html5programs.specs.declared.ending.Ending.TheVariants.{Done, Closed, Missed, Unprinted, NoMemory, WrongWord, WrongValue, NoTable, NoSettings}
+use Rattle.html5encodings.specs.declared.encoding.Encoding.{Encoding}
 use Rattle.markup5ever.specs.NamedReferences.{NamedReference}
 
 -- the status that the process ends with
@@ -16,6 +18,7 @@ status_of Missed = 1
 status_of Unprinted = 1
 status_of NoMemory = 1
 status_of WrongWord = 2
+status_of WrongValue = 2
 status_of NoTable = 2
 status_of NoSettings = 2
 
@@ -50,17 +53,25 @@ pub record HasWrongWord (asked : Asked) : Type 0 where
   pub no_version : has_option (codes "--version") asked ≡ false
   pub wrong : IsSome asked.wrong
 
+-- they ask for no text and none is wrong, but the label of the encoding names none
+pub record NamesNoEncoding (asked : Asked) : Type 0 where
+  pub no_text : AsksNoText asked
+  pub no_wrong : IsNone asked.wrong
+  pub unknown : IsUnknownLabel (label_asked asked)
+
 module _ {T S : Type 0} (means : Making T S) where
-  -- these files were read by a table and by settings, and what was written is what the filter printed of them
-  pub record PrintsFiles (references : List NamedReference) (settings : T) (files : List (List ℕ)) (unread left : Option (List ℕ)) (written : List ℕ) : Type 0 where
+  -- these files were read by a table, in an encoding and by settings, and what was written is what the filter printed of them
+  pub record PrintsFiles (references : List NamedReference) (encoding : Option Encoding) (settings : T) (files : List (List ℕ)) (unread left : Option (List ℕ)) (written : List ℕ) : Type 0 where
     pub after : S
-    pub read : ReadsFiles means references files unread left (means.started settings []) after
+    pub read : ReadsFiles means references encoding files unread left (means.started settings []) after
     pub printed : written ≡ means.printed after
 
-  -- those that the words ask for were, by the table and the settings that they ask for
+  -- those that the words ask for were, by the table, the encoding and the settings that they ask for
   pub record PrintsAsked (unsaid : T) (said_by : List ℕ → Option T) (asked : Asked) (unread left : Option (List ℕ)) (written : List ℕ) : Type 0 where
     pub references : List NamedReference
+    pub encoding : Option Encoding
     pub settings : T
+    pub label : IsEncodingAsked (label_asked asked) encoding
     pub table : IsTableAsked (entities_asked asked) references
     pub said : AreSettingsAsked unsaid said_by (settings_asked asked) settings
-    pub prints : PrintsFiles references settings (files_asked asked) unread left written
+    pub prints : PrintsFiles references encoding settings (files_asked asked) unread left written

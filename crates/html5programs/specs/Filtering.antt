@@ -1,8 +1,9 @@
 -- What a program makes of the files that it reads, one after the other.
 use Rattle.std.specs.Prelude.{◌≡◌, ℕ, List, [], ◌∷◌, Option, None, Some, codes}
-use Rattle.std.specs.Io.KnownBytes.{Consumes, IsAtEnd}
 use Rattle.std.specs.Str.{IsUtf8}
 use Rattle.html5ever_interface.specs.Sink.{Message}
+use Rattle.html5encodings.specs.declared.encoding.Encoding.{Encoding}
+use Rattle.html5programs.specs.Encodings.{IsTextOf}
 use Rattle.markup5ever.specs.NamedReferences.{NamedReference}
 
 -- what a filter makes of settings, which are of type T, and of pages, where its states are of type S
@@ -22,14 +23,22 @@ pub record Making (T S : Type 0) : Type 0 where
 abbrev pub IsInput : List ℕ → Type 0
 IsInput file = file ≡ codes "-"
 
-module _ {T S : Type 0} (means : Making T S) (references : List NamedReference) where
-  -- a file was read to its end, its bytes are UTF-8, and the filter was handed all of their messages. Of standard input they are all that
-  -- it had left. Which bytes another file holds no contract says.
+-- how pages are read: by a table of references, and in an encoding, or in UTF-8 where there is none
+module _ {T S : Type 0} (means : Making T S) (references : List NamedReference) (encoding : Option Encoding) where
+  -- a page was read to its end, its text is UTF-8, and the filter was handed all of its messages. The source of the page had this left
+  -- before and after it.
+  pub record ReadsText (unread left : Option (List ℕ)) (before after : S) : Type 0 where
+    pub text : List ℕ
+    pub utf8 : IsUtf8 text
+    pub told : after ≡ means.handed (means.begun before) (means.page references (means.begun before) text)
+    pub whole : IsTextOf encoding unread left text
+
+  -- a file was read so. Of standard input it is all that it had left. Which bytes another file holds no contract says.
   pub record ReadsFile (file : List ℕ) (unread left : Option (List ℕ)) (before after : S) : Type 0 where
-    pub bytes : List ℕ
-    pub utf8 : IsUtf8 bytes
-    pub told : after ≡ means.handed (means.begun before) (means.page references (means.begun before) bytes)
-    pub input : IsInput file → Consumes unread left bytes × IsAtEnd left
+    pub text : List ℕ
+    pub utf8 : IsUtf8 text
+    pub told : after ≡ means.handed (means.begun before) (means.page references (means.begun before) text)
+    pub input : IsInput file → IsTextOf encoding unread left text
     pub other : ¬ (IsInput file) → left ≡ unread
 
   -- and so was each of the files, one after the other

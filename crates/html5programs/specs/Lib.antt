@@ -4,3 +4,4 @@ pub mod Messages
 pub mod Filtering
 pub mod Ending
 pub mod Version
+pub mod Encodings

@@ -1,6 +1,8 @@
 -- The table of named references that a program goes by.
-use Rattle.std.specs.Prelude.{◌≡◌, ◌==◌, ℕ, List, [], ◌∷◌, Option, None, Some, Result, Ok, Err, codes, encode_utf8_all, flat_map, if◌then◌else◌}
-use Rattle.std.specs.Str.{chars, trim_end}
+use Rattle.std.specs.Prelude.{◌≡◌, ◌==◌, ℕ, Bool, List, [], ◌∷◌, ◌++◌, Option, None, Some, Result, Ok, Err, option_map}
+use Rattle.std.specs.List.{slice_split}
+use Rattle.std.specs.Option.{option_and_then, unwrap_or}
+use Rattle.std.specs.Str.{trim_end}
 use Rattle.html5entities.specs.Standard.{standard_list}
 use Rattle.html5table.specs.Listed.{entries_in, listed}
 use Rattle.html5programs.specs.declared.references.ReferencesError.{ReferencesError}
@@ -8,21 +10,26 @@ use Rattle.html5programs.specs.declared.references.ReferencesError.TheVariants.{
 use Rattle.markup5ever.specs.NamedReferences.{NamedReference, table_of}
 use Rattle.markup5ever.specs.declared.data.TableError.{TableError}
 
--- what stands in a list for a character of a file: a comma for a line feed, and nothing for a CR
-unfoldable pub in_list : ℕ → List ℕ
-in_list c = if c == 10 then codes "," else if c == 13 then [] else c ∷ []
+abbrev pub is_line_feed : ℕ → Bool
+is_line_feed byte = byte == 10
 
--- what stands in a list for the characters of a file
-abbrev pub text_in_list : List ℕ → List ℕ
-text_in_list text = flat_map in_list text
+-- the entries of lines, if each line is a list. White space at the end of a line says nothing.
+unfoldable pub lines_said : List (List ℕ) → Option (List NamedReference)
+lines_said [] = Some []
+lines_said (line ∷ lines) =
+    option_and_then (λ entries. option_map (λ later. entries ++ later) (lines_said lines)) (listed (trim_end line))
 
--- the list of a file's text, which may end in a line feed or in other white space
-abbrev pub list_of : List ℕ → List ℕ
-list_of text = encode_utf8_all (text_in_list (chars (trim_end text)))
+-- what a file's text says: the entries of its lines
+abbrev pub text_said : List ℕ → Option (List NamedReference)
+text_said text = lines_said (slice_split is_line_feed text)
+
+-- these entries, if the text has the form
+abbrev pub entries_of_text : List ℕ → List NamedReference
+entries_of_text text = unwrap_or (text_said text) []
 
 -- the table of a file's text
 abbrev pub table_said : List ℕ → List NamedReference
-table_said text = table_of (entries_in (list_of text))
+table_said text = table_of (entries_of_text text)
 
 -- the table is the standard's, or, where a file is named, that of a text. Which text the file holds no contract says.
 abbrev pub IsTableAsked : Option (List ℕ) → List NamedReference → Type 0

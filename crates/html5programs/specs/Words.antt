@@ -123,6 +123,10 @@ value_of option (g ∷ given) = if bytes_eq g.name option then Some g.value else
 abbrev pub has_option : List ℕ → Asked → Bool
 has_option option asked = is_some (value_of option asked.given)
 
+-- the label of an encoding, where it is given
+abbrev pub label_asked : Asked → Option (List ℕ)
+label_asked asked = value_of (codes "--encoding") asked.given
+
 -- the file of the table of named references, and that of the settings, where they are given
 abbrev pub entities_asked : Asked → Option (List ℕ)
 entities_asked asked = value_of (codes "--entities") asked.given

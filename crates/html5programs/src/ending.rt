@@ -17,6 +17,8 @@ pub enum Ending {
     NoMemory,
     /// A word is unknown, or a word is missing after it.
     WrongWord,
+    /// The word after an option is none that it takes, as a label that names no encoding.
+    WrongValue,
     /// There is no table of named references.
     NoTable,
     /// There are no settings.
@@ -25,15 +27,15 @@ pub enum Ending {
 
 impl Ending {
     /// The status that the process ends with: 0 where all was done or nobody reads the output, 1 where
-    /// something could not be read or printed, and 2 where the words, or a file that they name for the
-    /// table or the settings, are wrong.
+    /// something could not be read or printed, and 2 where the words, the label of the encoding, or a file
+    /// that they name for the table or the settings, are wrong.
     pub fn status(self) -> u8
         ensures { result ≡ status_of self }
     {
         match self {
             Ending::Done | Ending::Closed => 0,
             Ending::Missed | Ending::Unprinted | Ending::NoMemory => 1,
-            Ending::WrongWord | Ending::NoTable | Ending::NoSettings => 2,
+            Ending::WrongWord | Ending::WrongValue | Ending::NoTable | Ending::NoSettings => 2,
         }
     }
 }

@@ -1,7 +1,9 @@
 //! What programs share that read pages and print what they make of them: words, inputs, messages.
 #![tactic(auto)]
 
+mod encoded;
 mod ending;
+mod entity_lines;
 mod files;
 mod filter;
 mod input;

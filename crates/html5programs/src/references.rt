@@ -1,17 +1,16 @@
 //! The table of named references that a program goes by.
-ghost use Rattle.std.specs.Prelude.{◌≡◌, ◌⊎◌, ◌++◌, IfErr, IfOk, IsNone, OnOk, Err, Some, encode_utf8_all, option_map, string_bytes};
-ghost use Rattle.std.specs.Str.{chars};
+ghost use Rattle.std.specs.Prelude.{◌≡◌, ◌⊎◌, IfErr, IfOk, IsNone, Err, Some, option_map};
 ghost use Rattle.html5entities.specs.Standard.{standard_list};
-ghost use Rattle.html5programs.specs.References.{IsOfTable, IsOfText, IsTableAsked, in_list, list_of, text_in_list, table_or_error, table_said};
-ghost use Rattle.html5table.specs.Listed.{entries_in, listed};
+ghost use Rattle.html5programs.specs.References.{IsOfTable, IsOfText, IsTableAsked, entries_of_text, table_or_error, table_said, text_said};
+ghost use Rattle.html5table.specs.Listed.{entries_in};
 ghost use Rattle.markup5ever.specs.NamedReferences.{first_fault, table_of};
 ghost use Rattle.markup5ever.specs.declared.data.TableError.{TableError};
 ghost use Rattle.markup5ever.specs.declared.data.TableError.TheVariants.{Memory};
 
+use crate::entity_lines::{are_lists, entries_of_lines};
 use html5entities::standard_references;
-use html5table::{has_form, references_of};
 use markup5ever::data::{NamedReferences, TableError};
-use std::alloc::{AllocError, Allocator};
+use std::alloc::Allocator;
 use std::fs::Files;
 use std::{fs, io};
 use thiserror::Error;
@@ -47,51 +46,26 @@ where
     }
 }
 
-// Appends a character of a file to a list.
-#[tactic(auto, unfolding(crate::specs::References::in_list))]
-fn push_in_list<A: Allocator>(list: &mut String<A>, c: char) -> Result<(), AllocError>
-    ensures { OnOk result (string_bytes list.new ≡ string_bytes list.old ++ encode_utf8_all (in_list c)) }
-{
-    match c {
-        '\n' => list.push(',')?,
-        '\r' => {}
-        _ => list.push(c)?,
-    }
-    Ok(())
-}
-
-// The list whose entries stand on lines, or are joined by commas.
-fn joined_lines<A: Allocator>(alloc: A, text: &str) -> Result<String<A>, AllocError>
-    ensures { IfOk result (λ list. string_bytes list ≡ encode_utf8_all (text_in_list (chars text.now))) }
-{
-    let mut list = String::new(alloc);
-    for c in text.chars() {
-        push_in_list(&mut list, c)?;
-    }
-    Ok(list)
-}
-
-/// The table that a file's text says: an entry a line, or entries joined by commas. White space at its
-/// end says nothing, nor does a CR.
+/// The table that a file's text says: on each line entries that commas join, or none. White space at the end
+/// of a line says nothing, so lines may end in CR LF.
 pub fn table_of_text<A: Allocator + Copy>(
     alloc: A,
     text: &str,
 ) -> Result<NamedReferences<A>, ReferencesError>
     ensures table { IfOk result (λ references. references ≡ table_said text.now) }
-    ensures no_list { (result ≡ Err ReferencesError.NoList) → IsNone (listed (list_of text.now)) }
-    ensures unlisted { IsNone (listed (list_of text.now))
-        → (result ≡ Err ReferencesError.NoList) ⊎ (result ≡ Err (ReferencesError.Table Memory)) }
+    ensures no_list { (result ≡ Err ReferencesError.NoList) → IsNone (text_said text.now) }
+    ensures unlisted { IsNone (text_said text.now) → result ≡ Err ReferencesError.NoList }
     ensures fault { (error : TableError) → result ≡ Err (ReferencesError.Table error)
-        → (error ≡ Memory) ⊎ (first_fault (entries_in (list_of text.now)) ≡ Some error) }
+        → (error ≡ Memory) ⊎ (first_fault (entries_of_text text.now) ≡ Some error) }
     ensures readable { IfErr result IsOfText }
 {
-    let Ok(list) = joined_lines(alloc, text.trim_end()) else {
-        return Err(ReferencesError::Table(TableError::Memory));
-    };
-    if !has_form(&list) {
+    if !are_lists(text) {
         return Err(ReferencesError::NoList);
     }
-    references_or_error(references_of(alloc, &list))
+    match entries_of_lines(alloc, text) {
+        Ok(entries) => references_or_error(NamedReferences::check(alloc, entries)),
+        Err(_) => Err(ReferencesError::Table(TableError::Memory)),
+    }
 }
 
 // The table, or why there is none.

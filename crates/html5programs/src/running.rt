@@ -1,10 +1,12 @@
 //! Programs that read pages, and print what they make of them.
 ghost use Rattle.std.specs.Prelude.{◌≡◌, ◌≢◌, ◌⊎◌, ◌∷◌, [], true, Contains, IfSome, map, option_map, string_bytes};
-ghost use Rattle.html5programs.specs.Ending.{AsksHelp, AsksNoText, AsksSettings, AsksVersion, HasWrongWord, PrintsAsked, asked_of};
+ghost use Rattle.html5programs.specs.Encodings.{IsUnknownLabel};
+ghost use Rattle.html5programs.specs.Ending.{AsksHelp, AsksNoText, AsksSettings, AsksVersion, HasWrongWord, NamesNoEncoding, PrintsAsked, asked_of};
 ghost use Rattle.html5programs.specs.Filtering.{AreSettingsAsked};
 ghost use Rattle.html5programs.specs.Version.{version_line};
-ghost use Rattle.html5programs.specs.Words.{asked_by};
+ghost use Rattle.html5programs.specs.Words.{asked_by, label_asked};
 
+use crate::encoded::encoding_asked;
 use crate::ending::Ending;
 use crate::files::{ending_of_text, filter_files};
 use crate::filter::Filter;
@@ -75,7 +77,17 @@ fn filter_asked<
         (I.remaining stdin.old.inner) (I.remaining stdin.new.inner) result.0.taken }
     ensures closed { result.1 ≡ Ending.Closed → result.0.inner.is_closed ≡ true }
     ensures words { (result.1 ≢ Ending.WrongWord) × (result.1 ≢ Ending.NoMemory) }
+    ensures encoding { IsUnknownLabel (label_asked (asked_by asked.now))
+        → (result.1 ≡ Ending.WrongValue) × (stdin.new ≡ stdin.old) × (result.0.taken ≡ []) }
 {
+    let label = asked.value("--encoding");
+    let encoding = match encoding_asked(label) {
+        Ok(encoding) => encoding,
+        Err(unknown) => {
+            messages.say(label.unwrap_or("encoding"), unknown);
+            return (Logged::new(Output::new(stdout)), Ending::WrongValue);
+        }
+    };
     let entities = asked.value("--entities");
     let table = match read_references(rt, entities) {
         Ok(table) => table,
@@ -91,6 +103,7 @@ fn filter_asked<
     filter_files::<F, R, I, O, E>(
         rt,
         &table,
+        encoding,
         settings,
         asked.inputs(),
         stdin,
@@ -188,6 +201,8 @@ pub fn filter_by_words<
     ensures closed { result.1 ≡ Ending.Closed → result.0.inner.is_closed ≡ true }
 
     // When words are wrong, and that nothing is read and written then.
+    ensures encoding { NamesNoEncoding (asked_of program.entry (map string_bytes words.now))
+        → ((result.1 ≡ Ending.WrongValue) ⊎ (result.1 ≡ Ending.NoMemory)) × (stdin.new ≡ stdin.old) × (result.0.taken ≡ []) }
     ensures wrong { result.1 ≡ Ending.WrongWord → HasWrongWord (asked_of program.entry (map string_bytes words.now)) }
     ensures usage { HasWrongWord (asked_of program.entry (map string_bytes words.now))
         → (result.1 ≡ Ending.WrongWord) ⊎ (result.1 ≡ Ending.NoMemory) }
