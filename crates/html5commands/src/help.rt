@@ -34,6 +34,8 @@ Without a FILE, or where it is -, standard input is read. After -- all words are
   --entities FILE  the named character references, in place of the standard's 2,231: an entry
                    a line, or joined by commas, each NAME=HEX or NAME=HEX+HEX
                    Example: firnuubal tokens --entities names.txt page.html
+  --format FORMAT  lines, as where it isn't given, or json: an object of JSON on each line
+                   Example: firnuubal tokens --format json page.html
   --help           this text
                    Example: firnuubal tokens --help
   --version        the program's name and its version
@@ -55,6 +57,8 @@ Without a FILE, or where it is -, standard input is read. After -- all words are
   --entities FILE  the named character references, in place of the standard's 2,231: an entry
                    a line, or joined by commas, each NAME=HEX or NAME=HEX+HEX
                    Example: firnuubal links --entities names.txt page.html
+  --format FORMAT  lines, as where it isn't given, or json: an object of JSON on each line
+                   Example: firnuubal links --format json page.html
   --help           this text
                    Example: firnuubal links --help
   --version        the program's name and its version
