@@ -1,9 +1,9 @@
 #!/bin/bash
 # Builds the library (build.sh), and checks it and the one that is shipped in dist/: the calls from C, also under valgrind,
-# and what stands on them in C, Rust and Python. Their readers print pages in pieces of 1, 7 and 4,096 bytes as html5tok
-# does, and clean them as firnuubal. The wheel is installed as a user would, and so is the library for C. What is made
-# stands in bindings/out. It wants the toolchain and, for each language, gcc with valgrind and pkg-config, cargo, and
-# python3; what isn't there is left out, and it says so, also at the end.
+# and what stands on them in C, Rust and Python. Their readers, for Python those in Python and those of the extension, print
+# pages in pieces of 1, 7 and 4,096 bytes as html5tok does, and clean them as firnuubal. The wheel is installed as a user
+# would, and so is the library for C. What is made stands in bindings/out. It wants the toolchain and, for each language, gcc
+# with valgrind and pkg-config, cargo, and python3; what isn't there is left out, and it says so, also at the end.
 set -eu
 cd "$(dirname "$0")"
 here=$PWD
@@ -42,10 +42,6 @@ rust() {
     rm -rf "$out/rust"
     cp -r rust "$out/rust"
     (cd "$out/rust" && FIRNUUBAL_LIB=$library CARGO_TARGET_DIR=$out/target cargo "$@" --quiet --offline)
-}
-
-python() {
-    FIRNUUBAL_LIB=$library PYTHONDONTWRITEBYTECODE=1 PYTHONPATH=python/src python3 "$@"
 }
 
 # Whether a program prints the pages as the lines of another say, whose name ends the names of their files.
@@ -92,13 +88,19 @@ links_where_it_is_installed() {
 
 # Whether the wheel serves where nothing else of this repository is seen.
 serves_as_a_wheel() {
-    local env=$out/venv wheels=$out/wheels
+    local env=$out/venv wheels=$out/wheels is_fast=False
+    if has_extension; then is_fast=True; fi
     rm -rf "$env" "$wheels"
     mkdir "$wheels"
     python3 -m venv "$env"
     FIRNUUBAL_LIB=$library "$env/bin/pip" wheel --quiet --no-index --no-deps --wheel-dir "$wheels" ./python
     "$env/bin/pip" install --quiet --no-index "$wheels"/firnuubal-*.whl
-    (cd "$out" && "$env/bin/python" -c 'import firnuubal; assert firnuubal.clean("<p onclick=x>1") == "<p>1"')
+    (cd "$out" && "$env/bin/python" -c "import firnuubal as f; assert (f.clean('<p onclick=x>1'), f.IS_FAST) == ('<p>1', $is_fast)")
+}
+
+# Whether Python's extension is beside the library.
+has_extension() {
+    [ -f "$library/_fast.abi3.so" ]
 }
 
 in_c() {
@@ -121,9 +123,23 @@ in_rust() {
     check "cleaned pages from Rust" prints_as cleaned "$out/target/release/examples/clean"
 }
 
+# The checks of the package, with the readers in Python (1) or the extension (0), and their name.
+with_readers() {
+    local pure=$1 readers=$2
+    local run=(env "FIRNUUBAL_LIB=$library" PYTHONDONTWRITEBYTECODE=1 FIRNUUBAL_PURE="${pure#0}" python3)
+    check "$readers" env PYTHONPATH=python/src "${run[@]}" -c "import firnuubal; assert firnuubal.IS_FAST == (not $pure)"
+    check "the tests in Python, $readers" env PYTHONPATH=python/src "${run[@]}" -m unittest discover --quiet -s python/tests
+    check "the tokens from Python, $readers" prints_as tokens "${run[@]}" python/examples/tokens.py
+}
+
 in_python() {
-    check "the tests in Python" python -m unittest discover --quiet -s python/tests
-    check "the tokens from Python" prints_as tokens env "FIRNUUBAL_LIB=$library" PYTHONDONTWRITEBYTECODE=1 python3 python/examples/tokens.py
+    with_readers 1 "the readers in Python"
+    if has_extension; then
+        with_readers 0 "the extension"
+    else
+        echo "bindings: there is no _fast.abi3.so in $library, so Python's extension is left out"
+        left_out="$left_out; Python's extension left out"
+    fi
     check "cleaned pages from Python" prints_as cleaned env "FIRNUUBAL_LIB=$library" PYTHONDONTWRITEBYTECODE=1 python3 python/examples/clean.py
     check "the wheel" serves_as_a_wheel
 }
@@ -146,7 +162,8 @@ check_library "$out"
 if [ -d ../dist ]; then
     check "what is shipped" python3 ../tools/dist.py --check
     # Where both have the same bytes, what was checked holds of both.
-    cmp -s ../dist/libfirnuubal.a "$out/libfirnuubal.a" || check_library "$(cd ../dist && pwd)"
+    { cmp -s ../dist/libfirnuubal.a "$out/libfirnuubal.a" && cmp -s ../dist/_fast.abi3.so "$out/_fast.abi3.so"; } ||
+        check_library "$(cd ../dist && pwd)"
 fi
 echo "bindings: $passed checks passed, $failed failed$left_out"
 [ "$failed" = 0 ]

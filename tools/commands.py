@@ -1,25 +1,40 @@
 #!/usr/bin/env python3
-"""Runs firnuubal over files of each kind, and over outputs that are closed or full.
+"""Runs firnuubal and html5tok by words of each kind, over files and input of each kind, and over outputs that are
+closed, full or measured.
 
     python3 tools/commands.py
 
-What it prints, says and ends with was written by hand. The program is the one that `rt ci` proved and left in
-crates/firnuubal/out. Each case that differs is said, and then the status is 1.
+tools/commands.jsonl has a run a line: the words, the input, further files, and what has to be printed, said and ended
+with, written by hand. Bytes that are no UTF-8 stand there as surrogates. Each run is made again with the input in pieces
+of 1, 2 and 3 bytes, and where the line says `cuts` cut in two at each place. Where single bytes let more be printed
+before an error, the line says that as `apart`. The programs are those that `rt ci` proved and left in the crates' `out/`.
+Each run that differs is said, and then the status is 1.
 """
 
+import json
 import os
 import pathlib
+import re
+import socket
 import subprocess
 import sys
 import tempfile
 
+import man
+import version
+
 TOP = pathlib.Path(__file__).resolve().parent.parent
-PROGRAM = TOP / "crates/firnuubal/out/firnuubal"
+PROGRAMS = {name: TOP / "crates" / name / "out" / name for name in ("firnuubal", "html5tok")}
 PAGE = b"<a href=x>y</a>"
 MISSING = "No such file or directory (os error 2)"
 FOLDER = "Is a directory (os error 21)"
 DENIED = "Permission denied (os error 13)"
 MB = 1_000_000
+
+# What programs print of themselves: the text of each page of the manual, the version, the standard policy.
+HELP = man.texts()
+VERSION = f"firnuubal {version.version_in('CHANGELOG.md', version.PLACES['CHANGELOG.md'])}\n"
+POLICY = re.search(r'(?s)= "\\\n(.*?)";', (TOP / "crates/html5commands/src/policy.rt").read_text(encoding="utf-8"))[1]
 
 # Files, by their names; None is a folder.
 FILES = {
@@ -36,39 +51,23 @@ FILES = {
     "entities.commas": b"own=2603,nGt;=226B+20D2",
     "entities.bad": b"own=2603\nown=41\n",
     "policy": b"# links alone\nallow a href\nschemes https\n",
-    "policy.bad": b"allow a href\nallow script\n",
     "names": b"&own &nGt; &amp;",
 }
 
-# Words, what is printed, and what is said of each file after `firnuubal: `, with the status.
-CASES = [
-    (["links", "page"], "1 x\n", [], 0),
-    (["links", "page", "other"], "1 x\n2 z\n", [], 0),
-    (["links", "page", "-", "other"], "1 x\n1 in\n2 z\n", [], 0),
-    (["links", "empty"], "", [], 0),
-    (["text", "byte"], "a", [], 0),
-    (["tokens", "byte"], 'text "a"\neof 1\n', [], 0),
-    (["tokens", "empty"], "eof 1\n", [], 0),
-    (["clean", "page"], '<a href="x">y</a>', [], 0),
-    (["links", "missing", "page"], "1 x\n", [f"missing: {MISSING}"], 1),
-    (["links", "folder", "page"], "1 x\n", [f"folder: {FOLDER}"], 1),
-    (["links", "page", "folder", "missing"], "1 x\n", [f"folder: {FOLDER}", f"missing: {MISSING}"], 1),
-    (["links", "first.bad"], "", ["first.bad: the bytes from place 0 on are no UTF-8"], 1),
-    (["links", "middle.bad", "page"], "1 x\n", ["middle.bad: the bytes from place 14 on are no UTF-8"], 1),
-    (["links", "last.bad"], "1 x\n", ["last.bad: the bytes from place 10 on are no UTF-8"], 1),
-    (["links", "--", "-x"], "1 x\n", [], 0),
-    (["links", "-x"], "", ["-x: no such option; try --help"], 2),
-    (["text", "--entities", "entities", "names"], "\u2603 \u226b\u20d2 &amp;", [], 0),
-    (["text", "--entities", "entities.commas", "names"], "\u2603 \u226b\u20d2 &amp;", [], 0),
-    (["text", "--entities", "empty", "names"], "&own &nGt; &amp;", [], 0),
-    (["text", "names"], "&own \u226b\u20d2 &", [], 0),
-    (["text", "--entities", "entities.bad"], "", ["entities.bad: the list makes no table: repeated name at 1"], 2),
-    (["text", "--entities", "missing"], "", [f"missing: {MISSING}"], 2),
-    (["text", "--entities", "folder"], "", [f"folder: {FOLDER}"], 2),
-    (["clean", "--policy", "policy", "page"], '<a href="x">y</a>', [], 0),
-    (["clean", "--policy", "policy", "other"], "\n", [], 0),
-    (["clean", "--policy", "missing"], "", [f"missing: {MISSING}"], 2),
+# Parts of long pages, with how often each stands there, and what each command prints for it.
+PARTS = [
+    (
+        "<p id=x>a &amp; b <a href=y>c</a><!--d-->",
+        130_000,
+        {"links": "1 y\n", "text": "a & b c", "clean": '<p>a &#38; b <a href="y">c</a>'},
+    ),
+    ("abcdefghij", 100_000, {"links": "", "text": "abcdefghij", "clean": "abcdefghij"}),
 ]
+
+
+def bytes_of(text):
+    """The bytes of a text, where a surrogate is a byte of no UTF-8."""
+    return text.encode("utf-8", "surrogateescape")
 
 
 def made_in(folder):
@@ -81,31 +80,77 @@ def made_in(folder):
 
 
 def run(folder, words, **streams):
-    """Runs the program in the folder."""
-    streams = {"input": b"<a href=in>", "stdout": subprocess.PIPE, **streams}
-    return subprocess.run([PROGRAM, *words], cwd=folder, stderr=subprocess.PIPE, check=False, **streams)
+    """Runs the program of the first word in the folder."""
+    streams = {"input": b"", "stdout": subprocess.PIPE, **streams}
+    program, *words = words
+    given = [PROGRAMS[program], *map(bytes_of, words)]
+    return subprocess.run(given, cwd=folder, stderr=subprocess.PIPE, check=False, **streams)
+
+
+def run_by_pieces(folder, words, pieces):
+    """Runs a program whose reads of its input give these pieces, one each."""
+    reading, writing = os.pipe2(os.O_DIRECT)
+    program, *words = words
+    given = [PROGRAMS[program], *map(bytes_of, words)]
+    with subprocess.Popen(
+        given, cwd=folder, stdin=reading, stdout=subprocess.PIPE, stderr=subprocess.PIPE
+    ) as process:
+        os.close(reading)
+        for piece in filter(None, pieces):
+            try:
+                os.write(writing, piece)
+            except BrokenPipeError:
+                break
+        os.close(writing)
+        printed, said = process.communicate()
+    return subprocess.CompletedProcess(given, process.returncode, printed, said)
 
 
 def fault(words, ran, printed, said, status):
     """What differs of a run, or nothing."""
-    lines = "".join(f"firnuubal: {line}\n" for line in said)
-    found = (ran.stdout.decode(), ran.stderr.decode(), ran.returncode)
-    wanted = (printed, lines, status)
+    found = (ran.stdout, ran.stderr.decode(), ran.returncode)
+    wanted = (bytes_of(printed), said, status)
     return "" if found == wanted else f"{words}: expected {wanted!r}, found {found!r}"
 
 
-def by_words(folder):
-    """The cases above."""
-    for words, printed, said, status in CASES:
-        yield fault(words, run(folder, words), printed, said, status)
+def in_pieces(row, given):
+    """The ways in which the input of a row is cut, with what is printed then."""
+    printed = row.get("out", "")
+    for size in (1, 2, 3) if "apart" not in row else (1,):
+        yield [given[at : at + size] for at in range(0, len(given), size)], row.get("apart", printed)
+    for cut in range(1, len(given)) if row.get("cuts") else ():
+        yield [given[:cut], given[cut:]], printed
 
 
-def of_a_bad_policy(folder):
-    """A policy whose second line is refused."""
-    ran = run(folder, ["clean", "--policy", "policy.bad"])
-    told = ran.stderr.decode()
-    right = ran.returncode == 2 and not ran.stdout and told.startswith("firnuubal: policy.bad: line 2: ")
-    yield "" if right else f"a bad policy: {ran!r}"
+def by_lines(folder):
+    """The runs of tools/commands.jsonl."""
+    for line in (TOP / "tools/commands.jsonl").read_text(encoding="utf-8").splitlines():
+        row = json.loads(line)
+        for name, content in row.get("files", {}).items():
+            (folder / name).write_bytes(bytes_of(content))
+        words, given = row["run"], bytes_of(row.get("in", ""))
+        ending = (row.get("said", ""), row.get("status", 0))
+        yield fault(words, run(folder, words, input=given), row.get("out", ""), *ending)
+        for pieces, printed in in_pieces(row, given) if given else ():
+            yield fault([words, pieces], run_by_pieces(folder, words, pieces), printed, *ending)
+
+
+def of_itself(folder):
+    """What a program says of itself, whatever else its words say."""
+    firnuubal = "firnuubal"
+    cases = [([firnuubal, "--help"], HELP["help"]), ([firnuubal, "--version", "-"], VERSION)]
+    for command in ["tokens", "links", "text", "clean"]:
+        cases += [([firnuubal, command, "--help"], HELP[command]), ([firnuubal, command, "--version"], VERSION)]
+    cases += [([firnuubal, "links", "--version", word], VERSION) for word in ("missing", "--wrong")]
+    cases += [([firnuubal, "clean", "--print-policy"], POLICY)]
+    for words, printed in cases:
+        yield fault(words, run(folder, words), printed, "", 0)
+    # The policy that is printed is the one that is gone by.
+    (folder / "printed").write_text(POLICY, encoding="utf-8")
+    page = b"<p title=a id=b><a href=ftp:x>c</a><a href=http:x>d</a><video>e</video><script>f</script>"
+    kept = '<p title="a"><a>c</a><a href="http:x">d</a>e'
+    for words in ([firnuubal, "clean"], [firnuubal, "clean", "--policy", "printed"]):
+        yield fault(words, run(folder, words, input=page), kept, "", 0)
 
 
 def without_permission(folder):
@@ -114,8 +159,8 @@ def without_permission(folder):
     (folder / "locked").chmod(0)
     if os.geteuid() == 0:
         return
-    words = ["links", "locked", "page"]
-    yield fault(words, run(folder, words), "1 x\n", [f"locked: {DENIED}"], 1)
+    words = ["firnuubal", "links", "locked", "page"]
+    yield fault(words, run(folder, words), "1 x\n", f"firnuubal: locked: {DENIED}\n", 1)
 
 
 def of_many_files(folder):
@@ -128,15 +173,27 @@ def of_many_files(folder):
     (folder / "100.html").mkdir()
     (folder / "199.html").write_bytes(b"\xff")
     printed = "".join(f"1 {name}\n" for name in names if name not in bad)
-    said = [f"{name}: {bad[name]}" for name in names if name in bad]
-    yield fault("200 files", run(folder, ["links", *names]), printed, said, 1)
+    said = "".join(f"firnuubal: {name}: {bad[name]}\n" for name in names if name in bad)
+    yield fault("200 files", run(folder, ["firnuubal", "links", *names]), printed, said, 1)
+
+
+def of_long_pages(folder):
+    """Pages of 5 MB, a run of text of 1 MB, and a character that stands over the end of the first read."""
+    for part, times, printed in PARTS:
+        for command, line in printed.items():
+            ran = run(folder, ["firnuubal", command], input=part.encode() * times)
+            right = ran.returncode == 0 and not ran.stderr and ran.stdout == line.encode() * times
+            yield "" if right else f"{command} of {times} times {part}: status {ran.returncode}"
+    text = "a" * 4095 + "\u20acb"
+    ran = run(folder, ["firnuubal", "tokens"], input=text.encode())
+    yield fault("4,095 letters", ran, f'text "{text}"\neof 1\n', "", 0)
 
 
 def to_a_full_device(folder):
     """An output that takes nothing."""
     for command in ["tokens", "links", "text", "clean"]:
         with open("/dev/full", "wb") as full:
-            ran = run(folder, [command, "page"], stdout=full)
+            ran = run(folder, ["firnuubal", command, "page"], stdout=full)
         told = "firnuubal: output: No space left on device (os error 28)\n"
         right = ran.returncode == 1 and ran.stderr.decode() == told
         yield "" if right else f"{command} to /dev/full: {ran!r}"
@@ -147,7 +204,7 @@ def to_a_closed_pipe(folder):
     (folder / "long").write_bytes(b"<a href=x>y</a>\n" * (35 * MB // 16))
     for command in ["tokens", "links", "text", "clean"]:
         with subprocess.Popen(
-            [PROGRAM, command, "long"], cwd=folder, stdout=subprocess.PIPE, stderr=subprocess.PIPE
+            [PROGRAMS["firnuubal"], command, "long"], cwd=folder, stdout=subprocess.PIPE, stderr=subprocess.PIPE
         ) as process:
             process.stdout.readline()
             process.stdout.close()
@@ -156,12 +213,49 @@ def to_a_closed_pipe(folder):
         yield "" if right else f"{command} to a closed pipe: status {process.returncode}, {told!r}"
 
 
+def writes_of(folder, words, given):
+    """The writes of html5tok over an input, and its status."""
+    ours, its = socket.socketpair(socket.AF_UNIX, socket.SOCK_SEQPACKET)
+    (folder / "given").write_bytes(given)
+    with open(folder / "given", "rb") as stdin, ours:
+        with subprocess.Popen([PROGRAMS["html5tok"], *words], stdin=stdin, stdout=its) as process:
+            its.close()
+            writes = list(iter(lambda: ours.recv(MB), b""))
+    return writes, process.returncode
+
+
+def by_pages(folder):
+    """A page of output is 65,536 bytes, and html5tok writes it after the piece of input that fills it."""
+    plain = ["--state", "plaintext"]
+    # Each tag is printed in 12 bytes, and so a piece of 4,096 bytes in 16,380 or 16,392; the end in 6.
+    times = 87_382
+    writes, status = writes_of(folder, [], b"<b>" * times)
+    *pages, _ = map(len, writes)
+    right = status == 0 and b"".join(writes) == b'start 1 "b"\n' * times + b"eof 1\n"
+    right = right and 12 <= len(writes) <= 17 and all(65_536 <= size < 81_928 for size in pages)
+    yield "" if right else f"a megabyte of tags: status {status}, writes of {[*map(len, writes)]}"
+    # A letter is printed as one byte, after 6 bytes with which the text begins. So the first page shows how many are fed
+    # at once.
+    text = b"abcde" * 40_000
+    for cut, first in [("1", 65_536), ("2", 65_536), ("7", 65_540), ("1000", 66_006)]:
+        writes, status = writes_of(folder, [*plain, "--cut", cut], text)
+        right = status == 0 and len(writes[0]) == first and b"".join(writes) == b'text "' + text + b'"\neof 1\n'
+        yield "" if right else f"--cut {cut}: status {status}, writes of {[*map(len, writes)]}"
+    for words, given, printed in [
+        (plain, b"\n" * 80_000, 'text "' + "\\n" * 80_000 + '"\neof 80001\n'),
+        ([], b"abcdefghij" * 100_000, 'text "' + "abcdefghij" * 100_000 + '"\neof 1\n'),
+    ]:
+        ran = run(folder, ["html5tok", *words], input=given)
+        right = ran.returncode == 0 and not ran.stderr and ran.stdout == printed.encode()
+        yield "" if right else f"html5tok of {len(given)} bytes: status {ran.returncode}"
+
+
 def main():
-    parts = [by_words, of_a_bad_policy, without_permission, of_many_files, to_a_full_device, to_a_closed_pipe]
+    parts = [by_lines, of_itself, without_permission, of_many_files, of_long_pages, to_a_full_device, to_a_closed_pipe]
     with tempfile.TemporaryDirectory() as name:
         folder = pathlib.Path(name)
         made_in(folder)
-        found = [answer for part in parts for answer in part(folder)]
+        found = [answer for part in [*parts, by_pages] for answer in part(folder)]
     faults = list(filter(None, found))
     for answer in faults:
         print(f"tools/commands.py: {answer}")

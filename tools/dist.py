@@ -4,13 +4,13 @@
     python3 tools/dist.py
     python3 tools/dist.py --check
 
-A release is what bindings/build.sh left in bindings/out, the archive, the shared library and the header, with a wheel
-for Python made of them, and a record. That names the version, the toolchains, a hash of the sources and one of each
-file. A release is made at the end of a change that callers see, not at each commit.
+A release is what bindings/build.sh left in bindings/out, the archive, the shared library, the header and the extension
+for Python, with a wheel made of them, and a record. That names the version, the toolchains, a hash of the sources and one
+of each file. A release is made at the end of a change that callers see, not at each commit.
 
 With --check each file is compared with its hash in the record. Where the record names the sources and the toolchains
-that are here, the release is made once more, and must be the same to the byte. Else a line says of which version it
-is. Status 0: all that was compared is the same. 1: something differs, or there is no release.
+that are here, and all was built, the release is made once more, and must be the same to the byte. Else a line says of
+which version it is. Status 0: all that was compared is the same. 1: something differs, or there is no release.
 """
 
 import hashlib
@@ -24,9 +24,12 @@ TOP = pathlib.Path(__file__).resolve().parent.parent
 DIST = TOP / "dist"
 OUT = TOP / "bindings" / "out"
 RECORD = DIST / "record.json"
-BUILT = ("firnuubal.h", "libfirnuubal.a", "libfirnuubal.so")
+BUILT = ("firnuubal.h", "libfirnuubal.a", "libfirnuubal.so", "_fast.abi3.so")
+# The headers of Python are those of this version.
+TOOLCHAINS = (("rt", "version"), ("gcc", "--version"), ("ld", "--version"), ("python3", "--version"))
 SHIPPED = ("bindings/c/firnuubal.h", "bindings/build.sh", "bindings/python/backend.py", "bindings/python/pyproject.toml")
-SHIPPED += ("bindings/python/README.md", "LICENSE-APACHE", "LICENSE-MIT")
+SHIPPED += ("bindings/python/native/_fast.c", "bindings/python/native/build.sh", "bindings/python/README.md")
+SHIPPED += ("LICENSE-APACHE", "LICENSE-MIT")
 
 sys.dont_write_bytecode = True
 sys.path.insert(0, str(TOP / "bindings" / "python"))
@@ -53,7 +56,7 @@ def sources():
     for crate in sorted(below("html5c", lines)):
         yield from sorted((TOP / "crates" / crate / "src").rglob("*.rt"))
     yield from (TOP / name for name in SHIPPED)
-    yield from sorted((TOP / "bindings/python/src/firnuubal").glob("*.py"))
+    yield from sorted(it for it in (TOP / "bindings/python/src/firnuubal").iterdir() if it.suffix in (".py", ".pyi"))
 
 
 def sum_of(content):
@@ -77,15 +80,20 @@ def release_into(folder):
     files = sorted(file.name for file in folder.iterdir())
     return {
         "version": backend.project()["version"],
-        "toolchains": [said("rt", "version"), said("gcc", "--version"), said("ld", "--version")],
+        "toolchains": [said(name, word) for name, word in TOOLCHAINS],
         "sources": sum_of_sources(),
         "files": {name: sum_of((folder / name).read_bytes()) for name in files},
     }
 
 
+def not_built():
+    """The files of a release that bindings/out lacks."""
+    return [name for name in BUILT if not (OUT / name).is_file()]
+
+
 def make():
-    if any(not (OUT / name).is_file() for name in BUILT):
-        sys.exit("tools/dist.py: bindings/out has no library: run bindings/build.sh")
+    if not_built():
+        sys.exit(f"tools/dist.py: bindings/out has no {', '.join(not_built())}: run bindings/build.sh")
     DIST.mkdir(exist_ok=True)
     for file in DIST.iterdir():
         file.unlink()
@@ -107,14 +115,17 @@ def check():
         return 1
     record = json.loads(RECORD.read_text(encoding="utf-8"))
     wrong = differing(record)
-    with tempfile.TemporaryDirectory() as folder:
-        again = release_into(pathlib.Path(folder))
-    same = all(again[key] == record[key] for key in ("sources", "toolchains"))
-    if same:
-        wrong += [name for name in again["files"] if again["files"][name] != record["files"].get(name)]
+    of = "other sources or toolchains"
+    if not_built():
+        of = f"other sources or of these: bindings/out has no {', '.join(not_built())} to make it again"
+    else:
+        with tempfile.TemporaryDirectory() as folder:
+            again = release_into(pathlib.Path(folder))
+        if all(again[key] == record[key] for key in ("sources", "toolchains")):
+            wrong += [name for name in again["files"] if again["files"][name] != record["files"].get(name)]
+            of = "these sources, made again to the byte"
     for name in wrong:
         print(f"tools/dist.py: {name} in dist/ is not what it says")
-    of = "these sources, made again to the byte" if same and not wrong else "other sources or toolchains"
     if not wrong:
         print(f"tools/dist.py: dist/ has version {record['version']}, of {of}")
     return min(len(wrong), 1)

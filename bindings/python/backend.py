@@ -1,10 +1,12 @@
-"""Builds the wheel of the package: its files and the library, with the standard library alone.
+"""Builds the wheel of the package: its files, the library and the extension, with the standard library alone.
 
-pip calls `build_wheel` (PEP 517), and so does tools/dist.py. The same files make the same wheel, to the byte.
+pip calls `build_wheel` (PEP 517), and so does tools/dist.py. The same files make the same wheel, to the byte. Where the
+extension isn't beside the library, or this Python takes none of the stable ABI, the wheel is without it.
 """
 
 import base64
 import hashlib
+import importlib.machinery
 import os
 import pathlib
 import re
@@ -13,7 +15,7 @@ import zipfile
 HERE = pathlib.Path(__file__).resolve().parent
 TOP = HERE.parent.parent
 LIBRARY = "libfirnuubal.so"
-TAG = "py3-none-manylinux_2_17_x86_64"
+EXTENSION = "_fast.abi3.so"
 
 
 def library():
@@ -25,6 +27,18 @@ def library():
             return folder / LIBRARY
     places = ", ".join(str(folder) for folder in folders)
     raise FileNotFoundError(f"{LIBRARY} is in none of {places}: run bindings/build.sh")
+
+
+def extension():
+    """The extension, or None."""
+    beside = library().parent / EXTENSION
+    is_taken = ".abi3.so" in importlib.machinery.EXTENSION_SUFFIXES
+    return beside if is_taken and beside.is_file() else None
+
+
+def tag():
+    """Where the wheel can be installed."""
+    return f"{'cp38-abi3' if extension() else 'py3-none'}-manylinux_2_17_x86_64"
 
 
 def project():
@@ -53,13 +67,14 @@ def metadata():
 def contents():
     """The files of the wheel, by their names in it."""
     package = sorted((HERE / "src" / "firnuubal").iterdir())
-    files = {f"firnuubal/{file.name}": file.read_bytes() for file in package if file.suffix in (".py", ".typed")}
-    files[f"firnuubal/{LIBRARY}"] = library().read_bytes()
+    files = {f"firnuubal/{file.name}": file.read_bytes() for file in package if file.suffix in (".py", ".pyi", ".typed")}
+    for file in filter(None, (extension(), library())):
+        files[f"firnuubal/{file.name}"] = file.read_bytes()
     info = "firnuubal-{version}.dist-info".format(**project())
     for name in ("LICENSE-APACHE", "LICENSE-MIT"):
         files[f"{info}/licenses/{name}"] = (TOP / name).read_bytes()
     files[f"{info}/METADATA"] = metadata().encode()
-    files[f"{info}/WHEEL"] = f"Wheel-Version: 1.0\nGenerator: firnuubal\nRoot-Is-Purelib: false\nTag: {TAG}\n".encode()
+    files[f"{info}/WHEEL"] = f"Wheel-Version: 1.0\nGenerator: firnuubal\nRoot-Is-Purelib: false\nTag: {tag()}\n".encode()
     record = f"{info}/RECORD"
     files[record] = "".join(recorded(name, content) for name, content in files.items()).encode() + f"{record},,\n".encode()
     return files
@@ -73,7 +88,7 @@ def recorded(name, content):
 
 def build_wheel(wheel_directory, config_settings=None, metadata_directory=None):
     """Writes the wheel into a folder, and answers its name."""
-    name = "firnuubal-{version}-{tag}.whl".format(**project(), tag=TAG)
+    name = "firnuubal-{version}-{tag}.whl".format(**project(), tag=tag())
     with zipfile.ZipFile(pathlib.Path(wheel_directory) / name, "w", zipfile.ZIP_STORED) as wheel:
         for file, content in contents().items():
             entry = zipfile.ZipInfo(file, (1980, 1, 1, 0, 0, 0))

@@ -36,6 +36,16 @@ static bool takes(html5_handle *handle, size_t room, const char *bytes, size_t l
 
 #define TAKES(handle, room, bytes) takes(handle, room, bytes, sizeof bytes - 1)
 
+/* Whether the next token that was sent, past errors, is of this kind and has this text. */
+static bool is_next(html5_reader *reader, html5_handle *handle, enum html5_kind kind, const char *text) {
+    html5_token token;
+    if (!html5_fill(reader, handle)) return false;
+    do {
+        if (!html5_next_token(reader, &token)) return false;
+    } while (token.kind == HTML5_PARSE_ERROR);
+    return token.kind == kind && token.text.len == strlen(text) && memcmp(token.text.at, text, token.text.len) == 0;
+}
+
 static void reads_a_page_in_pieces(void) {
     html5_handle handle = {0};
     html5_options options = {0};
@@ -77,6 +87,25 @@ static void pauses_and_lets_text_in(void) {
     html5_free(&handle);
 }
 
+/* What was put in front of what waits is read before it, tags too. */
+static void reads_inserted_text_first(void) {
+    html5_handle handle = {0};
+    html5_reader reader = {0};
+    html5_options options = {.replies = HTML5_PAUSING_REPLIES};
+    CHECK(open_after(&handle, "", options) == HTML5_DONE);
+    CHECK(feed(&handle, "<script>a</script>c<meta charset=x>d") == HTML5_SCRIPT);
+    CHECK(insert(&handle, "<b>") == HTML5_DONE);
+    CHECK(feed(&handle, "") == HTML5_ENCODING);
+    CHECK(feed(&handle, "e") == HTML5_DONE);
+    CHECK(html5_end(&handle) == HTML5_DONE);
+    CHECK(is_next(&reader, &handle, HTML5_START_TAG, "script") && is_next(&reader, &handle, HTML5_TEXT, "a"));
+    CHECK(is_next(&reader, &handle, HTML5_END_TAG, "script") && is_next(&reader, &handle, HTML5_START_TAG, "b"));
+    CHECK(is_next(&reader, &handle, HTML5_TEXT, "c") && is_next(&reader, &handle, HTML5_START_TAG, "meta"));
+    CHECK(is_next(&reader, &handle, HTML5_TEXT, "de") && is_next(&reader, &handle, HTML5_END, ""));
+    html5_reader_free(&reader);
+    html5_free(&handle);
+}
+
 static void says_where_bytes_are_no_text(void) {
     html5_handle handle = {0};
     html5_options options = {.state = HTML5_RCDATA};
@@ -91,18 +120,57 @@ static void says_where_bytes_are_no_text(void) {
     html5_free(&handle);
 }
 
+/* A character that two feeds bring, and after it a byte that is none: the byte alone is refused. */
+static void refuses_no_byte_before_the_place(void) {
+    html5_handle handle = {0};
+    html5_reader reader = {0};
+    html5_options options = {.replies = HTML5_NO_REPLIES};
+    CHECK(open_after(&handle, "", options) == HTML5_DONE);
+    CHECK(feed(&handle, "ab\xc3") == HTML5_DONE);
+    CHECK(html5_end(&handle) == HTML5_CUT);
+    CHECK(feed(&handle, "\xa9" "c\xff" "d") == HTML5_NOT_UTF8);
+    CHECK(html5_error_at(&handle) == 5);
+    CHECK(feed(&handle, "d") == HTML5_DONE);
+    CHECK(html5_end(&handle) == HTML5_DONE);
+    CHECK(is_next(&reader, &handle, HTML5_TEXT, "ab\xc3\xa9" "cd") && is_next(&reader, &handle, HTML5_END, ""));
+    html5_reader_free(&reader);
+    html5_free(&handle);
+}
+
+/* Where the next feed doesn't go on with a character, what was held of it is refused, and dropped. */
+static void drops_a_character_that_is_cut_off(void) {
+    html5_handle handle = {0};
+    html5_reader reader = {0};
+    html5_options options = {0};
+    CHECK(open_after(&handle, "", options) == HTML5_DONE);
+    CHECK(feed(&handle, "a\xe2\x82") == HTML5_DONE);
+    CHECK(feed(&handle, "x\xff") == HTML5_NOT_UTF8);
+    CHECK(html5_error_at(&handle) == 1);
+    CHECK(feed(&handle, "x") == HTML5_DONE);
+    CHECK(html5_end(&handle) == HTML5_DONE);
+    CHECK(is_next(&reader, &handle, HTML5_TEXT, "ax") && is_next(&reader, &handle, HTML5_END, ""));
+    html5_reader_free(&reader);
+    html5_free(&handle);
+}
+
 static void pauses_before_bytes_that_are_no_text(void) {
     html5_handle handle = {0};
+    html5_reader reader = {0};
     html5_options options = {.replies = HTML5_PAUSING_REPLIES};
     CHECK(open_after(&handle, "", options) == HTML5_DONE);
-    CHECK(feed(&handle, "<script></script>a\xff") == HTML5_SCRIPT);
+    CHECK(feed(&handle, "<script></script>a\xff" "b") == HTML5_SCRIPT);
+    CHECK(html5_error_at(&handle) == 0);
     CHECK(html5_end(&handle) == HTML5_WAITING);
-    CHECK(feed(&handle, "b") == HTML5_NOT_UTF8);
+    CHECK(feed(&handle, "c") == HTML5_NOT_UTF8);
     CHECK(html5_error_at(&handle) == 18);
-    CHECK(feed(&handle, "<meta charset=x>\xff") == HTML5_ENCODING);
+    CHECK(feed(&handle, "d<meta charset=x>\xc0") == HTML5_ENCODING);
     CHECK(html5_end(&handle) == HTML5_NOT_UTF8);
-    CHECK(html5_error_at(&handle) == 34);
+    CHECK(html5_error_at(&handle) == 35);
     CHECK(html5_end(&handle) == HTML5_DONE);
+    CHECK(is_next(&reader, &handle, HTML5_START_TAG, "script") && is_next(&reader, &handle, HTML5_END_TAG, "script"));
+    CHECK(is_next(&reader, &handle, HTML5_TEXT, "ad") && is_next(&reader, &handle, HTML5_START_TAG, "meta"));
+    CHECK(is_next(&reader, &handle, HTML5_END, ""));
+    html5_reader_free(&reader);
     html5_free(&handle);
 }
 
@@ -138,6 +206,25 @@ static void holds_no_more_than_its_limit(void) {
     html5_free(&handle);
 }
 
+/* After a pause what was fed counts until all of it is read, and so does what is put in front. */
+static void counts_what_waits_after_a_pause(void) {
+    html5_handle handle = {0};
+    html5_options options = {.replies = HTML5_PAUSING_REPLIES};
+    CHECK(open_after(&handle, "", options) == HTML5_DONE);
+    CHECK(html5_set_limit(&handle, 10) == HTML5_DONE);
+    CHECK(feed(&handle, "</script>") == HTML5_SCRIPT);
+    take_all(&handle);
+    CHECK(feed(&handle, "12") == HTML5_LIMIT);
+    CHECK(insert(&handle, "12") == HTML5_LIMIT);
+    CHECK(insert(&handle, "1") == HTML5_DONE);
+    CHECK(feed(&handle, "2") == HTML5_LIMIT);
+    CHECK(feed(&handle, "") == HTML5_DONE);
+    take_all(&handle);
+    CHECK(feed(&handle, "0123456789a") == HTML5_LIMIT);
+    CHECK(feed(&handle, "0123456789") == HTML5_DONE);
+    html5_free(&handle);
+}
+
 /* Why there is no next token: all is read, or a text is open. */
 static void says_why_there_is_no_token(void) {
     html5_handle handle = {0};
@@ -162,22 +249,12 @@ static void says_why_there_is_no_token(void) {
     html5_free(&handle);
 }
 
-/* Whether the next token that was sent, past errors, is of this kind and has this text. */
-static bool is_next(html5_reader *reader, html5_handle *handle, enum html5_kind kind, const char *text) {
-    html5_token token;
-    if (!html5_fill(reader, handle)) return false;
-    do {
-        if (!html5_next_token(reader, &token)) return false;
-    } while (token.kind == HTML5_PARSE_ERROR);
-    return token.kind == kind && token.text.len == strlen(text) && memcmp(token.text.at, text, token.text.len) == 0;
-}
-
 static void lets_the_caller_reply(void) {
     html5_handle handle = {0};
     html5_reader reader = {0};
     html5_options options = {.replies = HTML5_CALLER_REPLIES};
     CHECK(open_after(&handle, "", options) == HTML5_DONE);
-    CHECK(feed(&handle, "<style><b></style><svg><![CDATA[c]]></svg><![CDATA[d]]>") == HTML5_TAG);
+    CHECK(feed(&handle, "<style><b></style><svg><![CDATA[<c>]]></svg><![CDATA[d]]>") == HTML5_TAG);
     CHECK(is_next(&reader, &handle, HTML5_START_TAG, "style"));
     CHECK(html5_reply(&handle, 6) == HTML5_BAD_OPTION);
     CHECK(html5_reply(&handle, HTML5_RAWTEXT) == HTML5_DONE);
@@ -188,7 +265,7 @@ static void lets_the_caller_reply(void) {
     CHECK(is_next(&reader, &handle, HTML5_START_TAG, "svg"));
     CHECK(html5_set_foreign(&handle, true) == HTML5_DONE);
     CHECK(feed(&handle, "") == HTML5_TAG);
-    CHECK(is_next(&reader, &handle, HTML5_TEXT, "c") && is_next(&reader, &handle, HTML5_END_TAG, "svg"));
+    CHECK(is_next(&reader, &handle, HTML5_TEXT, "<c>") && is_next(&reader, &handle, HTML5_END_TAG, "svg"));
     CHECK(html5_set_foreign(&handle, false) == HTML5_DONE);
     CHECK(feed(&handle, "<p") == HTML5_DONE);
     CHECK(is_next(&reader, &handle, HTML5_COMMENT, "[CDATA[d]]"));
@@ -229,9 +306,13 @@ int main(void) {
     CHECK(html5_version() == FIRNUUBAL_VERSION_NUMBER);
     reads_a_page_in_pieces();
     pauses_and_lets_text_in();
+    reads_inserted_text_first();
     says_where_bytes_are_no_text();
+    refuses_no_byte_before_the_place();
+    drops_a_character_that_is_cut_off();
     pauses_before_bytes_that_are_no_text();
     holds_no_more_than_its_limit();
+    counts_what_waits_after_a_pause();
     says_why_there_is_no_token();
     lets_the_caller_reply();
     is_closed_until_it_is_opened();

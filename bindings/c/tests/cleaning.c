@@ -57,6 +57,21 @@ static void cleans_a_page_in_pieces(void) {
     html5_free(&cleaner);
 }
 
+/* The next page has the policy of the one before, and nothing that was not taken of it. */
+static void cleans_another_page(void) {
+    html5_handle cleaner = {0};
+    uint64_t place;
+    CHECK(open_by(&cleaner, "allow b\n", &place) == HTML5_DONE);
+    CHECK(feed(&cleaner, "<b>1<i>2</b>") == HTML5_DONE);
+    CHECK(html5_cleaner_end(&cleaner) == HTML5_DONE);
+    CHECK(html5_cleaner_restart(&cleaner) == HTML5_DONE);
+    CHECK(!html5_cleaner_is_over(&cleaner));
+    CHECK(feed(&cleaner, "<i>3<b>4") == HTML5_DONE);
+    CHECK(html5_cleaner_end(&cleaner) == HTML5_DONE);
+    CHECK(takes(&cleaner, 256, "3<b>4"));
+    html5_free(&cleaner);
+}
+
 static void says_where_bytes_are_no_text(void) {
     html5_handle cleaner = {0};
     uint64_t place;
@@ -68,6 +83,21 @@ static void says_where_bytes_are_no_text(void) {
     CHECK(feed(&cleaner, "d") == HTML5_DONE);
     CHECK(html5_cleaner_end(&cleaner) == HTML5_DONE);
     CHECK(takes(&cleaner, 256, "<p>abcd"));
+    html5_free(&cleaner);
+}
+
+/* A character that two feeds bring, and within a tag a byte that is none: the byte alone is refused. */
+static void refuses_no_byte_before_the_place(void) {
+    html5_handle cleaner = {0};
+    uint64_t place;
+    CHECK(open_by(&cleaner, "allow b\n", &place) == HTML5_DONE);
+    CHECK(feed(&cleaner, "ab\xc3") == HTML5_DONE);
+    CHECK(html5_cleaner_end(&cleaner) == HTML5_CUT);
+    CHECK(feed(&cleaner, "\xa9" "c<b\xff>d") == HTML5_NOT_UTF8);
+    CHECK(html5_cleaner_error_at(&cleaner) == 7);
+    CHECK(feed(&cleaner, ">e<i>") == HTML5_DONE);
+    CHECK(html5_cleaner_end(&cleaner) == HTML5_DONE);
+    CHECK(takes(&cleaner, 256, "ab\xc3\xa9" "c<b>e"));
     html5_free(&cleaner);
 }
 
@@ -84,10 +114,11 @@ static void holds_no_more_than_its_limit(void) {
     CHECK(feed(&cleaner, "y") == HTML5_LIMIT);
     CHECK(html5_cleaner_restart(&cleaner) == HTML5_DONE);
     CHECK(feed(&cleaner, "12345") == HTML5_LIMIT);
+    CHECK(feed(&cleaner, "1234") == HTML5_DONE);
     CHECK(html5_set_limit(&cleaner, UINT64_MAX) == HTML5_DONE);
-    CHECK(feed(&cleaner, "12345") == HTML5_DONE);
+    CHECK(feed(&cleaner, "56789") == HTML5_DONE);
     CHECK(html5_cleaner_end(&cleaner) == HTML5_DONE);
-    CHECK(takes(&cleaner, 256, "12345"));
+    CHECK(takes(&cleaner, 256, "123456789"));
     html5_free(&cleaner);
 }
 
@@ -146,7 +177,9 @@ static void is_of_one_kind_at_a_time(void) {
 
 int main(void) {
     cleans_a_page_in_pieces();
+    cleans_another_page();
     says_where_bytes_are_no_text();
+    refuses_no_byte_before_the_place();
     holds_no_more_than_its_limit();
     says_which_rule_is_wrong();
     is_closed_until_it_is_opened();

@@ -14,6 +14,12 @@ PAGE = "<p onclick=x>1 &lt; 2<script>x</script><a href=javascript:x>y</a>é"
 KEPT = "<p>1 &#60; 2<a>y</a>é"
 
 
+def rows_of(name):
+    """The rows of a file, which tools/cleaned.py reads too: it says what they are."""
+    path = pathlib.Path(__file__).resolve().parents[3] / "tools" / f"{name}.jsonl"
+    return map(json.loads, path.read_text(encoding="utf-8").splitlines())
+
+
 class Cleaning(unittest.TestCase):
     def test_pages_of_each_kind(self):
         given = [PAGE, PAGE.encode(), bytearray(PAGE.encode()), memoryview(PAGE.encode())]
@@ -31,11 +37,15 @@ class Cleaning(unittest.TestCase):
         with Cleaner() as cleaner:
             self.assertEqual([cleaner.clean("<b>1"), cleaner.clean("<i>2")], ["<b>1", "<i>2"])
 
-    def test_texts_that_attack_sanitizers(self):
-        rows = pathlib.Path(__file__).resolve().parents[3] / "tools" / "hostile.jsonl"
-        for row in rows.read_text(encoding="utf-8").splitlines():
-            text, kept = json.loads(row)[:2]
+    def test_worked_pages(self):
+        for text, kept in rows_of("hostile"):
             self.assertEqual(clean(text), kept, text)
+        policy = None
+        for row in rows_of("cleaned"):
+            if len(row) == 1:
+                policy = Policy(row[0])
+            elif len(row) == 2:
+                self.assertEqual(clean(row[0], policy), row[1], (policy, row[0]))
 
     def test_a_page_whose_pieces_are_cleaned(self):
         pieces = ("<p>", clean("<b>1</b>"), "2")
@@ -121,6 +131,12 @@ class Policies(unittest.TestCase):
                 for address in ("x", "http:x", "https:x", "mailto:x", "ftp:x"):
                     page = f"<{tag} {name}={address}>1"
                     self.assertEqual(clean(page, lists), clean(page), page)
+
+    def test_worked_faults(self):
+        for text, line, _ in (row for row in rows_of("cleaned") if len(row) == 3):
+            with self.assertRaises(PolicyError) as refused:
+                Policy(text)
+            self.assertEqual(refused.exception.line, line, text)
 
     def test_rules_that_no_policy_takes(self):
         for line, text in ((1, "allow script"), (2, "allow p\nallow p onclick"), (1, "schemes javascript"), (1, "keep p")):

@@ -6,6 +6,3 @@ mod session;
 
 pub use crate::session::CleaningSession;
 pub use html5session::SessionError;
-
-#[cfg(test)]
-mod tests;

@@ -7,8 +7,6 @@ pub mod laws;
 mod nested_writer;
 mod pieces;
 mod planned;
-#[cfg(test)]
-mod tests;
 mod white_space;
 
 pub use crate::fitted::{close_all, write_fitted};

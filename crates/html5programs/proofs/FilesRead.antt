@@ -1,69 +1,12 @@
 -- Files that are read one after the other.
-use Rattle.std.proofs.Common.{◌≡◌, ℕ, ◌+◌, ◌<◌, List, [], ◌∷◌, ◌++◌, length, map, take, get_or, Option, None, Some, refl, sym, ap, ◌∙◌, subst}
-use Rattle.std.specs.Prelude.{IfSome, encode_utf8_all}
+use Rattle.std.proofs.Common.{◌≡◌, ℕ, ◌+◌, ◌<◌, List, [], ◌∷◌, ◌++◌, length, map, take, get_or, Option, refl, sym, ap, ◌∙◌, subst}
 use Rattle.std.specs.Borrow.{Bor}
-use Rattle.std.specs.Io.KnownBytes.{Consumes, IsAtEnd}
-use Rattle.std.proofs.lemmas.List.{append-nil, take_more, map-append}
-use Rattle.html5encodings.specs.Decoding.{decoded}
+use Rattle.std.proofs.lemmas.List.{take_more, map-append}
 use Rattle.html5encodings.specs.declared.encoding.Encoding.{Encoding}
-use Rattle.html5stream.specs.Pages.{ReadsPage, passage_of}
-use Rattle.html5programs.specs.Filtering.{Making, IsInput, ReadsFile, ReadsFiles, ReadsText}
+use Rattle.html5programs.specs.Filtering.{Making, ReadsFile, ReadsFiles}
 use Rattle.markup5ever.specs.NamedReferences.{NamedReference}
 
--- a source of text that was read to its end gave all of it
-all-read : (all : List ℕ) (left : Option (List ℕ)) (text : List ℕ) → Consumes (Some all) left text → IsAtEnd left → text ≡ all
-all-read all None text consumed at_end = absurd consumed
-all-read all (Some later) text consumed at_end = sym (consumed ∙ ap (λ l. text ++ l) at_end ∙ append-nil text)
-
-module _ {T S : Type 0} (means : Making T S) (references : List NamedReference) where
-  -- a page in UTF-8 was read
-  pub reads-utf8 : (unread left : Option (List ℕ)) (before after : S)
-      → ReadsPage (λ s bytes. means.handed s (means.page references s bytes)) (passage_of (λ k. k) unread left (means.begun before) after)
-      → ReadsText means references None unread left before after
-  reads-utf8 unread left before after read = record { text = read.bytes; utf8 = read.utf8; told = read.told; whole = (read.consumed, read.at_end) }
-
-  decoded-text : (encoding : Encoding) (unread known left : Option (List ℕ)) (text : List ℕ)
-      → IfSome unread (λ bytes. known ≡ Some (encode_utf8_all (decoded encoding bytes)))
-      → Consumes known left text → IsAtEnd left → IfSome unread (λ bytes. text ≡ encode_utf8_all (decoded encoding bytes))
-  decoded-text encoding None known left text is consumed at_end = tt
-  decoded-text encoding (Some bytes) known left text is consumed at_end =
-      all-read (encode_utf8_all (decoded encoding bytes)) left text (subst (λ k. Consumes k left text) is consumed) at_end
-
-  -- the text was read that a page in an encoding decodes to
-  pub reads-decoded : (encoding : Encoding) (unread known left now : Option (List ℕ)) (before after : S)
-      → IfSome unread (λ bytes. known ≡ Some (encode_utf8_all (decoded encoding bytes)))
-      → ReadsPage (λ s bytes. means.handed s (means.page references s bytes)) (passage_of (λ k. k) known left (means.begun before) after)
-      → ReadsText means references (Some encoding) unread now before after
-  reads-decoded encoding unread known left now before after is read = record {
-    text = read.bytes;
-    utf8 = read.utf8;
-    told = read.told;
-    whole = decoded-text encoding unread known left read.bytes is read.consumed read.at_end;
-  }
-
 module _ {T S : Type 0} (means : Making T S) (references : List NamedReference) (encoding : Option Encoding) where
-  -- standard input was read
-  pub reads-input : (file : List ℕ) (unread left : Option (List ℕ)) (before after : S) → IsInput file
-      → ReadsText means references encoding unread left before after → ReadsFile means references encoding file unread left before after
-  reads-input file unread left before after is read = record {
-    text = read.text;
-    utf8 = read.utf8;
-    told = read.told;
-    input = λ _. read.whole;
-    other = λ another. absurd (another is);
-  }
-
-  -- another file was, and standard input is as it was
-  pub reads-other : (file : List ℕ) (known unread left : Option (List ℕ)) (before after : S) → ¬ (IsInput file)
-      → ReadsText means references encoding unread left before after → ReadsFile means references encoding file known known before after
-  reads-other file known unread left before after another read = record {
-    text = read.text;
-    utf8 = read.utf8;
-    told = read.told;
-    input = λ is. absurd (another is);
-    other = λ _. refl;
-  }
-
   pub reads-none : (known : Option (List ℕ)) (s : S) → ReadsFiles means references encoding [] known known s s
   unfolding ReadsFiles
   reads-none known s = (refl, refl)

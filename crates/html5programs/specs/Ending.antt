@@ -1,5 +1,5 @@
 -- How a run ends: its status, and what was read and printed.
-use Rattle.std.specs.Prelude.{◌≡◌, ℕ, List, [], ◌∷◌, Option, IsNone, IsSome, codes, true, false}
+use Rattle.std.specs.Prelude.{◌≡◌, ℕ, List, [], Option, IsNone, IsSome, codes, true, false}
 use Rattle.html5programs.specs.Encodings.{IsEncodingAsked, IsUnknownLabel}
 use Rattle.html5programs.specs.Filtering.{AreSettingsAsked, Making, ReadsFiles}
 use Rattle.html5programs.specs.References.{IsTableAsked}

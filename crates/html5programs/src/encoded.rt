@@ -56,9 +56,9 @@ pub fn read_page<F: Filter<W>, W: Target + Drop, S: Source>(
     encoding: Option<Encoding>,
     source: &mut S,
 ) -> (F, Result<(), StreamError>)
-    ensures text { OnOk result.1 (ReadsText F.means references.now encoding.entry
+    ensures text { OnOk result.1 (ReadsText F.means references.now encoding
         (S.remaining source.old) (S.remaining source.new) (F.state filter) (F.state result.0)) }
-    ensures read { OnOk result.1 (IsNone encoding.entry → S.failures source.new ≡ S.failures source.old) }
+    ensures read { OnOk result.1 (IsNone encoding → S.failures source.new ≡ S.failures source.old) }
 {
     let Some(encoding) = encoding else {
         return filter.read_page(alloc, source, references);

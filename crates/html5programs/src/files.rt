@@ -67,9 +67,9 @@ fn read_file<F: Filter<W>, W: Target + Drop, R: Files + Alloc<A = Global>, I: Re
     stdin: &mut Input<I>,
     file: &str,
 ) -> (F, Result<(), FileError>)
-    ensures file { OnOk result.1 (ReadsFile F.means references.now encoding.entry file.now
+    ensures file { OnOk result.1 (ReadsFile F.means references.now encoding file.now
         (I.remaining stdin.old.inner) (I.remaining stdin.new.inner) (F.state filter) (F.state result.0)) }
-    ensures read { OnOk result.1 (IsNone encoding.entry → stdin.new.failures ≡ stdin.old.failures) }
+    ensures read { OnOk result.1 (IsNone encoding → stdin.new.failures ≡ stdin.old.failures) }
 {
     if file == "-" {
         let (filter, read) = read_page(rt.alloc(), filter, references, encoding, stdin);
@@ -95,9 +95,9 @@ fn read_files<F: Filter<W>, W: Target + Drop, R: Files + Alloc<A = Global>, I: R
     files: &[&str],
     messages: &mut Messages<'_, E>,
 ) -> (F, Outcome)
-    ensures files { result.1 ≡ Outcome.Read → ReadsFiles F.means references.now encoding.entry (map (λ file. file.now) files.now)
+    ensures files { result.1 ≡ Outcome.Read → ReadsFiles F.means references.now encoding (map (λ file. file.now) files.now)
         (I.remaining stdin.old.inner) (I.remaining stdin.new.inner) (F.state filter) (F.state result.0) }
-    ensures read { result.1 ≡ Outcome.Read → IsNone encoding.entry → stdin.new.failures ≡ stdin.old.failures }
+    ensures read { result.1 ≡ Outcome.Read → IsNone encoding → stdin.new.failures ≡ stdin.old.failures }
 {
     let mut filter = filter;
     let mut outcome = Outcome::Read;
@@ -179,7 +179,7 @@ pub fn filter_files<
     stdout: O,
     messages: &mut Messages<'_, E>,
 ) -> (Logged<Output<O>>, Ending)
-    ensures done { result.1 ≡ Ending.Done → PrintsFiles F.means references.now encoding.entry settings (map (λ file. file.now) files.now)
+    ensures done { result.1 ≡ Ending.Done → PrintsFiles F.means references.now encoding settings (map (λ file. file.now) files.now)
         (I.remaining stdin.old.inner) (I.remaining stdin.new.inner) result.0.taken }
     ensures closed { result.1 ≡ Ending.Closed → result.0.inner.is_closed ≡ true }
     ensures words { (result.1 ≢ Ending.WrongWord) × (result.1 ≢ Ending.NoMemory) }

@@ -12,6 +12,3 @@ pub use crate::error::SessionError;
 pub use crate::laws::{readings_ignore_taking, records_wait_on};
 pub use crate::records::RecordSession;
 pub use crate::session::Session;
-
-#[cfg(test)]
-mod tests;

@@ -12,5 +12,3 @@ pub mod nesting;
 mod normal;
 pub mod plans;
 mod searches;
-#[cfg(test)]
-mod tests;

@@ -1,15 +1,7 @@
-//! Worked cases of pages that are cleaned.
+//! Tests of policies and of the cleaner, where no run of the program shows it.
 #![tactic(auto)]
 
 #[cfg(test)]
 mod addresses;
 #[cfg(test)]
-mod balance;
-#[cfg(test)]
-mod memory;
-#[cfg(test)]
 mod pages;
-#[cfg(test)]
-mod policies;
-#[cfg(test)]
-mod tree;

@@ -1,8 +1,12 @@
-//! Worked cases of what the tokenizer stands on, and of the sinks beside it.
+//! Worked cases of what the tokenizer stands on, of the sinks beside it, and of the texts of errors.
 #![tactic(auto)]
 
 #[cfg(test)]
+mod bytes;
+#[cfg(test)]
 mod collector;
+#[cfg(test)]
+mod errors;
 #[cfg(test)]
 mod links;
 #[cfg(test)]
@@ -13,6 +17,8 @@ mod names;
 mod options;
 #[cfg(test)]
 mod print_sink;
+#[cfg(test)]
+mod refusing;
 #[cfg(test)]
 mod small_char_set;
 #[cfg(test)]

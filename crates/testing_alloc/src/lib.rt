@@ -4,9 +4,6 @@
 use std::alloc::{AllocError, Allocator};
 use std::cell::Cell;
 
-#[cfg(test)]
-mod tests;
-
 /// An allocator that passes requests on to another and refuses one of them, so that a test can show
 /// what a refusal leaves. A block that grows or shrinks is one request, and a block that goes back is
 /// none. Pass it on as `&heap`.

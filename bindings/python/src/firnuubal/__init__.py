@@ -15,19 +15,21 @@ What the library says is proved; this package, which calls it and reads its reco
 
 from ._cleaner import ALLOWED_ATTRIBUTES, ALLOWED_TAGS, ALLOWED_URL_SCHEMES, Cleaner, Policy, clean
 from ._errors import PolicyError, Status, TokenizerError
+from ._readers import IS_FAST
 from ._records import (
     Comment,
     Doctype,
     End,
     EndTag,
     Instruction,
+    Link,
     NullCharacter,
     ParseError,
     StartTag,
     Text,
     Token,
 )
-from ._tokenizer import Fed, Link, Replies, State, Tokenizer, links, text, tokens
+from ._tokenizer import Fed, Replies, State, Tokenizer, links, text, tokens
 
 __version__ = "0.4.0"
 
@@ -41,6 +43,7 @@ __all__ = [
     "End",
     "EndTag",
     "Fed",
+    "IS_FAST",
     "Instruction",
     "Link",
     "NullCharacter",

@@ -70,10 +70,11 @@ def _load():
     for name, (arguments, answer) in _CALLS.items():
         function = getattr(loaded, name)
         function.argtypes, function.restype = arguments, answer
-    return loaded
+    return loaded, found[0].parent
 
 
-library = _load()
+# The library, and the folder where it was found.
+library, FOLDER = _load()
 
 ROOM = 1 << 16
 

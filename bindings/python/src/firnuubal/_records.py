@@ -1,7 +1,10 @@
-"""Tokens, and how they are read from the library's records (crates/html5records/README.md)."""
+"""Tokens, and how they are read from the library's records (crates/html5records/README.md).
+
+The extension `_fast`, where it is there, has these readers in C (native/_fast.c). What it reads and refuses is the same.
+"""
 
 import struct
-from typing import List, NamedTuple, Optional, Tuple, Union
+from typing import Iterable, List, Mapping, NamedTuple, Optional, Tuple, Union
 
 
 def _is_same(token, other):
@@ -100,9 +103,20 @@ class End(NamedTuple):
     __eq__, __ne__, __hash__ = _is_same, _is_other, _hash
 
 
+class Link(NamedTuple):
+    """A link, with the line on which its tag ends."""
+
+    line: int
+    address: str
+
+
 Token = Union[StartTag, EndTag, Text, Comment, Instruction, Doctype, NullCharacter, ParseError, End]
 
-_START, _END_TAG, _TEXT, _DOCTYPE, _ERROR = 1, 2, 3, 6, 8
+# The classes of tokens by their kind, from 1 on.
+CLASSES = (StartTag, EndTag, Text, Comment, Instruction, Doctype, NullCharacter, ParseError, End)
+
+_END_TAG, _TEXT, _DOCTYPE, _ERROR = 2, 3, 6, 8
+_TAGS = {1: StartTag, 2: EndTag}
 _WITH_TEXT = {4: Comment, 5: Instruction, 8: ParseError}
 _LINE_ALONE = {7: NullCharacter, 9: End}
 
@@ -156,9 +170,11 @@ def _other(kind, data, at):
 
 
 class Reader:
-    """Reads tokens from records as they are taken. All records but a text are taken whole."""
+    """Reads tokens from records as they are taken. All records but a text are taken whole.
 
-    def __init__(self, errors=True, texts=True, tags=None):
+    Bytes that are no records are a ValueError, and then the reader is of no more use."""
+
+    def __init__(self, errors: bool = True, texts: bool = True, tags: Optional[Iterable[str]] = None):
         # Whether parse errors are read. Else they end no text.
         self._errors = errors
         self._texts = texts
@@ -171,12 +187,22 @@ class Reader:
         self._run = []
         self._run_line = 1
 
-    def read(self, taken) -> List[Token]:
+    def read(self, taken: bytes) -> List[Token]:
         """The tokens whose end was taken."""
-        tokens, at = [], 0
+        tokens = []
+        try:
+            end = self._read_records(taken, tokens)
+        except (struct.error, LookupError, OverflowError):
+            end = None
+        if end != len(taken):
+            raise ValueError("what was taken is no whole record")
+        return tokens
+
+    def _read_records(self, taken, tokens):
+        """Reads all that was taken, and answers the place where the last record ends, as it says."""
+        at, size = 0, len(taken)
         if self._open is not None:
             at = self._read_text(taken, 0, tokens)
-        size = len(taken)
         while at < size:
             kind = taken[at]
             if kind == _TEXT:
@@ -188,7 +214,7 @@ class Reader:
                 at = self._read_tag(kind, taken, at + 1, tokens)
             else:
                 at = self._read_other(kind, taken, at + 1, tokens)
-        return tokens
+        return at
 
     def _read_text(self, taken, at, tokens):
         """Reads on in the open text, up to its end or to all that was taken."""
@@ -200,17 +226,17 @@ class Reader:
         parts, self._open = self._open, None
         if not self._texts:
             return end + 1
-        text = b"".join(parts).decode()
         if self._errors:
-            tokens.append(_new(Text, (self._line, text)))
+            tokens.append(_new(Text, (self._line, b"".join(parts).decode())))
         else:
             if not self._run:
                 self._run_line = self._line
-            self._run.append(text)
+            self._run += parts
         return end + 1
 
     def _read_tag(self, kind, taken, at, tokens):
         """Reads a tag from the place after its kind, or passes over it, and answers the place after it."""
+        which = _TAGS[kind]
         self._line, flags, size = _tag_head(taken, at)
         end = at + 17 + size
         name = taken[at + 17 : end]
@@ -218,19 +244,52 @@ class Reader:
         if self._tags is not None and name not in self._tags:
             return _after_attributes(taken, end + 8, count)
         attributes, end = _attributes(taken, end + 8, count) if count else ((), end + 8)
-        which = StartTag if kind == _START else EndTag
         tokens.append(_new(which, (self._line, name.decode(), attributes, flags & 1 > 0, flags & 2 > 0)))
         return end
 
     def _read_other(self, kind, taken, at, tokens):
+        if kind == _ERROR and not self._errors:
+            self._line, size = _two_numbers(taken, at)
+            return at + 16 + size
+        if self._run:
+            self._end_run(tokens)
         token, at = _other(kind, taken, at)
         self._line = token.line
-        if self._errors or kind != _ERROR:
-            if self._run:
-                self._end_run(tokens)
-            tokens.append(token)
+        tokens.append(token)
         return at
 
     def _end_run(self, tokens):
-        tokens.append(Text(self._run_line, "".join(self._run)))
+        tokens.append(Text(self._run_line, b"".join(self._run).decode()))
         self._run = []
+
+
+class LinkReader:
+    """Reads links: of the tags that are named, the attribute that is named for each."""
+
+    def __init__(self, attributes: Mapping[str, str]):
+        self._attributes = attributes
+        self._reader = Reader(texts=False, tags=attributes)
+
+    def read(self, taken: bytes) -> List[Link]:
+        """The links whose tags were taken."""
+        tags = (token for token in self._reader.read(taken) if type(token) is StartTag)
+        found = (Link(tag.line, tag.get(self._attributes[tag.name])) for tag in tags)
+        return [link for link in found if link.address is not None]
+
+
+class TextReader:
+    """Reads texts, but those after a start tag of the elements that are hidden and before their end tag."""
+
+    def __init__(self, hidden: Iterable[str]):
+        self._reader = Reader(tags=hidden)
+        self._within = False
+
+    def read(self, taken: bytes) -> List[str]:
+        """The texts whose end was taken."""
+        texts = []
+        for token in self._reader.read(taken):
+            if type(token) is StartTag or type(token) is EndTag:
+                self._within = type(token) is StartTag
+            elif type(token) is Text and not self._within:
+                texts.append(token.text)
+        return texts

@@ -2,11 +2,12 @@
 
 import ctypes
 import enum
-from typing import Iterable, Iterator, NamedTuple, Optional
+from typing import Iterable, Iterator, Optional
 
 from ._errors import Status, TokenizerError
 from ._library import ROOM, Handle, Options, bytes_of, library, pieces_of, taken
-from ._records import EndTag, Reader, StartTag, Text, Token
+from ._readers import LinkReader, Reader, TextReader
+from ._records import Link, Token
 
 
 class State(enum.IntEnum):
@@ -142,13 +143,10 @@ def _fed(tokenizer, piece):
         return None, refused
 
 
-def tokens(page, *, piece: int = ROOM, **options) -> Iterator[Token]:
-    """The tokens of a page, as they are read, past all pauses.
-
-    The page is a text, bytes, a file of either, or an iterable of pieces of either. The options are those of
-    `Tokenizer`. Where bytes are no UTF-8, the tokens before them come first, and then the error.
-    """
+def _items(page, piece, options, reader=None):
+    """What is read of a page, past all pauses: tokens, or what another reader makes of the records."""
     with Tokenizer(**options) as tokenizer:
+        tokenizer._reader = reader or tokenizer._reader
         for given in pieces_of(page, piece):
             fed = None
             while fed != Fed.DONE:
@@ -161,11 +159,13 @@ def tokens(page, *, piece: int = ROOM, **options) -> Iterator[Token]:
         yield from tokenizer.tokens()
 
 
-class Link(NamedTuple):
-    """A link, with the line on which its tag ends."""
+def tokens(page, *, piece: int = ROOM, **options) -> Iterator[Token]:
+    """The tokens of a page, as they are read, past all pauses.
 
-    line: int
-    address: str
+    The page is a text, bytes, a file of either, or an iterable of pieces of either. The options are those of
+    `Tokenizer`. Where bytes are no UTF-8, the tokens before them come first, and then the error.
+    """
+    return _items(page, piece, options)
 
 
 _LINKS = {"a": "href", "area": "href", "link": "href", "img": "src", "script": "src", "iframe": "src"}
@@ -174,19 +174,9 @@ _LINKS = {"a": "href", "area": "href", "link": "href", "img": "src", "script": "
 def links(page) -> Iterator[Link]:
     """The links of a page: `href` of a, area and link, `src` of img, script and iframe, as firnuubal links prints them but
     for tabs and line breaks in them, which stay."""
-    for token in tokens(page, texts=False, tags=_LINKS):
-        if type(token) is StartTag:
-            address = token.get(_LINKS[token.name])
-            if address is not None:
-                yield Link(token.line, address)
+    return _items(page, ROOM, {}, LinkReader(_LINKS))
 
 
 def text(page) -> str:
     """The text of a page, without its scripts and styles, as firnuubal text prints it."""
-    runs, within = [], False
-    for token in tokens(page, tags=("script", "style")):
-        if type(token) is StartTag or type(token) is EndTag:
-            within = type(token) is StartTag
-        elif type(token) is Text and not within:
-            runs.append(token.text)
-    return "".join(runs)
+    return "".join(_items(page, ROOM, {}, TextReader(("script", "style"))))

@@ -1,5 +1,5 @@
 -- the search doesn't split a text at its first line feed
-use Rattle.std.proofs.Common.{[], sym, ap, ◌∙◌, rules}
+use Rattle.std.proofs.Common.{sym, ap, ◌∙◌, rules}
 use Rattle.std.specs.List.{slice_split}
 use Rattle.std.specs.Option.{is_some}
 use Rattle.html5programs.specs.References.{is_line_feed, lines_said}

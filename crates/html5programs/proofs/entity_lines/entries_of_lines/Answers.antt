@@ -1,5 +1,5 @@
 -- the search doesn't split a text at its first line feed
-use Rattle.std.proofs.Common.{[], ap, rules}
+use Rattle.std.proofs.Common.{[], rules}
 use Rattle.std.specs.List.{slice_split}
 use Rattle.html5programs.specs.References.{is_line_feed}
 use Rattle.html5programs.proofs.EntityLines.{TakenOf-end, TakenOf-line, TakenOf-more, TakenOf-start, lines-last, lines-more}

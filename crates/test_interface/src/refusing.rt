@@ -1,7 +1,7 @@
-//! One request is refused, and no other.
-use crate::Refusing;
+//! An allocator for tests: one request is refused, and no other.
 use std::alloc::{AllocError, Allocator, Global};
 use std::collections::VecDeque;
+use testing_alloc::Refusing;
 
 // A queue of three texts, the last of which grows by one `addition` after another.
 fn queue_of_texts<A: Allocator + Copy>(

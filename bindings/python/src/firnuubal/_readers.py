@@ -1,0 +1,36 @@
+"""The readers of records: those of the extension `_fast`, where it is there, or else those in Python.
+
+The extension stands in the package or beside the library. With FIRNUUBAL_PURE=1 in the environment it is left aside.
+"""
+
+import functools
+import os
+import sys
+
+from . import _records
+from ._library import FOLDER
+
+
+def _extension():
+    """The extension, or None."""
+    if os.environ.get("FIRNUUBAL_PURE"):
+        return None
+    sys.modules[__package__].__path__.append(str(FOLDER))
+    try:
+        from . import _fast
+    except ImportError:
+        return None
+    return _fast
+
+
+_extended = _extension()
+
+# Whether the extension reads records.
+IS_FAST = _extended is not None
+
+if _extended is not None:
+    Reader = functools.partial(_extended.Reader, _records.CLASSES)
+    LinkReader = functools.partial(_extended.LinkReader, _records.Link)
+    TextReader = _extended.TextReader
+else:
+    Reader, LinkReader, TextReader = _records.Reader, _records.LinkReader, _records.TextReader

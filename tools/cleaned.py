@@ -1,0 +1,113 @@
+#!/usr/bin/env python3
+"""What firnuubal clean prints of worked pages and of texts that attack sanitizers, and what it says of faulty policies.
+
+    python3 tools/cleaned.py
+
+tools/cleaned.jsonl and tools/hostile.jsonl have a row a line, written by hand, as a list:
+
+    [POLICY]                the pages after it are cleaned by these rules; those before any, by the standard policy
+    [PAGE, PRINTED]         what is printed of a page
+    [POLICY, LINE, FAULT]   the line at which a policy is refused, and what is said of it
+
+Each page is read whole and in pieces of 1, 2 and 3 bytes, and what is printed is cleaned once more, which changes
+nothing. The program is the one that `rt ci` proved and left in crates/firnuubal/out. Each row that differs is said, and
+then the status is 1.
+"""
+
+import contextlib
+import json
+import os
+import pathlib
+import subprocess
+import sys
+import tempfile
+
+TOP = pathlib.Path(__file__).resolve().parent.parent
+PROGRAM = TOP / "crates/firnuubal/out/firnuubal"
+
+# The most bytes that are read at once.
+WHOLE = 4096
+
+# Policies, pages and what is printed of them, where many elements are open or many rules are said.
+MANY = range(200)
+LONG = [
+    ("allow b\nallow i\nbalance", "<b>" * 20_000 + "</i>" * 20_000, "<b>" * 20_000 + "</b>" * 20_000),
+    ("allow div\ntree", "<div>" * 511 + "1", "<div>" * 511 + "1" + "</div>" * 511),
+    ("allow div\ntree", "<div>" * 600 + "1", "<div>" * 511 + "1" + "</div>" * 511),
+    (
+        "everywhere href\n" + "".join(f"allow e{at} a{at}\nschemes s{at}\nhide h{at}\n" for at in MANY),
+        "".join(f"<e{at} a{at}=x b=y href=s{at}:z>{at}</e{at}><h{at}>hidden</h{at}>" for at in MANY) + "<e200 href=s200:z>",
+        "".join(f'<e{at} a{at}="x" href="s{at}:z">{at}</e{at}>' for at in MANY),
+    ),
+]
+
+
+def run(folder, policy, page, size):
+    """What the program prints, says and ends with. One read takes so many bytes of the page."""
+    words = []
+    if policy is not None:
+        (folder / "policy").write_text(policy, encoding="utf-8", newline="")
+        words = ["--policy", "policy"]
+    # By O_DIRECT a read takes what one write wrote, and no more.
+    source, target = os.pipe2(os.O_DIRECT | os.O_CLOEXEC)
+    with open(folder / "printed", "w+b") as printed:
+        streams = {"stdin": source, "stdout": printed, "stderr": subprocess.PIPE}
+        with subprocess.Popen([PROGRAM, "clean", *words], cwd=folder, **streams) as process:
+            os.close(source)
+            with open(target, "wb", buffering=0) as pipe, contextlib.suppress(BrokenPipeError):
+                for at in range(0, len(page), size):
+                    pipe.write(page[at : at + size])
+            said = process.stderr.read()
+        printed.seek(0)
+        return printed.read().decode(), said.decode(), process.returncode
+
+
+def shown(ran):
+    """What was found, short enough to be read."""
+    text = repr(ran)
+    return text if len(text) < 2000 else f"{text[:2000]}.."
+
+
+def of_page(folder, policy, page, printed, sizes=(WHOLE, 1, 2, 3)):
+    """What differs where a page is cleaned, read in pieces of these sizes, and where that is cleaned once more."""
+    runs = [(f"in pieces of {size}", page, size) for size in sizes] + [("once more", printed, WHOLE)]
+    for how, text, size in runs:
+        found = run(folder, policy, text.encode(), size)
+        if found != (printed, "", 0):
+            return f"{policy!r}, {shown(page)}, {how}: expected {shown(printed)}, found {shown(found)}"
+    return ""
+
+
+def of_fault(folder, policy, line, fault):
+    """What differs where a policy is refused."""
+    expected = ("", f"firnuubal: policy: line {line}: {fault}\n", 2)
+    found = run(folder, policy, b"<p>1", WHOLE)
+    return "" if found == expected else f"{policy!r}: expected {expected!r}, found {shown(found)}"
+
+
+def of_rows(folder, path):
+    """What differs at each row of a file."""
+    policy = None
+    for row in map(json.loads, path.read_text(encoding="utf-8").splitlines()):
+        if len(row) == 1:
+            policy = row[0]
+        elif len(row) == 2:
+            yield of_page(folder, policy, *row)
+        else:
+            yield of_fault(folder, *row)
+
+
+def main():
+    with tempfile.TemporaryDirectory() as name:
+        folder = pathlib.Path(name)
+        found = [answer for rows in ("hostile", "cleaned") for answer in of_rows(folder, TOP / f"tools/{rows}.jsonl")]
+        found += [of_page(folder, *row, sizes=(WHOLE,)) for row in LONG]
+    faults = list(filter(None, found))
+    for answer in faults:
+        print(f"tools/cleaned.py: {answer}")
+    print(f"tools/cleaned.py: {len(found)} rows, {len(faults)} otherwise")
+    return 1 if faults else 0
+
+
+if __name__ == "__main__":
+    sys.exit(main())
