@@ -6,7 +6,9 @@ ghost use Rattle.html5programs.specs.Version.{version_line};
 ghost use Rattle.html5programs.specs.Words.{asked_by, known_options, words_asked};
 
 use devices::{Logged, Target};
-use html5programs::{Choice, Ending, Filter, Input, Messages, Output, Program, Words, filter_by_words, words_of};
+use html5programs::{
+    Choice, Ending, Filter, Input, Messages, Output, Program, Words, filter_by_words, words_of,
+};
 use std::alloc::Global;
 use std::fs::Files;
 use std::io::{Read, Write};

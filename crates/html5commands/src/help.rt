@@ -16,8 +16,8 @@ Without a FILE, or where it is -, standard input is read. After -- all words are
   --version  the program's name and its version
 
 The status is 0 where all was done, or nobody reads the output any more; 1 where something could
-not be read or printed, and each such file is named; 2 where words, the label of an encoding, or a
-file that they name for entities or a policy, are wrong.
+not be read or printed, and each such file is named; 2 where words, the label of an encoding, the
+name of a format, or a file that they name for entities or a policy, are wrong.
 ";
 
 /// How `tokens` is used.

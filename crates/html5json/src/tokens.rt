@@ -9,7 +9,9 @@ ghost use Rattle.json.specs.Token.{begin_array, key};
 ghost use Rattle.json.specs.Tree.{items_tokens, json_tokens, members_tokens};
 ghost use Rattle.markup5ever.specs.Names.{attribute_of};
 
-use crate::members::{begin, begin_on_line, end_with_flag, end_with_text, write_option, write_text};
+use crate::members::{
+    begin, begin_on_line, end_with_flag, end_with_text, write_option, write_text,
+};
 use html5ever_interface::interface::token::{Doctype, Tag, TagKind, Token};
 use json::Writer;
 use markup5ever::interface::Attribute;
@@ -88,11 +90,7 @@ fn kind_word(kind: TagKind) -> &'static str
 }
 
 // Writes an object that has a type and a line, and no more.
-fn write_bare<A: Allocator>(
-    writer: &mut Writer<A>,
-    kind: &str,
-    line: u64,
-) -> Result<(), AllocError>
+fn write_bare<A: Allocator>(writer: &mut Writer<A>, kind: &str, line: u64) -> Result<(), AllocError>
     ensures { Adds result writer.old writer.new (json_tokens (on_line kind.now line no_members)) }
 {
     begin_on_line(writer, kind, line)?;
@@ -159,7 +157,13 @@ pub fn write_token<A: Allocator, B: Allocator>(
     match token {
         Token::CharacterTokens(text) => write_run(writer, text),
         Token::NullCharacterToken => write_bare(writer, "null", line),
-        Token::ParseError(message) => write_texted(writer, "error", line, "message", message.as_str()),
+        Token::ParseError(message) => write_texted(
+            writer,
+            "error",
+            line,
+            "message",
+            message.as_str(),
+        ),
         Token::TagToken(tag) => write_tag(writer, tag, line),
         Token::CommentToken(text) => write_texted(writer, "comment", line, "text", text),
         Token::ProcessingInstructionToken(text) => {
