@@ -122,10 +122,14 @@ def in_pieces(row, given):
         yield [given[:cut], given[cut:]], printed
 
 
-def by_lines(folder):
+def rows():
     """The runs of tools/commands.jsonl."""
-    for line in (TOP / "tools/commands.jsonl").read_text(encoding="utf-8").splitlines():
-        row = json.loads(line)
+    return map(json.loads, (TOP / "tools/commands.jsonl").read_text(encoding="utf-8").splitlines())
+
+
+def by_lines(folder):
+    """These runs, whole and in pieces."""
+    for row in rows():
         for name, content in row.get("files", {}).items():
             (folder / name).write_bytes(bytes_of(content))
         words, given = row["run"], bytes_of(row.get("in", ""))
@@ -133,6 +137,14 @@ def by_lines(folder):
         yield fault(words, run(folder, words, input=given), row.get("out", ""), *ending)
         for pieces, printed in in_pieces(row, given) if given else ():
             yield fault([words, pieces], run_by_pieces(folder, words, pieces), printed, *ending)
+
+
+def of_json(_folder):
+    """What Python reads of the objects that these runs print, and writes again."""
+    printed = "".join(row.get("out", "") for row in rows() if "json" in row["run"]).split("\n")
+    for line in filter(lambda line: line.startswith("{"), printed):
+        again = json.dumps(json.loads(line), ensure_ascii=False, separators=(",", ":"))
+        yield "" if again == line else f"{line}: Python writes {again}"
 
 
 def of_itself(folder):
@@ -251,11 +263,11 @@ def by_pages(folder):
 
 
 def main():
-    parts = [by_lines, of_itself, without_permission, of_many_files, of_long_pages, to_a_full_device, to_a_closed_pipe]
+    parts = [by_lines, of_json, of_itself, without_permission, of_many_files, of_long_pages, to_a_full_device]
     with tempfile.TemporaryDirectory() as name:
         folder = pathlib.Path(name)
         made_in(folder)
-        found = [answer for part in [*parts, by_pages] for answer in part(folder)]
+        found = [answer for part in [*parts, to_a_closed_pipe, by_pages] for answer in part(folder)]
     faults = list(filter(None, found))
     for answer in faults:
         print(f"tools/commands.py: {answer}")

@@ -1,16 +1,19 @@
 -- The commands of the program, the options that each knows, and what each prints.
-use Rattle.std.specs.Prelude.{◌≡◌, ℕ, Bool, true, false, List, [], ◌∷◌, ◌++◌, Option, None, Some, codes, option_map, if◌then◌else◌}
+use Rattle.std.specs.Prelude.{◌≡◌, ℕ, Bool, true, false, List, [], ◌∷◌, ◌++◌, Option, None, Some, codes, option_map, if◌then◌else◌, IsNone}
 use Rattle.std.specs.Str.{bytes_eq}
 use Rattle.html5cleaner.specs.Cleaning.{Standing, page_messages, policy_in, printed_of}
 use Rattle.html5cleaner.specs.declared.settings.PolicySettings.{PolicySettings}
 use Rattle.html5commands.specs.declared.command.Command.{Command}
 use Rattle.html5commands.specs.declared.command.Command.TheVariants.{Tokens, Links, Text, Clean}
+use Rattle.html5commands.specs.declared.format.Format.{Format}
+use Rattle.html5commands.specs.declared.format.Format.TheVariants.{Lines, Json}
 use Rattle.html5extract.specs.Makings.{links_made, text_made, tokens_made}
+use Rattle.html5json.specs.Makings.{json_links_made, json_tokens_made}
 use Rattle.html5policy.specs.Standard.{standard_policy}
 use Rattle.html5policy.specs.Text.{policy_said}
-use Rattle.html5programs.specs.Ending.{PrintsAsked}
+use Rattle.html5programs.specs.Ending.{AsksNoText, PrintsAsked}
 use Rattle.html5programs.specs.Filtering.{Making}
-use Rattle.html5programs.specs.Words.{Asked, KnownOption, words_asked}
+use Rattle.html5programs.specs.Words.{Asked, KnownOption, value_of, words_asked}
 
 -- the name of the program
 abbrev pub program_name : List ℕ
@@ -39,9 +42,13 @@ abbrev pub reading_options : List KnownOption
 reading_options =
     flag (codes "--help") ∷ flag (codes "--version") ∷ before_word (codes "--encoding") ∷ before_word (codes "--entities") ∷ []
 
+-- and of those that print in a format
+abbrev pub format_options : List KnownOption
+format_options = reading_options ++ before_word (codes "--format") ∷ []
+
 unfoldable pub options_of : Command → List KnownOption
-options_of Tokens = reading_options
-options_of Links = reading_options
+options_of Tokens = format_options
+options_of Links = format_options
 options_of Text = reading_options
 options_of Clean = reading_options ++ before_word (codes "--policy") ∷ flag (codes "--print-policy") ∷ []
 
@@ -76,6 +83,37 @@ NamesNothing (word ∷ words) = IsUnknownWord word
 abbrev pub asked_of_command : Named → Asked
 asked_of_command named = words_asked (options_of named.command) named.words
 
+-- ---- the format
+
+-- the format of this name
+unfoldable pub format_named : List ℕ → Option Format
+format_named word =
+    if bytes_eq word (codes "lines") then Some Lines
+    else if bytes_eq word (codes "json") then Some Json
+    else None
+
+-- lines, where no name is given
+abbrev pub format_of : Option (List ℕ) → Option Format
+format_of None = Some Lines
+format_of (Some word) = format_named word
+
+-- the format that words ask for, if there is such a one
+abbrev pub format_asked : Asked → Option Format
+format_asked asked = format_of (value_of (codes "--format") asked.given)
+
+-- they ask for no text and none is wrong, but there is no format of the name that they give
+pub record NamesNoFormat (asked : Asked) : Type 0 where
+  pub no_text : AsksNoText asked
+  pub no_wrong : IsNone asked.wrong
+  pub unknown : format_asked asked ≡ None
+
+-- the commands that print in a format
+abbrev pub has_formats : Command → Bool
+has_formats Tokens = true
+has_formats Links = true
+has_formats Text = false
+has_formats Clean = false
+
 -- ---- what is printed
 
 -- pages that are cleaned by a policy, after what was printed before
@@ -95,9 +133,19 @@ standard_settings = record { policy = standard_policy }
 abbrev pub settings_said : List ℕ → Option PolicySettings
 settings_said text = option_map (λ policy. record { policy = policy }) (policy_in (policy_said text))
 
+-- by the format that is asked for
+abbrev pub InFormat : Option Format → Type 0 → Type 0 → Type 0
+InFormat None lines json = ⊥
+InFormat (Some Lines) lines json = lines
+InFormat (Some Json) lines json = json
+
 -- all files that the words ask for were read, and what was written is what the command prints of them
 abbrev pub PrintsBy : Command → Asked → Option (List ℕ) → Option (List ℕ) → List ℕ → Type 0
-PrintsBy Tokens asked unread left written = PrintsAsked tokens_made tt (λ text. Some tt) asked unread left written
-PrintsBy Links asked unread left written = PrintsAsked links_made tt (λ text. Some tt) asked unread left written
+PrintsBy Tokens asked unread left written = InFormat (format_asked asked)
+    (PrintsAsked tokens_made tt (λ text. Some tt) asked unread left written)
+    (PrintsAsked json_tokens_made tt (λ text. Some tt) asked unread left written)
+PrintsBy Links asked unread left written = InFormat (format_asked asked)
+    (PrintsAsked links_made tt (λ text. Some tt) asked unread left written)
+    (PrintsAsked json_links_made tt (λ text. Some tt) asked unread left written)
 PrintsBy Text asked unread left written = PrintsAsked text_made tt (λ text. Some tt) asked unread left written
 PrintsBy Clean asked unread left written = PrintsAsked clean_made standard_settings settings_said asked unread left written

@@ -37,6 +37,29 @@ static READING: [Choice<'static>; 4] = [
     },
 ];
 
+static FORMATTING: [Choice<'static>; 5] = [
+    Choice {
+        name: "--help",
+        takes_word: false,
+    },
+    Choice {
+        name: "--version",
+        takes_word: false,
+    },
+    Choice {
+        name: "--encoding",
+        takes_word: true,
+    },
+    Choice {
+        name: "--entities",
+        takes_word: true,
+    },
+    Choice {
+        name: "--format",
+        takes_word: true,
+    },
+];
+
 static CLEANING: [Choice<'static>; 6] = [
     Choice {
         name: "--help",
@@ -84,7 +107,8 @@ fn choices_of(command: Command) -> &'static [Choice<'static>]
     ensures { known_options result.now ≡ options_of command }
 {
     match command {
-        Command::Tokens | Command::Links | Command::Text => READING.as_slice(),
+        Command::Tokens | Command::Links => FORMATTING.as_slice(),
+        Command::Text => READING.as_slice(),
         Command::Clean => CLEANING.as_slice(),
     }
 }

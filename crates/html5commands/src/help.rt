@@ -16,8 +16,8 @@ Without a FILE, or where it is -, standard input is read. After -- all words are
   --version  the program's name and its version
 
 The status is 0 where all was done, or nobody reads the output any more; 1 where something could
-not be read or printed, and each such file is named; 2 where words, the label of an encoding, or a
-file that they name for entities or a policy, are wrong.
+not be read or printed, and each such file is named; 2 where words, the label of an encoding, the
+name of a format, or a file that they name for entities or a policy, are wrong.
 ";
 
 /// How `tokens` is used.
@@ -34,6 +34,8 @@ Without a FILE, or where it is -, standard input is read. After -- all words are
   --entities FILE  the named character references, in place of the standard's 2,231: an entry
                    a line, or joined by commas, each NAME=HEX or NAME=HEX+HEX
                    Example: firnuubal tokens --entities names.txt page.html
+  --format FORMAT  lines, as where it isn't given, or json: an object of JSON on each line
+                   Example: firnuubal tokens --format json page.html
   --help           this text
                    Example: firnuubal tokens --help
   --version        the program's name and its version
@@ -55,6 +57,8 @@ Without a FILE, or where it is -, standard input is read. After -- all words are
   --entities FILE  the named character references, in place of the standard's 2,231: an entry
                    a line, or joined by commas, each NAME=HEX or NAME=HEX+HEX
                    Example: firnuubal links --entities names.txt page.html
+  --format FORMAT  lines, as where it isn't given, or json: an object of JSON on each line
+                   Example: firnuubal links --format json page.html
   --help           this text
                    Example: firnuubal links --help
   --version        the program's name and its version

@@ -1,6 +1,6 @@
 //! A run of the program, by the words after its name.
 ghost use Rattle.std.specs.Prelude.{◌≡◌, ◌⊎◌, ◌∷◌, [], true, Contains, IfSome, IsNone, Ok, codes, map, string_bytes};
-ghost use Rattle.html5commands.specs.Commands.{IsUnknownWord, NamesNothing, PrintsBy, asked_of_command, command_named, options_of, program_name};
+ghost use Rattle.html5commands.specs.Commands.{IsUnknownWord, NamesNoFormat, NamesNothing, PrintsBy, asked_of_command, command_named, has_formats, options_of, program_name};
 ghost use Rattle.html5policy.specs.Standard.{standard_policy};
 ghost use Rattle.html5policy.specs.Text.{policy_said};
 ghost use Rattle.html5programs.specs.Ending.{AsksNoText, AsksSettings, AsksVersion, HasWrongWord, NamesNoEncoding};
@@ -8,12 +8,15 @@ ghost use Rattle.html5programs.specs.Version.{version_line};
 ghost use Rattle.html5programs.specs.Words.{words_asked};
 
 use crate::command::{Command, command_of, program_of};
+use crate::format::filter_in_format;
 use crate::help::HELP;
 use devices::{Fault, Logged, Target, WriteTarget, given_words};
 use html5cleaner::CleanPrinter;
 use html5extract::links::Links;
 use html5extract::page_text::PageText;
 use html5extract::token_lines::TokenLines;
+use html5json::json_links::JsonLinks;
+use html5json::json_tokens::JsonTokens;
 use html5programs::{
     Ending, Input, Messages, Output, filter_by_words, no_such, print_text, print_version,
 };
@@ -48,6 +51,8 @@ fn by_command<R: Files + Alloc<A = Global>, I: Read, O: Write + Drop, E: Target>
     ensures closed { result.1 ≡ Ending.Closed → result.0.inner.is_closed ≡ true }
     ensures encoding { NamesNoEncoding (words_asked (options_of command) (map string_bytes words.now))
         → ((result.1 ≡ Ending.WrongValue) ⊎ (result.1 ≡ Ending.NoMemory)) × (stdin.new ≡ stdin.old) × (result.0.taken ≡ []) }
+    ensures format { has_formats command ≡ true → NamesNoFormat (words_asked (options_of command) (map string_bytes words.now))
+        → ((result.1 ≡ Ending.WrongValue) ⊎ (result.1 ≡ Ending.NoMemory)) × (stdin.new ≡ stdin.old) × (result.0.taken ≡ []) }
     ensures wrong { result.1 ≡ Ending.WrongWord
         → HasWrongWord (words_asked (options_of command) (map string_bytes words.now)) }
     ensures usage { HasWrongWord (words_asked (options_of command) (map string_bytes words.now))
@@ -58,12 +63,14 @@ fn by_command<R: Files + Alloc<A = Global>, I: Read, O: Write + Drop, E: Target>
     let program = program_of(command);
     match command {
         Command::Tokens => {
-            filter_by_words::<TokenLines<_>, R, I, O, E>(
+            filter_in_format::<TokenLines<_>, JsonTokens<_>, R, I, O, E>(
                 rt, program, words, stdin, stdout, messages,
             )
         }
         Command::Links => {
-            filter_by_words::<Links<_>, R, I, O, E>(rt, program, words, stdin, stdout, messages)
+            filter_in_format::<Links<_>, JsonLinks<_>, R, I, O, E>(
+                rt, program, words, stdin, stdout, messages,
+            )
         }
         Command::Text => {
             filter_by_words::<PageText<_>, R, I, O, E>(rt, program, words, stdin, stdout, messages)
@@ -120,6 +127,9 @@ pub fn command_by_words<R: Files + Alloc<A = Global>, I: Read, O: Write + Drop, 
     // When words are wrong, and that nothing is read and written then.
     ensures encoding { IfSome (command_named (map string_bytes words.now)) (λ named.
         NamesNoEncoding (asked_of_command named)
+        → ((result.1 ≡ Ending.WrongValue) ⊎ (result.1 ≡ Ending.NoMemory)) × (stdin.new ≡ stdin.old) × (result.0.taken ≡ [])) }
+    ensures format { IfSome (command_named (map string_bytes words.now)) (λ named.
+        has_formats named.command ≡ true → NamesNoFormat (asked_of_command named)
         → ((result.1 ≡ Ending.WrongValue) ⊎ (result.1 ≡ Ending.NoMemory)) × (stdin.new ≡ stdin.old) × (result.0.taken ≡ [])) }
     ensures usage { IfSome (command_named (map string_bytes words.now)) (λ named.
         HasWrongWord (asked_of_command named) → (result.1 ≡ Ending.WrongWord) ⊎ (result.1 ≡ Ending.NoMemory)) }

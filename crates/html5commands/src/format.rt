@@ -1,0 +1,134 @@
+//! The format of what is printed.
+ghost use Rattle.std.specs.Prelude.{◌≡◌, ◌⊎◌, [], true, false, IfErr, IfOk, IsNone, Some, map, string_bytes};
+ghost use Rattle.html5commands.specs.Commands.{InFormat, NamesNoFormat, format_asked, format_named};
+ghost use Rattle.html5programs.specs.Ending.{AsksNoText, AsksSettings, AsksVersion, HasWrongWord, NamesNoEncoding, PrintsAsked, asked_of};
+ghost use Rattle.html5programs.specs.Version.{version_line};
+ghost use Rattle.html5programs.specs.Words.{asked_by, known_options, words_asked};
+
+use devices::{Logged, Target};
+use html5programs::{
+    Choice, Ending, Filter, Input, Messages, Output, Program, Words, filter_by_words, words_of,
+};
+use std::alloc::Global;
+use std::fs::Files;
+use std::io::{Read, Write};
+
+/// How tokens and links are printed.
+#[derive(Clone, Copy, Debug, PartialEq, Eq)]
+pub enum Format {
+    /// For people: a line each.
+    Lines,
+    /// For programs: an object of JSON a line.
+    Json,
+}
+
+const NO_FORMAT: &str = "no such format: lines or json";
+
+// The format of this name.
+#[tactic(auto, unfolding(crate::specs::Commands::format_named))]
+fn format_named(word: &str) -> Option<Format>
+    ensures { result ≡ format_named word.now }
+{
+    match word {
+        "lines" => Some(Format::Lines),
+        "json" => Some(Format::Json),
+        _ => None,
+    }
+}
+
+// The format that words ask for.
+fn format_asked(asked: &Words<'_>) -> Option<Format>
+    ensures { result ≡ format_asked (asked_by asked.now) }
+{
+    match asked.value("--format") {
+        Some(word) => format_named(word),
+        None => Some(Format::Lines),
+    }
+}
+
+// Whether words are wrong, or ask for a text.
+fn is_for_no_page(asked: &Words<'_>) -> bool
+    ensures pages { result ≡ false → AsksNoText (asked_by asked.now) × IsNone (asked_by asked.now).wrong }
+    ensures none { AsksNoText (asked_by asked.now) → IsNone (asked_by asked.now).wrong → result ≡ false }
+{
+    asked.wrong.is_some()
+        || asked.has("--help")
+        || asked.has("--version")
+        || asked.has("--print-policy")
+}
+
+// The format to print pages in, or how a run ends where there is none. What it is where words are wrong, or ask for a
+// text, doesn't matter.
+fn format_by_words<E: Target>(
+    alloc: Global,
+    choices: &[Choice<'_>],
+    words: &[String],
+    messages: &mut Messages<'_, E>,
+) -> Result<Format, Ending>
+    ensures chosen { IfOk result (λ format. AsksNoText (words_asked (known_options choices.now) (map string_bytes words.now))
+        → IsNone (words_asked (known_options choices.now) (map string_bytes words.now)).wrong
+        → format_asked (words_asked (known_options choices.now) (map string_bytes words.now)) ≡ Some format) }
+    ensures refused { IfErr result (λ ending. (ending ≡ Ending.NoMemory) ⊎ ((ending ≡ Ending.WrongValue)
+        × NamesNoFormat (words_asked (known_options choices.now) (map string_bytes words.now)))) }
+{
+    let Ok(asked) = words_of(alloc, words, choices) else {
+        messages.say("words", "out of memory");
+        return Err(Ending::NoMemory);
+    };
+    if let Some(format) = format_asked(&asked) {
+        return Ok(format);
+    }
+    if is_for_no_page(&asked) {
+        return Ok(Format::Lines);
+    }
+    messages.say(asked.value("--format").unwrap_or("format"), NO_FORMAT);
+    Err(Ending::WrongValue)
+}
+
+/// Runs a program as `filter_by_words` does, by the filter of the format that the words ask for.
+pub fn filter_in_format<
+    F: Filter<Output<O>>,
+    J: Filter<Output<O>>,
+    R: Files + Alloc<A = Global>,
+    I: Read,
+    O: Write + Drop,
+    E: Target,
+>(
+    rt: &R,
+    program: Program<'_>,
+    words: &[String],
+    stdin: &mut Input<I>,
+    stdout: O,
+    messages: &mut Messages<'_, E>,
+) -> (Logged<Output<O>>, Ending)
+    ensures done { AsksNoText (asked_of program.entry (map string_bytes words.now)) → result.1 ≡ Ending.Done
+        → InFormat (format_asked (asked_of program.entry (map string_bytes words.now)))
+        (PrintsAsked F.means F.Settings.unsaid F.Settings.said (asked_of program.entry (map string_bytes words.now))
+        (I.remaining stdin.old.inner) (I.remaining stdin.new.inner) result.0.taken)
+        (PrintsAsked J.means J.Settings.unsaid J.Settings.said (asked_of program.entry (map string_bytes words.now))
+        (I.remaining stdin.old.inner) (I.remaining stdin.new.inner) result.0.taken) }
+    ensures version { AsksVersion (asked_of program.entry (map string_bytes words.now)) → result.1 ≡ Ending.Done
+        → result.0.taken ≡ version_line program.entry.name.now }
+    ensures settings { AsksSettings (asked_of program.entry (map string_bytes words.now)) → result.1 ≡ Ending.Done
+        → result.0.taken ≡ program.entry.settings.now }
+    ensures closed { result.1 ≡ Ending.Closed → result.0.inner.is_closed ≡ true }
+    ensures encoding { NamesNoEncoding (asked_of program.entry (map string_bytes words.now))
+        → ((result.1 ≡ Ending.WrongValue) ⊎ (result.1 ≡ Ending.NoMemory)) × (stdin.new ≡ stdin.old) × (result.0.taken ≡ []) }
+    ensures format { NamesNoFormat (asked_of program.entry (map string_bytes words.now))
+        → ((result.1 ≡ Ending.WrongValue) ⊎ (result.1 ≡ Ending.NoMemory)) × (stdin.new ≡ stdin.old) × (result.0.taken ≡ []) }
+    ensures wrong { result.1 ≡ Ending.WrongWord → HasWrongWord (asked_of program.entry (map string_bytes words.now)) }
+    ensures usage { HasWrongWord (asked_of program.entry (map string_bytes words.now))
+        → (result.1 ≡ Ending.WrongWord) ⊎ (result.1 ≡ Ending.NoMemory) }
+    ensures untouched { HasWrongWord (asked_of program.entry (map string_bytes words.now))
+        → (stdin.new ≡ stdin.old) × (result.0.taken ≡ []) }
+{
+    match format_by_words(rt.alloc(), program.choices, words, messages) {
+        Ok(Format::Lines) => {
+            filter_by_words::<F, R, I, O, E>(rt, program, words, stdin, stdout, messages)
+        }
+        Ok(Format::Json) => {
+            filter_by_words::<J, R, I, O, E>(rt, program, words, stdin, stdout, messages)
+        }
+        Err(ending) => (Logged::new(Output::new(stdout)), ending),
+    }
+}

@@ -1,0 +1,3 @@
+pub mod Addings
+pub mod InLine
+pub mod ReadBack

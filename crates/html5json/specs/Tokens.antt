@@ -1,0 +1,65 @@
+-- The tokens of a page as JSON: an object each.
+use Rattle.std.specs.Prelude.{ℕ, List, [], ◌∷◌, Option, None, Some, codes, decimal}
+use Rattle.html5ever_interface.specs.Token.{DoctypeOf, TagOf, Told}
+use Rattle.html5ever_interface.specs.Token.Told.{Text, Null, Error, Tag, Comment, Instruction, Doctype, End}
+use Rattle.html5ever_interface.specs.declared.interface.token.TagKind.{TagKind}
+use Rattle.html5ever_interface.specs.declared.interface.token.TagKind.TheVariants.{StartTag, EndTag}
+use Rattle.json.specs.Json.{Json, null, boolean, number, string, array, object, Items, no_items, item, Members, no_members, member}
+use Rattle.markup5ever.specs.Names.{AttributeOf}
+
+-- a text, or null where there is none
+abbrev pub json_of_option : Option (List ℕ) → Json
+json_of_option None = null
+json_of_option (Some text) = string text
+
+-- an attribute: its name and its value
+abbrev pub json_of_attribute : AttributeOf → Json
+json_of_attribute attribute = array (item (string attribute.name.local) (item (string attribute.value) no_items))
+
+-- attributes, in order
+abbrev pub attribute_items : List AttributeOf → Items
+attribute_items [] = no_items
+attribute_items (attribute ∷ attributes) = item (json_of_attribute attribute) (attribute_items attributes)
+
+-- an object of this type, with these members after the type
+abbrev pub of_type : List ℕ → Members → Json
+of_type kind members = object (member (codes "type") (string kind) members)
+
+-- and on this line
+abbrev pub on_line : List ℕ → ℕ → Members → Json
+on_line kind line members = of_type kind (member (codes "line") (number (decimal line)) members)
+
+-- a member that is a text, after all others
+abbrev pub last_text : List ℕ → List ℕ → Members
+last_text name text = member name (string text) no_members
+
+-- the type of a tag
+abbrev pub kind_word : TagKind → List ℕ
+kind_word StartTag = codes "start"
+kind_word EndTag = codes "end"
+
+-- what a tag holds
+abbrev pub tag_members : TagOf → Members
+tag_members tag =
+    member (codes "name") (string tag.name) (
+    member (codes "attributes") (array (attribute_items tag.attributes)) (
+    member (codes "self_closing") (boolean tag.self_closing) no_members))
+
+-- what a DOCTYPE holds
+abbrev pub doctype_members : DoctypeOf → Members
+doctype_members doctype =
+    member (codes "name") (json_of_option doctype.name) (
+    member (codes "public_id") (json_of_option doctype.public_id) (
+    member (codes "system_id") (json_of_option doctype.system_id) (
+    member (codes "force_quirks") (boolean doctype.force_quirks) no_members)))
+
+-- a token, on the line that the tokenizer has reached. A text has no line: it may stand on many.
+abbrev pub json_of_token : Told → ℕ → Json
+json_of_token (Text text) line = of_type (codes "text") (last_text (codes "text") text)
+json_of_token Null line = on_line (codes "null") line no_members
+json_of_token (Error message) line = on_line (codes "error") line (last_text (codes "message") message)
+json_of_token (Tag tag) line = on_line (kind_word tag.kind) line (tag_members tag)
+json_of_token (Comment text) line = on_line (codes "comment") line (last_text (codes "text") text)
+json_of_token (Instruction text) line = on_line (codes "instruction") line (last_text (codes "text") text)
+json_of_token (Doctype doctype) line = on_line (codes "doctype") line (doctype_members doctype)
+json_of_token End line = on_line (codes "end_of_page") line no_members

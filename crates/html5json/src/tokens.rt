@@ -1,0 +1,175 @@
+//! A token as JSON.
+ghost use Rattle.std.specs.Prelude.{◌≡◌, [], ◌∷◌, ◌++◌, codes, decimal, map};
+ghost use Rattle.html5ever_interface.specs.Token.{doctype_of, tag_of, told_by};
+ghost use Rattle.html5ever_interface.specs.Token.Told.{Doctype as ToldDoctype, Tag as ToldTag, Text};
+ghost use Rattle.html5json.specs.Adding.{Adds};
+ghost use Rattle.html5json.specs.Tokens.{attribute_items, json_of_attribute, json_of_token, kind_word, last_text, on_line, tag_members};
+ghost use Rattle.json.specs.Json.{no_members};
+ghost use Rattle.json.specs.Token.{begin_array, key};
+ghost use Rattle.json.specs.Tree.{items_tokens, json_tokens, members_tokens};
+ghost use Rattle.markup5ever.specs.Names.{attribute_of};
+
+use crate::members::{
+    begin, begin_on_line, end_with_flag, end_with_text, write_option, write_text,
+};
+use html5ever_interface::interface::token::{Doctype, Tag, TagKind, Token};
+use json::Writer;
+use markup5ever::interface::Attribute;
+use std::alloc::{AllocError, Allocator};
+
+// Writes an attribute: its name and its value.
+fn write_attribute<A: Allocator, B: Allocator>(
+    writer: &mut Writer<A>,
+    attribute: &Attribute<B>,
+) -> Result<(), AllocError>
+    ensures { Adds result writer.old writer.new (json_tokens (json_of_attribute (attribute_of attribute.now))) }
+{
+    writer.begin_array()?;
+    writer.string(&attribute.name.local.0)?;
+    writer.string(&attribute.value)?;
+    writer.end_array()
+}
+
+// Writes the items of an array of attributes, and its end.
+fn write_attribute_items<A: Allocator, B: Allocator>(
+    writer: &mut Writer<A>,
+    attributes: &[Attribute<B>],
+) -> Result<(), AllocError>
+    ensures { Adds result writer.old writer.new (items_tokens (attribute_items (map attribute_of attributes.now))) }
+{
+    for attribute in attributes {
+        write_attribute(writer, attribute)?;
+    }
+    writer.end_array()
+}
+
+// Writes an array of attributes.
+fn write_array<A: Allocator, B: Allocator>(
+    writer: &mut Writer<A>,
+    attributes: &[Attribute<B>],
+) -> Result<(), AllocError>
+    ensures { Adds result writer.old writer.new
+        (begin_array ∷ items_tokens (attribute_items (map attribute_of attributes.now))) }
+{
+    writer.begin_array()?;
+    write_attribute_items(writer, attributes)
+}
+
+// Writes the attributes of a tag.
+fn write_attributes<A: Allocator, B: Allocator>(
+    writer: &mut Writer<A>,
+    attributes: &[Attribute<B>],
+) -> Result<(), AllocError>
+    ensures { Adds result writer.old writer.new
+        (key (codes "attributes") ∷ begin_array ∷ items_tokens (attribute_items (map attribute_of attributes.now))) }
+{
+    writer.key("attributes")?;
+    write_array(writer, attributes)
+}
+
+// Writes what a tag holds, and the end of its object.
+fn write_tag_members<A: Allocator, B: Allocator>(
+    writer: &mut Writer<A>,
+    tag: &Tag<B>,
+) -> Result<(), AllocError>
+    ensures { Adds result writer.old writer.new (members_tokens (tag_members (tag_of tag.now))) }
+{
+    write_text(writer, "name", &tag.name.0)?;
+    write_attributes(writer, &tag.attrs)?;
+    end_with_flag(writer, "self_closing", tag.self_closing)
+}
+
+// The type of a tag.
+fn kind_word(kind: TagKind) -> &'static str
+    ensures { result.now ≡ kind_word kind }
+{
+    match kind {
+        TagKind::StartTag => "start",
+        TagKind::EndTag => "end",
+    }
+}
+
+// Writes an object that has a type and a line, and no more.
+fn write_bare<A: Allocator>(writer: &mut Writer<A>, kind: &str, line: u64) -> Result<(), AllocError>
+    ensures { Adds result writer.old writer.new (json_tokens (on_line kind.now line no_members)) }
+{
+    begin_on_line(writer, kind, line)?;
+    writer.end_object()
+}
+
+// Writes an object that has a type, a line and a text.
+fn write_texted<A: Allocator>(
+    writer: &mut Writer<A>,
+    kind: &str,
+    line: u64,
+    name: &str,
+    text: &str,
+) -> Result<(), AllocError>
+    ensures { Adds result writer.old writer.new (json_tokens (on_line kind.now line (last_text name.now text.now))) }
+{
+    begin_on_line(writer, kind, line)?;
+    end_with_text(writer, name, text)
+}
+
+// Writes a tag.
+fn write_tag<A: Allocator, B: Allocator>(
+    writer: &mut Writer<A>,
+    tag: &Tag<B>,
+    line: u64,
+) -> Result<(), AllocError>
+    ensures { Adds result writer.old writer.new (json_tokens (json_of_token (ToldTag (tag_of tag.now)) line)) }
+{
+    begin_on_line(writer, kind_word(tag.kind), line)?;
+    write_tag_members(writer, tag)
+}
+
+// Writes a DOCTYPE.
+fn write_doctype<A: Allocator, B: Allocator>(
+    writer: &mut Writer<A>,
+    doctype: &Doctype<B>,
+    line: u64,
+) -> Result<(), AllocError>
+    ensures { Adds result writer.old writer.new (json_tokens (json_of_token (ToldDoctype (doctype_of doctype.now)) line)) }
+{
+    begin_on_line(writer, "doctype", line)?;
+    write_option(writer, "name", &doctype.name)?;
+    write_option(writer, "public_id", &doctype.public_id)?;
+    write_option(writer, "system_id", &doctype.system_id)?;
+    end_with_flag(writer, "force_quirks", doctype.force_quirks)
+}
+
+/// Writes a text.
+pub fn write_run<A: Allocator>(writer: &mut Writer<A>, text: &str) -> Result<(), AllocError>
+    ensures { Adds result writer.old writer.new (json_tokens (json_of_token (Text text.now) 0)) }
+{
+    begin(writer, "text")?;
+    end_with_text(writer, "text", text)
+}
+
+/// Writes a token.
+pub fn write_token<A: Allocator, B: Allocator>(
+    writer: &mut Writer<A>,
+    token: &Token<B>,
+    line: u64,
+) -> Result<(), AllocError>
+    ensures { Adds result writer.old writer.new (json_tokens (json_of_token (told_by token.now) line)) }
+{
+    match token {
+        Token::CharacterTokens(text) => write_run(writer, text),
+        Token::NullCharacterToken => write_bare(writer, "null", line),
+        Token::ParseError(message) => write_texted(
+            writer,
+            "error",
+            line,
+            "message",
+            message.as_str(),
+        ),
+        Token::TagToken(tag) => write_tag(writer, tag, line),
+        Token::CommentToken(text) => write_texted(writer, "comment", line, "text", text),
+        Token::ProcessingInstructionToken(text) => {
+            write_texted(writer, "instruction", line, "text", text)
+        }
+        Token::DoctypeToken(doctype) => write_doctype(writer, doctype, line),
+        Token::EOFToken => write_bare(writer, "end_of_page", line),
+    }
+}
