@@ -3,11 +3,12 @@
 
     /usr/bin/python3 bench/python.py [--quick] [--real]
 
-It takes the library that `bindings/build.sh` left in bindings/out, or the one in dist/. Beside it: the standard
-library's `html.parser`, html5lib's tokenizer, lxml's feed parser and bleach, where they are (Debian's python3-html5lib,
-python3-lxml and python3-bleach, for Debian's own Python). Those that take long read a beginning of the pages. Real pages
-are many that are joined, of which lxml reads the first alone, so it is left out there. A time is the processor time of
-this process, the best of some runs. MB are 1,000,000 bytes.
+It takes the library that `bindings/build.sh` left in bindings/out, or the one in dist/, and the extension that is beside
+it; with FIRNUUBAL_PURE=1 in the environment the readers in Python. Beside it: the standard library's `html.parser`,
+html5lib's tokenizer, lxml's feed parser and bleach, where they are (Debian's python3-html5lib, python3-lxml and
+python3-bleach, for Debian's own Python). Those that take long read a beginning of the pages. Real pages are many that are
+joined, of which lxml reads the first alone, so it is left out there. A time is the processor time of this process, the
+best of some runs. MB are 1,000,000 bytes.
 """
 
 import argparse
@@ -101,6 +102,7 @@ def main():
     parser.add_argument("--real", action="store_true", help="real pages, from Debian's documentation packages")
     chosen = parser.parse_args()
     timed = [row for row in TIMED if not (chosen.real and row[1] is by_lxml)]
+    print(f"Python {sys.version.split()[0]}, {'the extension' if firnuubal.IS_FAST else 'the readers in Python'}\n")
     for text in texts(chosen):
         print("| Call | MB | Seconds | MB/s |\n|---|---|---|---|")
         print_rows(text, 1 if chosen.quick else 3, timed)

@@ -1,6 +1,7 @@
 """Tests of the readers of records, in Python and in C: records written by hand, random ones, pages, and what is no record."""
 
 import gc
+import pathlib
 import random
 import resource
 import struct
@@ -13,6 +14,9 @@ from firnuubal import Comment, Doctype, End, EndTag, Instruction, NullCharacter,
 from firnuubal import _readers, _records
 from firnuubal._library import library, taken
 
+PAGE = pathlib.Path(__file__).resolve().parents[2] / "page.html"
+
+# The modules that have readers: those in Python, and the extension's where it is used.
 KINDS = [_records]
 if firnuubal.IS_FAST:
     KINDS.append(_readers)
@@ -224,13 +228,16 @@ class NoRecords(unittest.TestCase):
                     kind.Reader().read(record)
 
     def test_random_bytes(self):
-        """Whatever is taken: all readers say the same of it."""
+        """Whatever is taken is read or refused, and both kinds of readers of tokens say the same of it."""
         choose = random.Random(2)
         for _ in range(4000):
             records = bytearray(b"".join(random_records(choose)[0]))
             for _ in range(choose.randrange(4) if records else 0):
                 records[choose.randrange(len(records))] = choose.choice((0, 1, 2, 3, 9, 0x61, 0xC3, 0xFF, choose.randrange(256)))
             options = options_of(choose)
+            for kind in KINDS:
+                for reader in made_by(kind, options)[1:]:
+                    outcome(reader, bytes(records))
             said = [outcome(kind.Reader(**options), bytes(records)) for kind in KINDS]
             self.assertEqual(said, said[:1] * len(KINDS), (bytes(records), options))
 
@@ -266,20 +273,23 @@ def random_page(choose):
     return "".join(choose.choices(parts, k=choose.randrange(30))).encode()
 
 
+def made_of(readers, records):
+    """What the readers of each sort make of what was taken."""
+    tokens, links, texts = (reader.read(records) for reader in readers)
+    return tokens, links, "".join(texts)
+
+
 class Pages(unittest.TestCase):
+    @unittest.skipUnless(firnuubal.IS_FAST, "there is one kind of readers alone")
     def test_random_pages(self):
-        """What is taken of random pages, in pieces of each size and by takes of each size, is read the same by all."""
+        """What is taken of random pages and of page.html, after pieces of each size, is read the same by both kinds."""
         choose = random.Random(3)
-        for _ in range(150):
-            page, options = random_page(choose), options_of(choose)
-            piece = choose.choice((1, 7, 64, 4096))
-            readers = [made_by(kind, options) for kind in KINDS]
-            for records in records_of(page, piece):
-                for all_of_sort in zip(*readers):
-                    found = [reader.read(records) for reader in all_of_sort[:2]]
-                    if not isinstance(found[0], list) or all(isinstance(item, str) for each in found for item in each):
-                        found = ["".join(each) for each in found]
-                    self.assertEqual(found, found[:1] * len(found), (page, piece, options))
+        for page in [PAGE.read_bytes(), *(random_page(choose) for _ in range(150))]:
+            for piece in (1, 7, 4096):
+                options = options_of(choose)
+                in_python, extended = (made_by(kind, options) for kind in KINDS)
+                for records in records_of(page, piece):
+                    self.assertEqual(made_of(in_python, records), made_of(extended, records), (page, piece, options))
 
     def test_links_and_texts_are_those_of_tokens(self):
         choose = random.Random(4)

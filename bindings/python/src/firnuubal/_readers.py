@@ -6,6 +6,7 @@ The extension stands in the package or beside the library. With FIRNUUBAL_PURE=1
 import functools
 import os
 import sys
+from typing import Any, Callable
 
 from . import _records
 from ._library import FOLDER
@@ -28,9 +29,11 @@ _extended = _extension()
 # Whether the extension reads records.
 IS_FAST = _extended is not None
 
+Reader: Callable[..., Any] = _records.Reader
+LinkReader: Callable[..., Any] = _records.LinkReader
+TextReader: Callable[..., Any] = _records.TextReader
+
 if _extended is not None:
     Reader = functools.partial(_extended.Reader, _records.CLASSES)
     LinkReader = functools.partial(_extended.LinkReader, _records.Link)
     TextReader = _extended.TextReader
-else:
-    Reader, LinkReader, TextReader = _records.Reader, _records.LinkReader, _records.TextReader

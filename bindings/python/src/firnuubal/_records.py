@@ -181,19 +181,19 @@ class Reader:
         # The names whose tags are read, in bytes, where not all are.
         self._tags = None if tags is None else frozenset(name.encode() for name in tags)
         # The parts of the text that is open, and the line on which it begins.
-        self._open = None
+        self._open: Optional[List[bytes]] = None
         self._line = 1
         # The texts that no other token has followed, where errors are left out.
-        self._run = []
+        self._run: List[bytes] = []
         self._run_line = 1
 
     def read(self, taken: bytes) -> List[Token]:
         """The tokens whose end was taken."""
-        tokens = []
+        tokens: List[Token] = []
         try:
             end = self._read_records(taken, tokens)
         except (struct.error, LookupError, OverflowError):
-            end = None
+            end = -1
         if end != len(taken):
             raise ValueError("what was taken is no whole record")
         return tokens
