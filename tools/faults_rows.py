@@ -214,6 +214,7 @@ def failing_writes():
     refusals = tuple((error, UNREAD, 6) for error in (FAILED, FULL, CLOSED, NOTHING))
     for words, given, lines in [(PLAIN, MIXED, MIXED_LINES), (["html5tok"], META, META_LINES)]:
         yield Row(words, given, lines, refusals=refusals)
+    refusals = ((FAILED, UNREAD, 6), (NOTHING, UNREAD, 6))
     places = (1, 65_001, 100_001, 160_001)
     yield Row(PLAIN, LONG, LONG_LINES + "eof 80001\n", refusals=refusals, writes=places)
 
