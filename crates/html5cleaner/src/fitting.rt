@@ -86,10 +86,12 @@ fn fit_of_tag<A: Allocator>(nesting: &Nesting<A>, limit: usize, tag: Option<Piec
 {
     match tag {
         None => Fit::Stays,
-        Some(Piece::StartTag {
-            name,
-            attributes: _,
-        }) => fit_of_start_tag(nesting, limit, name),
+        Some(
+            Piece::StartTag {
+                name,
+                attributes: _,
+            },
+        ) => fit_of_start_tag(nesting, limit, name),
         Some(Piece::EndTag(name)) => fit_of_end_tag(nesting, name),
         Some(_) => Fit::Unfit,
     }
