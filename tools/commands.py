@@ -160,7 +160,7 @@ def of_itself(folder):
     # The policy that is printed is the one that is gone by.
     (folder / "printed").write_text(POLICY, encoding="utf-8")
     page = b"<p title=a id=b><a href=ftp:x>c</a><a href=http:x>d</a><video>e</video><script>f</script>"
-    kept = '<p title="a"><a>c</a><a href="http:x">d</a>e'
+    kept = '<p title="a"><a>c</a><a href="http:x">d</a>e</p>'
     for words in ([firnuubal, "clean"], [firnuubal, "clean", "--policy", "printed"]):
         yield fault(words, run(folder, words, input=page), kept, "", 0)
 
