@@ -1,15 +1,15 @@
 -- A value whose numbers are decimal, and that nests no deeper than a reader goes, is read back.
-use Rattle.std.proofs.Common.{◌≡◌, ℕ, ◌<◌, ◌≤◌, ◌^◌, List, [], ◌∷◌, ◌++◌, Option, None, Some, option_map, option_and_then, max, refl, sym, ap, ap₂, ◌∙◌, arith, append-nil, decimal}
-use Rattle.html5ever_interface.specs.Token.{TagOf, Told}
+use Rattle.std.proofs.Common.{◌≡◌, ℕ, ◌<◌, ◌≤◌, ◌^◌, List, [], ◌∷◌, Option, None, Some, option_map, option_and_then, refl, sym, ap, ◌∙◌, arith, append-nil}
+use Rattle.html5ever_interface.specs.Token.{Told}
 use Rattle.html5ever_interface.specs.Token.Told.{Text, Null, Error, Tag, Comment, Instruction, Doctype, End}
 use Rattle.html5json.specs.Lines.{text_of}
 use Rattle.html5json.specs.Links.{json_of_link}
 use Rattle.html5json.specs.Reading.{ReadsBack}
 use Rattle.html5json.specs.Tokens.{attribute_items, json_of_option, json_of_token}
 use Rattle.html5json.proofs.InLine.{HasDecimals, ItemsHaveDecimals, MembersHaveDecimals, print_in_line}
-use Rattle.json.specs.Json.{Json, null, boolean, number, string, array, object, Items, no_items, item, Members, no_members, member, value, if_last, document}
+use Rattle.json.specs.Json.{Json, null, boolean, number, string, array, object, Items, no_items, item, Members, no_members, member, value, if_last}
 use Rattle.json.specs.Print.{print}
-use Rattle.json.specs.Tree.{json_tokens, HasNumbers, ItemsHaveNumbers, MembersHaveNumbers, depth, items_depth, members_depth}
+use Rattle.json.specs.Tree.{json_tokens, HasNumbers, ItemsHaveNumbers, MembersHaveNumbers, depth, items_depth}
 use Rattle.json.proofs.Printed.Decimals.{IsNumber-decimal}
 use Rattle.json.proofs.Printed.Tokens.{tokens-print}
 use Rattle.json.proofs.Printed.Trees.{ArePrintable-json_tokens, document-print, value-json_tokens}
