@@ -8,10 +8,10 @@
 #define FIRNUUBAL_H
 
 /* The version of the library, of this header and of the readers. */
-#define FIRNUUBAL_VERSION "0.4.0"
+#define FIRNUUBAL_VERSION "0.5.0"
 
 /* The same as a number, its three numbers a byte each. `html5_version` says it of the library that is linked. */
-#define FIRNUUBAL_VERSION_NUMBER 0x000400
+#define FIRNUUBAL_VERSION_NUMBER 0x000500
 
 #include <stdbool.h>
 #include <stddef.h>
@@ -142,7 +142,7 @@ html5_status html5_set_foreign(html5_handle *handle, bool foreign);
  * other item was open, and what waits to be taken. Before it is set there is no limit. A piece that goes past it is not
  * taken: a feed or an insert answers HTML5_LIMIT, just then, and nothing changes. What else is held is some multiple of that
  * and of what the last piece made. A cleaner also holds the text that no tag has ended yet, and the names of the elements
- * that are open, by a policy that balances: these are not counted.
+ * that are open, by a policy with the rule `tree` or `balance`: these are not counted.
  */
 html5_status html5_set_limit(html5_handle *handle, uint64_t limit);
 
@@ -172,9 +172,9 @@ void html5_free(html5_handle *handle);
 
 /*
  * Opens a handle at the start of a page that is cleaned. What it held before is freed. The policy is a text, a rule a line
- * (crates/html5policy/README.md); one of no bytes is the standard policy. After HTML5_BAD_POLICY `place` is the number of
- * the line, after HTML5_POLICY_NOT_UTF8 the place of the first such byte, and after any other status it is 0. To the calls of a
- * tokenizer the handle is closed, but for html5_free.
+ * (crates/html5policy/README.md); one of no bytes is the standard policy, which has the rule `tree`. After HTML5_BAD_POLICY
+ * `place` is the number of the line, after HTML5_POLICY_NOT_UTF8 the place of the first such byte, and after any other status
+ * it is 0. To the calls of a tokenizer the handle is closed, but for html5_free.
  */
 html5_status html5_cleaner_new(html5_handle *handle, const uint8_t *policy, size_t len, uint64_t *place);
 
