@@ -142,6 +142,26 @@ def given_pages(folders):
     return [*pages, ("an i in an i, 600 times", b"<i>" * 600 + b"x")]
 
 
+def chromium():
+    """The browser, or none."""
+    return shutil.which("chromium") or shutil.which("chromium-browser")
+
+
+def found_by(browser, driver, given):
+    """What the script of a page finds in what it is given, in the browser."""
+    data = json.dumps(given).replace("<", "\\u003c")
+    with tempfile.TemporaryDirectory() as folder:
+        file = pathlib.Path(folder) / "driver.html"
+        file.write_text(driver.replace("GIVEN", data, 1), encoding="utf-8")
+        words = [browser, "--headless", "--no-sandbox", "--disable-gpu", "--host-resolver-rules=MAP * ~NOTFOUND"]
+        words += ["--virtual-time-budget=20000", f"--user-data-dir={folder}/profile", "--dump-dom", file.as_uri()]
+        run = subprocess.run(words, capture_output=True, timeout=SECONDS, check=True)
+    text = re.search("FOUND(.*)END</pre>", run.stdout.decode(), re.DOTALL)
+    if text is None:
+        sys.exit(f"{sys.argv[0]}: the browser said nothing: {run.stderr.decode()[-500:]}")
+    return json.loads(text.group(1).replace("&lt;", "<").replace("&gt;", ">").replace("&amp;", "&"))
+
+
 def looked_at(browser, pages, trees):
     """What the browser finds in these cleaned pages, of which it has to build these trees, if any are given."""
     policy = policy_of(STANDARD)
@@ -154,17 +174,7 @@ def looked_at(browser, pages, trees):
         "addresses": sorted(ADDRESSES),
         "schemes": [scheme + ":" for scheme in sorted(policy.schemes)],
     }
-    data = json.dumps(given).replace("<", "\\u003c")
-    with tempfile.TemporaryDirectory() as folder:
-        file = pathlib.Path(folder) / "driver.html"
-        file.write_text(DRIVER.replace("GIVEN", data, 1), encoding="utf-8")
-        words = [browser, "--headless", "--no-sandbox", "--disable-gpu", "--host-resolver-rules=MAP * ~NOTFOUND"]
-        words += ["--virtual-time-budget=20000", f"--user-data-dir={folder}/profile", "--dump-dom", file.as_uri()]
-        run = subprocess.run(words, capture_output=True, timeout=SECONDS, check=True)
-    text = re.search("FOUND(.*)END</pre>", run.stdout.decode(), re.DOTALL)
-    if text is None:
-        sys.exit(f"tools/browser.py: the browser said nothing: {run.stderr.decode()[-500:]}")
-    return json.loads(text.group(1).replace("&lt;", "<").replace("&gt;", ">").replace("&amp;", "&"))
+    return found_by(browser, DRIVER, given)
 
 
 def main():
@@ -172,7 +182,7 @@ def main():
     parser.add_argument("--tree", action="store_true", help="compare the trees that are built with the tags")
     parser.add_argument("folders", nargs="*", metavar="FOLDER", help="300 HTML files of each are taken, too")
     words = parser.parse_args()
-    browser = shutil.which("chromium") or shutil.which("chromium-browser")
+    browser = chromium()
     if browser is None:
         print("tools/browser.py: there is no chromium here (apt-get install chromium)")
         return 2
