@@ -12,10 +12,11 @@ Chromium (Debian's, headless) builds
                 source of a whole page
     in a HOST   the cleaned page in the source of a page, within other elements, where it fits above these
 
-Each tree that differs is told. With --self-test the pages are cleaned by `balance` in place of `tree`, and a
-difference has to be found.
-The program is the one that `rt ci` left in crates/firnuubal/out. Status 0: none differs. 1: one does. 2: there is no
-browser here, or no program.
+Each tree that differs is told. Pages as they are differ now and then, since Chromium doesn't go by the standard in two
+things: `search` is no special element there, and `</form>` closes an outer form, too, where a table has let a second one
+open. By --self-test pages are cleaned by `balance` in place of `tree`, and a difference has to be found. The program is
+the one that `rt ci` left in crates/firnuubal/out. Status 0: each cleaned page has the tree that it shows. 1: one has not.
+2: there is no browser here, or no program.
 """
 
 import argparse
@@ -185,7 +186,8 @@ def main():
         print(f"{what}, by {by}: {text!r}: due {due!r}, built {built!r}")
     for what, count in counts.items():
         print(f"{what}: {count} trees, {differ[what]} otherwise")
-    return int(differ["cleaned"] == 0 if words.self_test else bool(found))
+    failed = sum(differ.values()) - differ["as it is"]
+    return int(failed == 0 if words.self_test else failed > 0)
 
 
 if __name__ == "__main__":
