@@ -3,6 +3,7 @@ use Rattle.std.specs.Prelude.{◌≡◌, ◌⊎◌, ℕ, Bool, true, false, List
 use Rattle.std.specs.Str.{IsUtf8, chars}
 use Rattle.markup5ever.specs.NamedReferences.{NamedReference}
 use Rattle.outbox.specs.Outgoing.{waiting}
+use Rattle.utf8_pieces.specs.Pieces.{place_after}
 use Rattle.html5ever_interface.specs.Options.{default_options}
 use Rattle.html5ever_interface.specs.Sink.{Means}
 use Rattle.html5reading.specs.Start.{start_of}
@@ -30,9 +31,13 @@ buffer_of s = s.detached.sink.handler
 abbrev pub waiting_in : CleaningOf → List ℕ
 waiting_in s = waiting (buffer_of s).out
 
+-- how many bytes the sink holds: the run of text that waits for a token, and the kept bytes that wait
+abbrev pub held_in_sink : CleaningOf → ℕ
+held_in_sink s = place_after (length s.detached.sink.run) (length (waiting_in s))
+
 -- so many bytes more are within the limit
 abbrev pub fits_in : CleaningOf → ℕ → Bool
-fits_in s more = has_room s.intake (length (waiting_in s)) more
+fits_in s more = has_room s.intake (held_in_sink s) more
 
 -- so many bytes of those that wait were taken, and all else is as it was
 abbrev pub after_session_takes : CleaningOf → ℕ → CleaningOf

@@ -61,12 +61,13 @@ impl<A: Allocator> CleaningSession<A> {
     }
 
     /// Whether a piece of so many bytes is within the limit (`set_limit`). What is held counts: the text that came since
-    /// all was read and nothing was open, and what waits to be taken.
+    /// all was read and nothing was open, the run of text that no tag has ended yet, and what waits to be taken.
     pub fn has_room(&self, more: usize) -> bool
         ensures { result ≡ fits_in self.now more }
     {
+        let run = self.session.detached.sink.run().len();
         let waiting = self.session.detached.sink.handler().waiting().len();
-        self.session.has_room(waiting, more)
+        self.session.has_room(run.saturating_add(waiting), more)
     }
 
     /// Sets how many bytes may be held. It is for the caller to ask (`has_room`) before a piece is fed.

@@ -170,6 +170,13 @@ impl<H, A: Allocator> TextRuns<H, A> {
         &self.handler
     }
 
+    /// The run of text that no token has ended yet.
+    pub fn run(&self) -> &str
+        ensures { result.now ≡ self.now.run }
+    {
+        self.run.as_str()
+    }
+
     /// The handler, to change it between two calls, such as to take what it made of its runs.
     pub fn handler_mut(&mut self) -> &mut H
         ensures* writes_back { sem 𝓛 (LendsHandler H.row A.row A.Allocator self.entry result) }
