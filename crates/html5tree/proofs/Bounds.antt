@@ -25,7 +25,7 @@ few-parents Table Cell = omega arith
 few-parents TableBody Cell = omega arith
 few-parents top part = omega arith
 
-OpensFew : Plan → Type 0
+unfoldable pub OpensFew : Plan → Type 0
 OpensFew plan = length plan.opens ≤ 3
 
 few-part : (k : Kind) (s : Stack) → OpensFew (part_plan k s)
@@ -39,7 +39,7 @@ few-part k s = at (near (of_kind (is_context k)) no_kind s)
     at true = omega (arith, few)
     at false = omega arith
 
-few-cell : (s : Stack) → OpensFew (cell_plan s)
+pub few-cell : (s : Stack) → OpensFew (cell_plan s)
 unfolding OpensFew
 few-cell s =
     let few = few-parents (kind_on_top (drop (inside_context Cell s) s)) Cell in
@@ -62,7 +62,7 @@ few-flow Form s = at (near (of_kind is_form) no_kind s)
     at false = omega arith
 few-flow other s = omega arith
 
-few-start : (k : Kind) (s : Stack) → OpensFew (start_plan k s)
+pub few-start : (k : Kind) (s : Stack) → OpensFew (start_plan k s)
 few-start k s = at (is_part k) (holds_parts (kind_on_top s))
   where
     at : (b c : Bool) → OpensFew (if b then part_plan k s else if c then table_plan k s else flow_plan k s)
@@ -124,7 +124,7 @@ unfolding opened
 length-opened [] s = omega arith
 length-opened (name ∷ names) s = let e = length-opened names (name ∷ s) in omega (arith, e)
 
-length-parts : (closes : ℕ) (s : Stack) → length (take closes s) + length (drop closes s) ≡ length s
+pub length-parts : (closes : ℕ) (s : Stack) → length (take closes s) + length (drop closes s) ≡ length s
 length-parts zero s = omega arith
 length-parts (suc closes) [] = refl
 length-parts (suc closes) (name ∷ s) = let e = length-parts closes s in omega (arith, e)
@@ -165,7 +165,7 @@ own-cost WhiteSpace s (Text text) = omega arith
 own-cost EmptyParagraph s item = omega arith
 own-cost LineBreak s item = omega arith
 
-plan-cost : (plan : Plan) (s : Stack) (item : Item) → OpensFew plan → length (written plan s item) + length (stack_after plan s item) ≤ 8 + length s
+pub plan-cost : (plan : Plan) (s : Stack) (item : Item) → OpensFew plan → length (written plan s item) + length (stack_after plan s item) ≤ 8 + length s
 unfolding OpensFew
 plan-cost plan s item few =
     let own = own-cost plan.writes (moved plan s) item in

@@ -8,6 +8,8 @@ pub mod Texts
 pub mod Built
 pub mod Normalising
 pub mod Bounds
+pub mod Keeping
+pub mod Room
 pub mod CodePlans
 pub mod Moved
 pub mod Nests

@@ -26,7 +26,7 @@ kind-br : kind_of (codes "br") ≡ Void
 unfolding kind_of kind_in all_names is_among
 kind-br = refl
 
-kind-p : kind_of (codes "p") ≡ Paragraph
+pub kind-p : kind_of (codes "p") ≡ Paragraph
 unfolding kind_of kind_in all_names is_among
 kind-p = refl
 
@@ -356,7 +356,7 @@ unchanged-item limit s (EndTag name) f l =
     same-end limit s name p.0 p.1
 unchanged-item limit s (Text text) f l = from-plan limit s (Text text) (same-text limit s text f)
 
-within-first : (limit : ℕ) (items : List Item) (s : Stack) → stays_within limit s items ≡ true → length s ≤ limit
+pub within-first : (limit : ℕ) (items : List Item) (s : Stack) → stays_within limit s items ≡ true → length s ≤ limit
 unfolding stays_within
 within-first limit [] s w = leb-true (length s) limit w
 within-first limit (item ∷ items) s w =

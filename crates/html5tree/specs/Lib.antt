@@ -15,6 +15,7 @@ pub mod Normal
 pub mod Searches
 pub mod Planned
 pub mod Nested
+pub mod Keeping
 pub mod Construction
 pub mod Lockstep
 pub mod Shown

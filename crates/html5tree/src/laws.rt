@@ -7,6 +7,7 @@ ghost use Rattle.html5tree.specs.Items.{Attribute, Item, balanced, keeps_newline
 ghost use Rattle.html5tree.specs.declared.kinds.Kind.{Kind};
 ghost use Rattle.html5tree.specs.declared.kinds.Kind.TheVariants.{Anchor, ListItem, Paragraph, Unknown};
 ghost use Rattle.html5tree.specs.Items.Item.{EndTag, StartTag};
+ghost use Rattle.html5tree.specs.Keeping.{Keeps};
 ghost use Rattle.html5tree.specs.Names.{has_marker, is_anchor, is_form, is_list_item, kind_of, no_kind};
 ghost use Rattle.html5tree.specs.Normal.{IsReady, fitted, normal, open_after_fitted, stays_within};
 ghost use Rattle.html5tree.specs.Page.{names};
@@ -112,6 +113,19 @@ pub fn normal_items()
     ensures bound { (limit : ℕ) (items : List Item) → length (normal limit items) ≤ 8 * length items }
     ensures cut { (limit : ℕ) (items others : List Item) → whole_texts items ≡ whole_texts others
         → whole_texts (normal limit items) ≡ whole_texts (normal limit others) }
+{}
+
+/// What the normaliser keeps of items, and what it adds (`Keeps`, specs/Keeping). All text is kept, and each start tag
+/// with its attributes, in their order; end tags come and go. Left out are the parts of a table that stand in no
+/// table, a form in a form or among parts, and tags of other names than the 94. Added are the start tags of implied
+/// parents and of the cell for what is no part, `<p>` for `</p>` alone and `<br>` for `</br>`. That is so where eight
+/// elements may be open for each item (`all`). Where more elements would be open than the limit, a start tag may be
+/// left out, too, and of a text what is no white space, where a table would have to make a cell for it (`some`).
+pub fn kept_items()
+    ensures some { (limit : ℕ) (items : List Item) → Keeps false items (normal limit items) }
+    ensures all { (limit : ℕ) (items : List Item) → 8 * length items ≤ limit → Keeps true items (normal limit items) }
+    ensures not_reached { (limit more : ℕ) (items : List Item) → limit ≤ more
+        → stays_within limit [] (normal more items) ≡ true → normal limit items ≡ normal more items }
 {}
 
 /// The same of one item, above the names of the open elements: what is written for it fits there (`fits`), with
