@@ -110,11 +110,13 @@ static void holds_no_more_than_its_limit(void) {
     CHECK(feed(&cleaner, "<b>1") == HTML5_DONE);
     CHECK(feed(&cleaner, "<i") == HTML5_LIMIT);
     CHECK(takes(&cleaner, 256, "<b>"));
-    CHECK(feed(&cleaner, "<i x") == HTML5_DONE);
+    CHECK(feed(&cleaner, "<i x") == HTML5_LIMIT);
+    CHECK(feed(&cleaner, "<i ") == HTML5_DONE);
     CHECK(feed(&cleaner, "y") == HTML5_LIMIT);
     CHECK(html5_cleaner_restart(&cleaner) == HTML5_DONE);
     CHECK(feed(&cleaner, "12345") == HTML5_LIMIT);
     CHECK(feed(&cleaner, "1234") == HTML5_DONE);
+    CHECK(feed(&cleaner, "5") == HTML5_LIMIT);
     CHECK(html5_set_limit(&cleaner, UINT64_MAX) == HTML5_DONE);
     CHECK(feed(&cleaner, "56789") == HTML5_DONE);
     CHECK(html5_cleaner_end(&cleaner) == HTML5_DONE);

@@ -85,9 +85,9 @@ class Cleaning(unittest.TestCase):
             self.assertEqual(refused.exception.status, Status.LIMIT)
             self.assertEqual(cleaner.feed(b"<p>ab"), "<p>")
             with self.assertRaises(TokenizerError) as refused:
-                cleaner.feed(b"<i x=1")
+                cleaner.feed(b"<i x")
             self.assertEqual(refused.exception.status, Status.LIMIT)
-            self.assertEqual(cleaner.feed(b"<i x="), "")
+            self.assertEqual(cleaner.feed(b"<i "), "")
 
     def test_a_character_that_is_cut(self):
         with self.assertRaises(TokenizerError) as refused:

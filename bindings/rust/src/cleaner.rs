@@ -216,8 +216,8 @@ impl Cleaner {
         }
     }
 
-    /// Sets how many bytes may be held: what was fed since all was read and no item was open, and what was not taken. A
-    /// piece that goes past it is [`Error::Limit`].
+    /// Sets how many bytes may be held: what was fed since all was read and no item was open, the text that no tag has
+    /// ended yet, and what was not taken. A piece that goes past it is [`Error::Limit`].
     pub fn set_limit(&mut self, limit: u64) -> Result<(), Error> {
         let status = unsafe { raw::html5_set_limit(&mut self.handle, limit) };
         self.done_or_error(status)

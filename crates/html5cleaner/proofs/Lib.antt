@@ -33,5 +33,7 @@ pub mod KeepsLemmas
 pub mod NestedPages
 pub mod NestedTrees
 pub mod OtherPieces
+pub mod TreeTwins
+pub mod Deeper
 pub mod Again
 pub mod PagesAgain

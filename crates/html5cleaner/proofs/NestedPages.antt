@@ -56,7 +56,7 @@ goes-shaped policy false ends before opened kept goes ready =
       ready-flat policy.balance (open_by shape ends opened kept),
     )
 
-goes-step : (c : Cleaned) (run : List ℕ) (told : Told) (line : ℕ) → GoesOn c → GoesOn (clean_step c run told line)
+pub goes-step : (c : Cleaned) (run : List ℕ) (told : Told) (line : ℕ) → GoesOn c → GoesOn (clean_step c run told line)
 goes-step c run told line goes =
     goes-shaped c.policy c.policy.tree (is_end told) c.pieces c.opened (kept_where c.policy c.hidden.depth run told) goes.0 goes.1
 
@@ -64,7 +64,7 @@ start-ready : (policy : PolicyOf) (tree : Bool) → IsReadyFor (if tree then Tre
 start-ready policy true = none-ready policy.depth
 start-ready policy false = ready-flat policy.balance []
 
-goes-start : (policy : PolicyOf) → GoesOn (at_start policy)
+pub goes-start : (policy : PolicyOf) → GoesOn (at_start policy)
 goes-start policy = (refl, start-ready policy policy.tree)
 
 goes-by_its_policy : (policy : PolicyOf) (M : List Message) → GoesOn (runs_handed clean_step (at_start policy) M)

@@ -17,16 +17,22 @@ use Rattle.html5cleaner.proofs.Balancing.{written-others}
 use Rattle.html5cleaner.proofs.NestedPages.{shape-flat}
 use Rattle.html5cleaner.proofs.SameReadings.{page-same}
 
--- what is kept does not depend on the rule, and what is hidden doesn't either
-same-kept : (policy : PolicyOf) (depth : ℕ) (run : List ℕ) (told : Told) → kept_where policy depth run told ≡ kept_where (without_balance policy) depth run told
-unfolding kept_of_tag kept_of_parts kept_attributes is_kept is_allowed
-same-kept policy depth run (Tag tag) = refl
-same-kept policy depth run other = refl
+-- the same policy with other rules of how what is kept is written
+abbrev pub with_rules : PolicyOf → Bool → Bool → ℕ → PolicyOf
+with_rules policy balance tree limit = record policy { balance = balance; tree = tree; depth = limit }
 
-same-hidden : (policy : PolicyOf) (hidden : Hidden) (told : Told) → hidden_after (opens policy) hidden told ≡ hidden_after (opens (without_balance policy)) hidden told
+-- what is kept does not depend on these rules, and what is hidden doesn't either
+pub same-kept : (policy : PolicyOf) (balance tree : Bool) (limit depth : ℕ) (run : List ℕ) (told : Told)
+    → kept_where policy depth run told ≡ kept_where (with_rules policy balance tree limit) depth run told
+unfolding kept_of_tag kept_of_parts kept_attributes is_kept is_allowed
+same-kept policy balance tree limit depth run (Tag tag) = refl
+same-kept policy balance tree limit depth run other = refl
+
+pub same-hidden : (policy : PolicyOf) (balance tree : Bool) (limit : ℕ) (hidden : Hidden) (told : Told)
+    → hidden_after (opens policy) hidden told ≡ hidden_after (opens (with_rules policy balance tree limit)) hidden told
 unfolding hides
-same-hidden policy hidden (Tag tag) = refl
-same-hidden policy hidden other = refl
+same-hidden policy balance tree limit hidden (Tag tag) = refl
+same-hidden policy balance tree limit hidden other = refl
 
 -- without the rule `tree` only end tags come and go
 flat-others : (policy : PolicyOf) → policy.tree ≡ false → (ends : Bool) (opened : List (List ℕ)) (pieces : List Piece)
@@ -47,12 +53,12 @@ twin-step policy c twin run told line t =
     let kept : List Piece = kept_where c.policy c.hidden.depth run told in
     let other : List Piece = kept_where twin.policy twin.hidden.depth run told in
     let same : kept ≡ other =
-    (λ i. kept_where (t.keeps i) (t.hidden i).depth run told) ∙ same-kept policy twin.hidden.depth run told ∙ ap (λ p. kept_where p twin.hidden.depth run told) (sym t.plain) in
+    (λ i. kept_where (t.keeps i) (t.hidden i).depth run told) ∙ same-kept policy false policy.tree policy.depth twin.hidden.depth run told ∙ ap (λ p. kept_where p twin.hidden.depth run told) (sym t.plain) in
     record {
       keeps = t.keeps;
       plain = t.plain;
       flat = t.flat;
-      hidden = (λ i. hidden_after (opens (t.keeps i)) (t.hidden i) told) ∙ same-hidden policy twin.hidden told ∙ ap (λ p. hidden_after (opens p) twin.hidden told) (sym t.plain);
+      hidden = (λ i. hidden_after (opens (t.keeps i)) (t.hidden i) told) ∙ same-hidden policy false policy.tree policy.depth twin.hidden told ∙ ap (λ p. hidden_after (opens p) twin.hidden told) (sym t.plain);
       others =
           filter-append is_no_end_tag c.pieces (written_by (shape_of c.policy) (is_end told) c.opened kept)
           ∙ (λ i. t.others i ++ flat-others c.policy (ap (λ p. p.tree) t.keeps ∙ t.flat) (is_end told) c.opened kept i)

@@ -86,6 +86,14 @@ is_nested opened (CommentPiece text ∷ pieces) = is_nested opened pieces
 abbrev pub without_balance : PolicyOf → PolicyOf
 without_balance policy = record policy { balance = false }
 
+-- the same policy without the rule `tree`, and without `balance`: it writes what it keeps as it is
+abbrev pub without_tree : PolicyOf → PolicyOf
+without_tree policy = record policy { tree = false; balance = false }
+
+-- the same policy, by which so many elements may be open
+abbrev pub with_depth : ℕ → PolicyOf → PolicyOf
+with_depth depth policy = record policy { depth = depth }
+
 -- the pieces that are no end tags
 abbrev pub is_no_end_tag : Piece → Bool
 is_no_end_tag (EndTagPiece name) = false

@@ -1,27 +1,31 @@
 //! How a cleaned page is read.
-ghost use Rattle.std.specs.Prelude.{◌≡◌, ◌||◌, ℕ, List, [], ◌∷◌, ◌++◌, Option, Ok, IfSome, false, filter, true};
+ghost use Rattle.std.specs.Prelude.{◌≡◌, ◌||◌, ℕ, ◌*◌, ◌≤◌, Bool, length, List, [], ◌∷◌, ◌++◌, Option, Ok, IfSome, false, filter, true};
 ghost use Rattle.std.specs.List.{list_all};
 ghost use Rattle.html5ever_interface.specs.Sink.{Message};
 ghost use Rattle.html5ever_interface.specs.Token.{Told};
 ghost use Rattle.html5ever_interface.specs.Token.Told.{End};
 ghost use Rattle.html5reading.specs.Reading.{all_messages};
-ghost use Rattle.html5reading.specs.Start.{Start, Rules};
+ghost use Rattle.html5reading.specs.Start.{Input, Start, Rules};
 ghost use Rattle.markup5ever.specs.NamedReferences.{IsTable, NamedReference};
 ghost use Rattle.html5write.specs.Pieces.{Piece, pieces_text};
 ghost use Rattle.html5grammar.specs.Anywhere.{TellsByItself};
 ghost use Rattle.html5nested.specs.PageItems.{items_of, items_told};
-ghost use Rattle.html5tree.specs.Construction.{tree_of};
+ghost use Rattle.html5tree.specs.Construction.{parsed, tree_in, tree_of};
 ghost use Rattle.html5tree.specs.Fitting.{all_fit};
-ghost use Rattle.html5tree.specs.Items.{read_items};
+ghost use Rattle.html5tree.specs.Hosts.{IsBack, IsHost, put_at, suits};
+ghost use Rattle.html5tree.specs.Items.{keeps_newlines, read_items};
+ghost use Rattle.html5tree.specs.Keeping.{Keeps};
 ghost use Rattle.html5tree.specs.Normal.{stays_within};
-ghost use Rattle.html5tree.specs.Tree.{nesting};
+ghost use Rattle.html5tree.specs.Page.{names};
+ghost use Rattle.html5tree.specs.Parser.{Parser};
+ghost use Rattle.html5tree.specs.Tree.{Path, nesting, whole};
 ghost use Rattle.html5write.specs.Told.{IsOpen, KeepsOn, pieces_messages, pieces_tokens, proper, start_after_pieces};
 ghost use Rattle.html5policy.specs.Addresses.{is_safe_address};
 ghost use Rattle.html5policy.specs.Names.{runs_address};
 ghost use Rattle.html5policy.specs.Policy.{PolicyOf};
 ghost use Rattle.html5policy.specs.Rules.{IsSound};
 ghost use Rattle.html5cleaner.specs.Allowed.{is_clean};
-ghost use Rattle.html5cleaner.specs.Balance.{AreClean, is_nested, is_no_end_tag, without_balance};
+ghost use Rattle.html5cleaner.specs.Balance.{AreClean, is_nested, is_no_end_tag, with_depth, without_balance, without_tree};
 ghost use Rattle.html5cleaner.specs.Urls.{HasSafeScheme};
 ghost use Rattle.html5cleaner.specs.Clean.{Cleaned, at_start, clean_step};
 ghost use Rattle.html5cleaner.specs.Cleaning as cleaning;
@@ -33,8 +37,9 @@ ghost use Rattle.url.specs.Parts.{Parts};
 
 use html5ever_interface::interface::sink::TokenSink;
 use html5ever_interface::interface::token::Token;
-use html5nested::laws::{fitting_pieces_are_markup, tree_of_written_page};
+use html5nested::laws::{fitting_pieces_are_markup, tree_of_written_page, tree_of_written_part};
 use html5sinks::text_runs::{TextRuns, TokenHandler};
+use html5tree::laws::fits_in_host;
 use html5write::laws::{all_pieces, whole_text};
 use std::alloc::Allocator;
 
@@ -111,6 +116,43 @@ pub fn tree_of_cleaned_page<S: TokenSink<Token<A>>, A: Allocator>()
     tree_of_written_page::<S, A>();
     fitting_pieces_are_markup::<S, A>();
 }
+
+/// Such a page that is put into a host, wherever it is read in Data (`cleaned_part` says what it tells there): where it
+/// suits the host (`suits`), it is built in place, as its pieces are nested (`in_place`), and leaves the host as it
+/// was (`back`). Each page suits a flow host, such as a `div` or a cell (`html5tree::laws::flow_hosts`).
+pub fn cleaned_page_in_host()
+    ensures in_place { (policy : PolicyOf) (references : List NamedReference) (text : List ℕ) (exact : Bool) (input : Input)
+        (fresh : Bool) (p : Parser) (path : Path) → policy.tree ≡ true → IsHost p path
+        → suits (names p.page.opened) (items_of (kept_of_page policy references text)) ≡ true
+        → keeps_newlines fresh (items_of (kept_of_page policy references text)) ≡ true
+        → tree_in (parsed fresh p (items_told (proper (pieces_messages exact input (kept_of_page policy references text)))))
+        ≡ whole (put_at path (nesting (items_of (kept_of_page policy references text)))) }
+    ensures back { (policy : PolicyOf) (references : List NamedReference) (text : List ℕ) (exact : Bool) (input : Input)
+        (fresh : Bool) (p : Parser) (path : Path) → policy.tree ≡ true → IsHost p path
+        → suits (names p.page.opened) (items_of (kept_of_page policy references text)) ≡ true
+        → IsBack p (parsed fresh p (items_told (proper (pieces_messages exact input (kept_of_page policy references text))))) }
+{
+    tree_of_written_part();
+    fits_in_host();
+}
+
+/// What the rule `tree` leaves out of what the same policy keeps without it, and what it adds (`Keeps`, of html5tree): all
+/// text is kept, and each start tag with its attributes, but for parts of tables that stand in no table and forms in
+/// forms or among parts; end tags come and go, and implied parents are added. That is so where eight elements may
+/// be open for each piece (`all`); and a greater depth changes nothing where nowhere more elements would be open than the
+/// policy's (`not_reached`). Of any page a start tag may be left out, too, and of its text what is no white space
+/// (`some`).
+pub fn kept_in_tree()
+    ensures some { (policy : PolicyOf) (references : List NamedReference) (text : List ℕ) → policy.tree ≡ true
+        → Keeps false (items_of (kept_of_page (without_tree policy) references text)) (items_of (kept_of_page policy references text)) }
+    ensures all { (policy : PolicyOf) (references : List NamedReference) (text : List ℕ) → policy.tree ≡ true
+        → 8 * length (items_of (kept_of_page (without_tree policy) references text)) ≤ policy.depth
+        → Keeps true (items_of (kept_of_page (without_tree policy) references text)) (items_of (kept_of_page policy references text)) }
+    ensures not_reached { (policy : PolicyOf) (references : List NamedReference) (text : List ℕ) (more : ℕ) → policy.tree ≡ true
+        → policy.depth ≤ more
+        → stays_within policy.depth [] (items_of (kept_of_page (with_depth more policy) references text)) ≡ true
+        → kept_of_page policy references text ≡ kept_of_page (with_depth more policy) references text }
+{}
 
 /// Cleaning twice by a policy changes nothing, whatever the table of each reading: what was kept of a text
 /// is kept again to the byte. Of what was printed of a page, or of a beginning of it, the same is printed

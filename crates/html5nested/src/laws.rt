@@ -5,7 +5,7 @@ ghost use Rattle.html5reading.specs.Start.{Input, Start, Rules};
 ghost use Rattle.html5sinks.specs.Replies.{FollowsStandard};
 ghost use Rattle.html5tree.specs.Construction.{parsed, tree_in, tree_of};
 ghost use Rattle.html5tree.specs.Fitting.{all_fit, each_fits};
-ghost use Rattle.html5tree.specs.Hosts.{IsHost, put_at};
+ghost use Rattle.html5tree.specs.Hosts.{IsBack, IsHost, put_at};
 ghost use Rattle.html5tree.specs.Items.{Item, balanced, keeps_newlines, read_items, whole_texts};
 ghost use Rattle.html5tree.specs.Normal.{normal, stays_within};
 ghost use Rattle.html5tree.specs.Page.{names};
@@ -45,7 +45,8 @@ pub fn tree_of_written_page<S: TokenSink<Token<A>>, A: Allocator>()
 
 /// The same of a part of a page, wherever it is put in Data (`html5write::laws::all_pieces` says what it tells
 /// there), and whatever is open there: in a host (`IsHost`) its items are built in place, if they fit above the
-/// open elements and close all that they open, and nothing else.
+/// open elements and close all that they open, and nothing else (`in_place`). The host is afterwards what it was
+/// (`back`).
 pub fn tree_of_written_part()
     ensures items { (exact : Bool) (input : Input) (pieces : List pieces.Piece)
         → whole_texts (items_told (proper (pieces_messages exact input pieces))) ≡ whole_texts (items_of pieces) }
@@ -55,6 +56,9 @@ pub fn tree_of_written_part()
         → keeps_newlines fresh (items_of pieces) ≡ true
         → tree_in (parsed fresh p (items_told (proper (pieces_messages exact input pieces))))
         ≡ whole (put_at path (nesting (items_of pieces))) }
+    ensures back { (exact : Bool) (input : Input) (pieces : List pieces.Piece) (fresh : Bool) (p : Parser) (path : Path)
+        → IsHost p path → each_fits (names p.page.opened) (items_of pieces) ≡ true → balanced 0 (items_of pieces) ≡ true
+        → IsBack p (parsed fresh p (items_told (proper (pieces_messages exact input pieces)))) }
 {
     tree_of_fitting_in_host();
 }

@@ -67,7 +67,7 @@ keeps-append enough a b c d k l = record {
       (without-append may_be_added (starts_of b) k.kept (starts_of d) l.kept k.added l.added);
 }
 
-keeps-same : (enough : Bool) (items : List Item) → Keeps enough items items
+pub keeps-same : (enough : Bool) (items : List Item) → Keeps enough items items
 keeps-same enough items = record {
   text = without-none (may_lose enough) (text_of items);
   kept = starts_of items;
@@ -76,7 +76,7 @@ keeps-same enough items = record {
 }
 
 -- end tags are neither
-keeps-ends : (enough : Bool) (names : Stack) → Keeps enough [] (end_tags names)
+pub keeps-ends : (enough : Bool) (names : Stack) → Keeps enough [] (end_tags names)
 unfolding text_of starts_of
 keeps-ends enough [] = record { text = Done; kept = []; starts = Done; added = Done }
 keeps-ends enough (name ∷ names) =
@@ -260,7 +260,7 @@ right-start enough k s name attributes same = at (is_part k) (holds_parts (kind_
     at false false part = right-flow enough k s name attributes same
 
 -- enough may be open for an item and for what is opened before it
-abbrev HasRoom : Bool → ℕ → Stack → Type 0
+abbrev pub HasRoom : Bool → ℕ → Stack → Type 0
 HasRoom enough limit s = enough ≡ true → 8 + length s ≤ limit
 
 is-within : (enough : Bool) (limit count : ℕ) → (enough ≡ true → count ≤ limit) → nat_le count limit ≡ false → enough ≡ false
@@ -347,7 +347,7 @@ right-plan enough limit s (Text text) room = right-text enough limit s text room
 
 -- ---- all items
 
-keeps-item : (enough : Bool) (limit : ℕ) (s : Stack) (item : Item) → HasRoom enough limit s → Keeps enough (item ∷ []) (fitted limit s item)
+pub keeps-item : (enough : Bool) (limit : ℕ) (s : Stack) (item : Item) → HasRoom enough limit s → Keeps enough (item ∷ []) (fitted limit s item)
 keeps-item enough limit s item room =
     let right = right-plan enough limit s item room in
     keeps-written enough (plan_of limit s item).writes (take (plan_of limit s item).closes s) (plan_of limit s item).opens item right.added right.own

@@ -16,7 +16,7 @@ use Rattle.html5tree.proofs.Normalising.{item-after, kind-p, none-ready, ready-a
 use Rattle.html5tree.proofs.RightPlans.{Stack}
 
 -- the same of what follows some items
-stays-later : (limit : ℕ) (items more : List Item) (s : Stack) → stays_within limit s (items ++ more) ≡ true → stays_within limit (all_open_after s items) more ≡ true
+pub stays-later : (limit : ℕ) (items more : List Item) (s : Stack) → stays_within limit s (items ++ more) ≡ true → stays_within limit (all_open_after s items) more ≡ true
 unfolding stays_within all_open_after
 stays-later limit [] more s w = w
 stays-later limit (item ∷ items) more s w =
@@ -107,7 +107,7 @@ same-text limit more s text less = at (holds_parts (kind_on_top s) && not (list_
         (λ e. subst (λ b. length (stack_after (if b then parted else spaces) s (Text text)) ≤ limit) e short)
     at false short = refl
 
-same-plan : (limit more : ℕ) (s : Stack) (item : Item) (items : List Item) → limit ≤ more → stays_within limit s (fitted more s item ++ items) ≡ true
+pub same-plan : (limit more : ℕ) (s : Stack) (item : Item) (items : List Item) → limit ≤ more → stays_within limit s (fitted more s item ++ items) ≡ true
     → length (open_after_fitted more s item) ≤ limit → plan_of limit s item ≡ plan_of more s item
 unfolding plan_of
 same-plan limit more s (StartTag name attributes) items less w short = same-limited limit more s (StartTag name attributes) (start_plan (kind_of name) s) less short

@@ -97,8 +97,8 @@ class Cleaner:
     """Cleans pages by a policy, one after the other, each as its pieces arrive.
 
     Use it in a `with`, so that its memory is given back at once. One thread at a time may call it. `limit` is how many
-    bytes it may hold: what was fed since all was read and no item was open. A piece that goes past it is refused
-    (`Status.LIMIT`), and nothing changes.
+    bytes it may hold: what was fed since all was read and no item was open, and the text that no tag has ended yet. A
+    piece that goes past it is refused (`Status.LIMIT`), and nothing changes.
     """
 
     _free = staticmethod(library.html5_free)

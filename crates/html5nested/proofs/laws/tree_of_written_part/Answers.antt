@@ -1,5 +1,6 @@
-use Rattle.std.proofs.Common.{ap, ◌∙◌}
+use Rattle.std.proofs.Common.{ap, ◌∙◌, subst, sym}
 use Rattle.html5tree.specs.Construction.{run, tree_in}
+use Rattle.html5tree.specs.Hosts.{IsBack}
 use Rattle.html5tree.specs.Items.{without_newlines}
 use Rattle.html5nested.specs.PageItems.{items_of}
 use Rattle.html5nested.proofs.SameItems.{same-part}
@@ -12,3 +13,8 @@ pub returns-clause-in_place : goal.returns-clause-in_place
 returns-clause-in_place c = λ exact input pieces fresh p path host none fit balance keeps.
     ap (λ l. tree_in (run p (without_newlines fresh l))) (same-part exact input pieces)
     ∙ c.tree_of_fitting_in_host.ensures.in_place fresh p path (items_of pieces) host fit balance keeps
+
+pub returns-clause-back : goal.returns-clause-back
+returns-clause-back c = λ exact input pieces fresh p path host fit balance.
+    subst (λ l. IsBack p (run p (without_newlines fresh l))) (sym (same-part exact input pieces))
+    (c.tree_of_fitting_in_host.ensures.back fresh p path (items_of pieces) host fit balance)
