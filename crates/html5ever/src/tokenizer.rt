@@ -4,7 +4,7 @@ ghost use Rattle.html5ever_interface.specs.Options.{options_of};
 ghost use Rattle.html5ever_interface.specs.Sink.{stepped, on_line};
 ghost use Rattle.html5reading.specs.EndOfInput.{tokens_at_end};
 ghost use Rattle.html5reading.specs.Start.{start_of, nothing_open};
-ghost use Rattle.html5reading.specs.Start.Mode.{Plain};
+ghost use Rattle.html5reading.specs.Start.Mode.{Data, Plain};
 ghost use Rattle.html5reading.specs.Start.Open.{Between};
 ghost use Rattle.html5feed.specs.Feed.{reply_in};
 ghost use Rattle.html5states.specs.Telling.{faults_of};
@@ -120,6 +120,10 @@ impl<'t, Sink: TokenSink<Token<A>>, A: Allocator + Copy> Tokenizer<'t, Sink, A> 
             Feeds Sink.means self.old self.new queue.old.text queue.new.text (reply_in string_bytes answer)) }
         ensures items { IfOk result (λ answer.
             FeedsItems Sink.means self.old self.new queue.old.text queue.new.text (reply_in string_bytes answer)) }
+
+        // After a pause nothing is open: what follows is markup, unless the caller says otherwise.
+        ensures paused { IfOk result (λ answer. answer ≢ TokenizerResult.Done
+            → self.new.position.opened ≡ Between Data) }
 
         // For a loop past the pauses, which asks for no more.
         ensures done { result ≡ Ok TokenizerResult.Done → queue.new.text ≡ [] }

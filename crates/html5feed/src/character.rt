@@ -1,7 +1,7 @@
 //! One character of a stream.
 #![tactic(auto, unfolding(html5partial::specs::CharRef::with_reference))]
 
-ghost use Rattle.std.specs.Prelude.{◌≡◌, ◌≤◌, ◌+◌, ◌∷◌, [], false, IfOk, IfErr, OnOk, string_bytes};
+ghost use Rattle.std.specs.Prelude.{◌≡◌, ◌≢◌, ◌≤◌, ◌+◌, ◌∷◌, [], false, IfOk, IfErr, OnOk, string_bytes};
 ghost use Rattle.html5ever_interface.specs.Sink.{on_line};
 ghost use Rattle.html5ever_interface.specs.Token.{Told, tag_of};
 ghost use Rattle.html5reading.specs.NormalisedText.{input_after};
@@ -63,6 +63,7 @@ fn emit_tag<S: TokenSink<Token<A>>, A: Allocator + Copy>(
     ensures answer { IfOk result (λ answer. reply_in string_bytes answer
         ≡ first_pause S.means (S.means.state teller.old.sink.now)
         (on_line teller.old.line (Told.Tag (tag_of tag) ∷ []))) }
+    ensures paused { IfOk result (λ answer. answer ≢ TokenizerResult.Done → position.new.opened ≡ Between Data) }
     ensures input { position.new.input ≡ position.old.input }
     ensures held { held_len position.new.opened ≡ 0 }
 {
@@ -104,6 +105,7 @@ fn read_opened<S: TokenSink<Token<A>>, A: Allocator + Copy>(
         ≡ first_pause S.means (S.means.state sink.old)
         (messages_here S.means.step S.means.reply rules.now position.old.input.line c
         (step_at rules.now.exact position.old.opened c))) }
+    ensures paused { IfOk result (λ answer. answer ≢ TokenizerResult.Done → position.new.opened ≡ Between Data) }
     ensures input { position.new.input ≡ position.old.input }
     ensures held { held_len position.new.opened ≤ 1 }
     ensures faults { S.faults sink.new ≡ S.faults sink.old + faults_of result }
@@ -149,6 +151,7 @@ pub fn read_character<S: TokenSink<Token<A>>, A: Allocator + Copy>(
     ensures answer { IfOk result (λ answer. reply_in string_bytes answer
         ≡ first_pause S.means (S.means.state sink.old)
         (messages_so_far S.means rules.now position.old (S.means.state sink.old) (c ∷ []))) }
+    ensures paused { IfOk result (λ answer. answer ≢ TokenizerResult.Done → position.new.opened ≡ Between Data) }
     ensures input { position.new.input ≡ input_after position.old.input (c ∷ []) }
     ensures held { held_len position.new.opened ≤ held_len position.old.opened + 1 }
     ensures faults { S.faults sink.new ≡ S.faults sink.old + faults_of result }

@@ -3,6 +3,8 @@ ghost use Rattle.std.specs.Prelude.{◌≡◌, ◌≢◌, ◌^◌, ◌+◌, ◌<
 ghost use Rattle.std.specs.Str.{IsUtf8, chars};
 ghost use Rattle.html5reading.specs.Reading.{messages_so_far, start_after};
 ghost use Rattle.html5reading.specs.Start.{nothing_open, held_len};
+ghost use Rattle.html5reading.specs.Start.Mode.{Data};
+ghost use Rattle.html5reading.specs.Start.Open.{Between};
 ghost use Rattle.html5feed.specs.Feed.{IsEndOf, reply_in, feed};
 ghost use Rattle.html5feed.specs.Quiet.{TakesQuietly};
 ghost use Rattle.html5feed.specs.Refused.{IsRun, RefusedAfter};
@@ -123,6 +125,7 @@ pub fn read_queue<S: TokenSink<Token<A>>, A: Allocator + Copy>(
         (feed S.means rules.now position.old (S.means.state sink.old) [] queue.old.text).taken) }
     ensures answer { IfOk result (λ answer. reply_in string_bytes answer
         ≡ (feed S.means rules.now position.old (S.means.state sink.old) [] queue.old.text).answer) }
+    ensures paused { IfOk result (λ answer. answer ≢ TokenizerResult.Done → position.new.opened ≡ Between Data) }
     ensures left { OnOk result
         (queue.new.text ≡ (feed S.means rules.now position.old (S.means.state sink.old) [] queue.old.text).left) }
     ensures refusal { IfErr result IsRefusal }

@@ -7,6 +7,8 @@ use Rattle.html5ever_interface.specs.Token.{Reply}
 use Rattle.html5ever_interface.specs.Token.Reply.{KeepOn, ReadPlainText, ReadRawData, RunScript, SwitchEncoding}
 use Rattle.html5ever_interface.specs.declared.states.State.{State}
 use Rattle.html5reading.specs.Start.{Rules, nothing_open}
+use Rattle.html5reading.specs.Start.Mode.{Data}
+use Rattle.html5reading.specs.Start.Open.{Between}
 use Rattle.html5partial.specs.declared.error.TokenizerError.{TokenizerError}
 use Rattle.html5ever.proofs.Standing.{StandsAt-start}
 use Rattle.html5ever.specs.Detached.{DetachedOf, tokenizing}
@@ -154,10 +156,10 @@ module _ {X S H : Type 0} (means : Means X S H) where
   pub feeds_text : (r out : DetachedOf X) (references : List NamedReference) (t u : Tokenizing X) (text left : List ℕ) (reply : Reply H)
       → t ≡ tokenizing r references → u.rules ≡ t.rules → tokenizing out u.rules.references ≡ u
       → Feeds means t u text left reply → FeedsItems means t u text left reply
-      → (reply ≡ KeepOn → left ≡ []) → (reply ≢ KeepOn → length left < length text)
+      → (reply ≡ KeepOn → left ≡ []) → (reply ≢ KeepOn → length left < length text) → (reply ≢ KeepOn → u.position.opened ≡ Between Data)
       → u.failed ≡ false → u.ended ≡ false
       → FeedsText means (tokenizing r references) (tokenizing out references) text left reply
-  feeds_text r out references t u text left reply begins rules rested reads items all shorter not_failed going_on =
+  feeds_text r out references t u text left reply begins rules rested reads items all shorter paused not_failed going_on =
       let ends = rests r out references t u begins rules rested in
       record {
         feeds = subst (λ (w : Tokenizing X). Feeds means w (tokenizing out references) text left reply) begins
@@ -166,6 +168,7 @@ module _ {X S H : Type 0} (means : Means X S H) where
             (subst (λ (w : Tokenizing X). FeedsItems means t w text left reply) (sym ends) items);
         all = all;
         shorter = shorter;
+        paused = λ other. ap (λ (w : Tokenizing X). w.position.opened) ends ∙ paused other;
         rules = ap (λ (w : Tokenizing X). w.rules) ends ∙ rules ∙ ap (λ (w : Tokenizing X). w.rules) begins;
         not_failed = ap (λ (w : Tokenizing X). w.failed) ends ∙ not_failed;
         going_on = ap (λ (w : Tokenizing X). w.ended) ends ∙ going_on;

@@ -10,6 +10,8 @@ use Rattle.html5feed.specs.Starting.{in_state}
 use Rattle.html5ever.specs.Detached.{DetachedOf, tokenizing}
 use Rattle.html5ever.specs.Tokenizer.{Tokenizing, StandsAt, Feeds, FeedsItems, StopsFeeding, Finishes, FinishesItems, StopsEnding}
 use Rattle.html5reading.specs.Start.{nothing_open}
+use Rattle.html5reading.specs.Start.Mode.{Data}
+use Rattle.html5reading.specs.Start.Open.{Between}
 use Rattle.html5session.specs.Intake.{IntakeOf, Takes, fault_said}
 use Rattle.html5session.specs.declared.error.SessionError.{SessionError}
 use Rattle.html5session.specs.declared.error.SessionError.TheVariants.{Memory, NotUtf8, Cut, Waiting, ItemOpen, Over}
@@ -88,6 +90,8 @@ module _ {X S H : Type 0} (means : Means X S H) where
     pub items : FeedsItems means old new text left reply
     pub all : reply ≡ KeepOn → left ≡ []
     pub shorter : reply ≢ KeepOn → length left < length text
+    -- after a pause nothing is open: what follows is markup, unless the caller says otherwise
+    pub paused : reply ≢ KeepOn → new.position.opened ≡ Between Data
     pub rules : new.rules ≡ old.rules
     pub not_failed : new.failed ≡ false
     pub going_on : new.ended ≡ false

@@ -150,6 +150,7 @@ returns-in_default-2 g c =
       tells = fed.told_all;
       moves = fed.position;
       answer = fed.answers;
+      paused = c.in_ok-pause.ensures.paused;
       left = fed.left;
       refusal = tt;
       refused = tt;

@@ -10,6 +10,7 @@ returns-in-Ok-clause-feeds g c =
     (reply_in string_bytes c.in-Ok.answer) c.attach-tokenizer.ensures fed.rules c.detach-detached.ensures.whole fed.reads fed.items
     (λ is. fed.done (ap Ok (done_of string_bytes c.in-Ok.answer is)))
     (λ other. fed.shorter (λ is. other (ap (reply_in string_bytes) is)))
+    (λ other. fed.paused (λ is. other (ap (reply_in string_bytes) is)))
     fed.failed fed.going_on
 
 pub returns-in-Err-clause-stops : goal.returns-in-Err-clause-stops
