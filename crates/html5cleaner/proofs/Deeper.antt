@@ -1,5 +1,5 @@
 -- A greater depth changes nothing where the smaller is not passed.
-use Rattle.std.proofs.Common.{◌≡◌, ℕ, ◌≤◌, Bool, true, false, List, [], ◌∷◌, ◌++◌, length, refl, ap, sym, ◌∙◌, subst, append_assoc}
+use Rattle.std.proofs.Common.{◌≡◌, ℕ, ◌*◌, ◌≤◌, Bool, true, false, List, [], ◌∷◌, ◌++◌, length, refl, ap, sym, ◌∙◌, subst, append_assoc}
 use Rattle.std.specs.Prelude.{◌&&◌, nat_le}
 use Rattle.std.proofs.lemmas.Bool.{and_from, and_parts, le-leb}
 use Rattle.html5ever_interface.specs.Sink.{Message}
@@ -12,12 +12,13 @@ use Rattle.html5nested.specs.PageItems.{items_of}
 use Rattle.html5policy.specs.Policy.{PolicyOf}
 use Rattle.html5tree.specs.Fitting.{all_open_after, open_after}
 use Rattle.html5tree.specs.Items.{Item}
+use Rattle.html5tree.specs.Keeping.{Keeps}
 use Rattle.html5tree.specs.Normal.{IsReady, Plan, fitted, open_after_fitted, stack_after, stays_within, written}
 use Rattle.html5tree.proofs.Normalising.{item-after, ready-after, within-first}
 use Rattle.html5tree.proofs.RightPlans.{open-fitting}
 use Rattle.html5tree.proofs.Room.{same-plan, stays-later}
 use Rattle.html5write.specs.Pieces.{Piece}
-use Rattle.html5cleaner.specs.Balance.{closed_at_end, is_end, open_by, with_depth, written_by}
+use Rattle.html5cleaner.specs.Balance.{closed_at_end, is_end, open_by, with_depth, without_tree, written_by}
 use Rattle.html5cleaner.specs.Clean.{Cleaned, at_start, clean_step, kept_where, opens}
 use Rattle.html5cleaner.specs.Cleaning.{kept_of_page}
 use Rattle.html5cleaner.specs.Shape.{all_fitted, open_after_all, pieces_in, shape_of}
@@ -28,7 +29,7 @@ use Rattle.html5cleaner.proofs.NestedPages.{GoesOn, IsReadyFor, goes-start, goes
 use Rattle.html5cleaner.proofs.OtherPieces.{same-hidden, same-kept}
 use Rattle.html5cleaner.proofs.SameReadings.{page-same}
 use Rattle.html5cleaner.proofs.TreePages.{go-fitting}
-use Rattle.html5cleaner.proofs.TreeTwins.{written-items}
+use Rattle.html5cleaner.proofs.TreeTwins.{page-keeps, written-items}
 
 stays-before : (limit : ℕ) (items more : List Item) (stack : List (List ℕ)) → stays_within limit stack (items ++ more) ≡ true → stays_within limit stack items ≡ true
 unfolding stays_within
@@ -157,7 +158,7 @@ start-deeper more policy tree less = record {
 }
 
 -- of a page whose bytes are given
-pub page-not_reached : (policy : PolicyOf) (references : List NamedReference) (bytes : List ℕ) (more : ℕ) → policy.tree ≡ true → policy.depth ≤ more
+page-not_reached : (policy : PolicyOf) (references : List NamedReference) (bytes : List ℕ) (more : ℕ) → policy.tree ≡ true → policy.depth ≤ more
     → stays_within policy.depth [] (items_of (kept_of_page (with_depth more policy) references bytes)) ≡ true
     → kept_of_page policy references bytes ≡ kept_of_page (with_depth more policy) references bytes
 page-not_reached policy references bytes more tree less w =
@@ -167,3 +168,11 @@ page-not_reached policy references bytes more tree less w =
     (page-same clean_step clean_step references (at_start policy) (at_start (with_depth more policy)) bytes) in
     let twins = between-handed clean_step clean_step (IsDeeper more policy) (deeper-step more policy) (at_start policy) (at_start (with_depth more policy)) M (start-deeper more policy tree less) in
     (twins.same (subst (λ p. stays_within policy.depth [] (items_of p) ≡ true) (sym same) w)).pieces ∙ same
+
+pub page-keeps_all : (policy : PolicyOf) (references : List NamedReference) (bytes : List ℕ) (more : ℕ) → policy.tree ≡ true → policy.depth ≤ more
+    → 8 * length (items_of (kept_of_page (without_tree policy) references bytes)) ≤ more
+    → stays_within policy.depth [] (items_of (kept_of_page (with_depth more policy) references bytes)) ≡ true
+    → Keeps true (items_of (kept_of_page (without_tree policy) references bytes)) (items_of (kept_of_page policy references bytes))
+page-keeps_all policy references bytes more tree less enough w =
+    subst (λ p. Keeps true (items_of (kept_of_page (without_tree policy) references bytes)) (items_of p)) (sym (page-not_reached policy references bytes more tree less w))
+    (page-keeps true more policy references bytes tree (λ e. enough))

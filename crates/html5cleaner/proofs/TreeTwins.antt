@@ -19,7 +19,7 @@ use Rattle.html5tree.specs.Normal.{IsReady, fitted, open_after_fitted}
 use Rattle.html5tree.proofs.Bounds.{item-cost}
 use Rattle.html5tree.proofs.Keeping.{keeps-append, keeps-ends, keeps-item, keeps-same}
 use Rattle.html5write.specs.Pieces.{Piece}
-use Rattle.html5cleaner.specs.Balance.{closed_at_end, end_tags, is_end, open_by, without_tree, written_by}
+use Rattle.html5cleaner.specs.Balance.{closed_at_end, end_tags, is_end, open_by, with_depth, without_tree, written_by}
 use Rattle.html5cleaner.specs.Clean.{Cleaned, at_start, clean_step, kept_where, opens}
 use Rattle.html5cleaner.specs.Cleaning.{kept_of_page}
 use Rattle.html5cleaner.specs.Shape.{Shape, all_fitted, open_after_all, pieces_in, shape_by_balance, shape_of}
@@ -106,83 +106,81 @@ step-keeps enough limit ends opened plain made kept ready short before room =
     (before (λ e. let r = room e in omega (arith, r, both)))
     (written-keeps enough limit ends opened kept ready (λ e. let r = room e in omega (arith, r, both, short)))))
 
-record IsTwin (enough : Bool) (policy : PolicyOf) (c twin : Cleaned) : Type 0 where
-  keeps : c.policy ≡ policy
+record IsTwin (enough : Bool) (limit : ℕ) (policy : PolicyOf) (c twin : Cleaned) : Type 0 where
+  keeps : c.policy ≡ with_depth limit policy
   plain : twin.policy ≡ without_tree policy
   hidden : c.hidden ≡ twin.hidden
   tree : policy.tree ≡ true
   goes : GoesOn c
   short : length c.opened ≤ 8 * length (items_of twin.pieces)
-  kept : HasRoomFor enough policy.depth twin.pieces → Keeps enough (items_of twin.pieces) (items_of c.pieces)
+  kept : HasRoomFor enough limit twin.pieces → Keeps enough (items_of twin.pieces) (items_of c.pieces)
 
 as-kept : (shape : Shape) (ends : Bool) (opened : List (List ℕ)) (pieces : List Piece) → shape ≡ AsKept → written_by shape ends opened pieces ≡ pieces
 unfolding written_by
 as-kept shape ends opened pieces is = ap (λ s. written_by s ends opened pieces) is
 
-twin-step : (enough : Bool) (policy : PolicyOf) (c twin : Cleaned) (run : List ℕ) (told : Told) (line : ℕ) → IsTwin enough policy c twin
-    → IsTwin enough policy (clean_step c run told line) (clean_step twin run told line)
-twin-step enough policy c twin run told line t =
+twin-step : (enough : Bool) (limit : ℕ) (policy : PolicyOf) (c twin : Cleaned) (run : List ℕ) (told : Told) (line : ℕ) → IsTwin enough limit policy c twin
+    → IsTwin enough limit policy (clean_step c run told line) (clean_step twin run told line)
+twin-step enough limit policy c twin run told line t =
     let kept : List Piece = kept_where c.policy c.hidden.depth run told in
     let other : List Piece = kept_where twin.policy twin.hidden.depth run told in
     let same : kept ≡ other =
-    (λ i. kept_where (t.keeps i) (t.hidden i).depth run told) ∙ same-kept policy false false policy.depth twin.hidden.depth run told ∙ ap (λ p. kept_where p twin.hidden.depth run told) (sym t.plain) in
-    let shape : shape_of c.policy ≡ Tree policy.depth = ap shape_of t.keeps ∙ shape-tree policy t.tree in
+    (λ i. kept_where (t.keeps i) (t.hidden i).depth run told) ∙ sym (same-kept policy policy.balance policy.tree limit twin.hidden.depth run told)
+    ∙ same-kept policy false false policy.depth twin.hidden.depth run told ∙ ap (λ p. kept_where p twin.hidden.depth run told) (sym t.plain) in
+    let shape : shape_of c.policy ≡ Tree limit = ap shape_of t.keeps ∙ shape-tree (with_depth limit policy) t.tree in
     let plain : written_by (shape_of twin.policy) (is_end told) twin.opened other ≡ other =
     as-kept (shape_of twin.policy) (is_end told) twin.opened other (ap shape_of t.plain) in
-    let written : written_by (shape_of c.policy) (is_end told) c.opened kept ≡ written_by (Tree policy.depth) (is_end told) c.opened other =
+    let written : written_by (shape_of c.policy) (is_end told) c.opened kept ≡ written_by (Tree limit) (is_end told) c.opened other =
     λ i. written_by (shape i) (is_end told) c.opened (same i) in
-    let open : open_by (shape_of c.policy) (is_end told) c.opened kept ≡ open_by (Tree policy.depth) (is_end told) c.opened other =
+    let open : open_by (shape_of c.policy) (is_end told) c.opened kept ≡ open_by (Tree limit) (is_end told) c.opened other =
     λ i. open_by (shape i) (is_end told) c.opened (same i) in
-    let ready : IsReady policy.depth c.opened = subst (λ s. IsReadyFor s c.opened) shape t.goes.1 in
+    let ready : IsReady limit c.opened = subst (λ s. IsReadyFor s c.opened) shape t.goes.1 in
     record {
       keeps = t.keeps;
       plain = t.plain;
-      hidden = (λ i. hidden_after (opens (t.keeps i)) (t.hidden i) told) ∙ same-hidden policy false false policy.depth twin.hidden told ∙ ap (λ p. hidden_after (opens p) twin.hidden told) (sym t.plain);
+      hidden = (λ i. hidden_after (opens (t.keeps i)) (t.hidden i) told) ∙ sym (same-hidden policy policy.balance policy.tree limit twin.hidden told)
+          ∙ same-hidden policy false false policy.depth twin.hidden told ∙ ap (λ p. hidden_after (opens p) twin.hidden told) (sym t.plain);
       tree = t.tree;
       goes = goes-step c run told line t.goes;
       short =
-          let l = open-short policy.depth (is_end told) c.opened other in
+          let l = open-short limit (is_end told) c.opened other in
           let s = t.short in
           let both = length-items twin.pieces other in
-          let m : length (open_by (Tree policy.depth) (is_end told) c.opened other) ≤ 8 * length (items_of (twin.pieces ++ other)) = omega (arith, l, s, both) in
+          let m : length (open_by (Tree limit) (is_end told) c.opened other) ≤ 8 * length (items_of (twin.pieces ++ other)) = omega (arith, l, s, both) in
           subst (λ p. length (open_by (shape_of c.policy) (is_end told) c.opened kept) ≤ 8 * length (items_of (twin.pieces ++ p))) (sym plain)
           (subst (λ (o : List (List ℕ)). length o ≤ 8 * length (items_of (twin.pieces ++ other))) (sym open) m);
       kept = λ room.
-          let room_for : HasRoomFor enough policy.depth (twin.pieces ++ other) = subst (λ p. HasRoomFor enough policy.depth (twin.pieces ++ p)) plain room in
+          let room_for : HasRoomFor enough limit (twin.pieces ++ other) = subst (λ p. HasRoomFor enough limit (twin.pieces ++ p)) plain room in
           subst (λ p. Keeps enough (items_of (twin.pieces ++ p)) (items_of (c.pieces ++ written_by (shape_of c.policy) (is_end told) c.opened kept))) (sym plain)
           (subst (λ p. Keeps enough (items_of (twin.pieces ++ other)) (items_of (c.pieces ++ p))) (sym written)
-          (step-keeps enough policy.depth (is_end told) c.opened twin.pieces c.pieces other ready t.short t.kept room_for));
+          (step-keeps enough limit (is_end told) c.opened twin.pieces c.pieces other ready t.short t.kept room_for));
     }
 
-start-twins : (enough : Bool) (policy : PolicyOf) → policy.tree ≡ true → IsTwin enough policy (at_start policy) (at_start (without_tree policy))
-start-twins enough policy tree = record {
+start-twins : (enough : Bool) (limit : ℕ) (policy : PolicyOf) → policy.tree ≡ true → IsTwin enough limit policy (at_start (with_depth limit policy)) (at_start (without_tree policy))
+start-twins enough limit policy tree = record {
   keeps = refl;
   plain = refl;
   hidden = refl;
   tree = tree;
-  goes = goes-start policy;
+  goes = goes-start (with_depth limit policy);
   short = omega arith;
   kept = λ room. keeps-same enough (items_of []);
 }
 
--- of a page whose bytes are given
-page-keeps : (enough : Bool) (policy : PolicyOf) (references : List NamedReference) (bytes : List ℕ) → policy.tree ≡ true
-    → (enough ≡ true → 8 * length (items_of (kept_of_page (without_tree policy) references bytes)) ≤ policy.depth)
-    → Keeps enough (items_of (kept_of_page (without_tree policy) references bytes)) (items_of (kept_of_page policy references bytes))
-page-keeps enough policy references bytes tree room =
-    let M : List Message = runs_page clean_step references (at_start policy) bytes in
+-- of a page whose bytes are given, by a policy of any depth
+pub page-keeps : (enough : Bool) (limit : ℕ) (policy : PolicyOf) (references : List NamedReference) (bytes : List ℕ) → policy.tree ≡ true
+    → (enough ≡ true → 8 * length (items_of (kept_of_page (without_tree policy) references bytes)) ≤ limit)
+    → Keeps enough (items_of (kept_of_page (without_tree policy) references bytes)) (items_of (kept_of_page (with_depth limit policy) references bytes))
+page-keeps enough limit policy references bytes tree room =
+    let start : Cleaned = at_start (with_depth limit policy) in
+    let M : List Message = runs_page clean_step references start bytes in
     let same : (runs_handed clean_step (at_start (without_tree policy)) M).pieces ≡ kept_of_page (without_tree policy) references bytes =
     ap (λ N. (runs_handed clean_step (at_start (without_tree policy)) N).pieces)
-    (page-same clean_step clean_step references (at_start policy) (at_start (without_tree policy)) bytes) in
-    let twins = between-handed clean_step clean_step (IsTwin enough policy) (twin-step enough policy) (at_start policy) (at_start (without_tree policy)) M (start-twins enough policy tree) in
-    subst (λ p. Keeps enough (items_of p) (items_of (kept_of_page policy references bytes))) same
-    (twins.kept (λ e. subst (λ p. 8 * length (items_of p) ≤ policy.depth) (sym same) (room e)))
+    (page-same clean_step clean_step references start (at_start (without_tree policy)) bytes) in
+    let twins = between-handed clean_step clean_step (IsTwin enough limit policy) (twin-step enough limit policy) start (at_start (without_tree policy)) M (start-twins enough limit policy tree) in
+    subst (λ p. Keeps enough (items_of p) (items_of (kept_of_page (with_depth limit policy) references bytes))) same
+    (twins.kept (λ e. subst (λ p. 8 * length (items_of p) ≤ limit) (sym same) (room e)))
 
 pub page-keeps_some : (policy : PolicyOf) (references : List NamedReference) (bytes : List ℕ) → policy.tree ≡ true
     → Keeps false (items_of (kept_of_page (without_tree policy) references bytes)) (items_of (kept_of_page policy references bytes))
-page-keeps_some policy references bytes tree = page-keeps false policy references bytes tree (λ e. absurd (false≢true e))
-
-pub page-keeps_all : (policy : PolicyOf) (references : List NamedReference) (bytes : List ℕ) → policy.tree ≡ true
-    → 8 * length (items_of (kept_of_page (without_tree policy) references bytes)) ≤ policy.depth
-    → Keeps true (items_of (kept_of_page (without_tree policy) references bytes)) (items_of (kept_of_page policy references bytes))
-page-keeps_all policy references bytes tree enough = page-keeps true policy references bytes tree (λ e. enough)
+page-keeps_some policy references bytes tree = page-keeps false policy.depth policy references bytes tree (λ e. absurd (false≢true e))

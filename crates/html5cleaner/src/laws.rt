@@ -137,21 +137,17 @@ pub fn cleaned_page_in_host()
 }
 
 /// What the rule `tree` leaves out of what the same policy keeps without it, and what it adds (`Keeps`, of html5tree): all
-/// text is kept, and each start tag with its attributes, but for parts of tables that stand in no table and forms in
-/// forms or among parts; end tags come and go, and implied parents are added. That is so where eight elements may
-/// be open for each piece (`all`); and a greater depth changes nothing where nowhere more elements would be open than the
-/// policy's (`not_reached`). Of any page a start tag may be left out, too, and of its text what is no white space
-/// (`some`).
+/// text is kept, and each start tag with its attributes, in their order, but for parts of tables that stand in no table
+/// and forms in forms or among parts; end tags come and go, and implied parents are added. That is so where nowhere
+/// more elements would be open than the policy's depth, if any number could be, such as eight for each piece (`all`).
+/// Of any page a start tag may be left out, too, and of its text what is no white space (`some`).
 pub fn kept_in_tree()
+    ensures all { (policy : PolicyOf) (references : List NamedReference) (text : List ℕ) (more : ℕ) → policy.tree ≡ true
+        → policy.depth ≤ more → 8 * length (items_of (kept_of_page (without_tree policy) references text)) ≤ more
+        → stays_within policy.depth [] (items_of (kept_of_page (with_depth more policy) references text)) ≡ true
+        → Keeps true (items_of (kept_of_page (without_tree policy) references text)) (items_of (kept_of_page policy references text)) }
     ensures some { (policy : PolicyOf) (references : List NamedReference) (text : List ℕ) → policy.tree ≡ true
         → Keeps false (items_of (kept_of_page (without_tree policy) references text)) (items_of (kept_of_page policy references text)) }
-    ensures all { (policy : PolicyOf) (references : List NamedReference) (text : List ℕ) → policy.tree ≡ true
-        → 8 * length (items_of (kept_of_page (without_tree policy) references text)) ≤ policy.depth
-        → Keeps true (items_of (kept_of_page (without_tree policy) references text)) (items_of (kept_of_page policy references text)) }
-    ensures not_reached { (policy : PolicyOf) (references : List NamedReference) (text : List ℕ) (more : ℕ) → policy.tree ≡ true
-        → policy.depth ≤ more
-        → stays_within policy.depth [] (items_of (kept_of_page (with_depth more policy) references text)) ≡ true
-        → kept_of_page policy references text ≡ kept_of_page (with_depth more policy) references text }
 {}
 
 /// Cleaning twice by a policy changes nothing, whatever the table of each reading: what was kept of a text
