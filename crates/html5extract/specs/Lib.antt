@@ -1,3 +1,5 @@
+pub mod Bases
+pub mod LinkReading
 pub mod Links
 pub mod Makings
 pub mod PageText

@@ -2,9 +2,11 @@
 use Rattle.std.specs.Prelude.{ℕ, false, List}
 use Rattle.html5stream.specs.Pages.{runs_handed, runs_page, tags_handed, tags_page}
 use Rattle.html5programs.specs.Filtering.{Making}
-use Rattle.html5extract.specs.Links.{links_step}
+use Rattle.html5ever_interface.specs.Token.{TagOf}
+use Rattle.html5extract.specs.LinkReading.{LinkReading, link_reading, links_begun, links_step}
 use Rattle.html5extract.specs.PageText.{Reading, at_start, text_step}
 use Rattle.html5extract.specs.TokenLines.{line_output, tokens_page, tokens_printed}
+use Rattle.html5extract.specs.declared.bases.Bases.{Bases}
 use Rattle.token_printer.specs.Output.{Output}
 
 -- the tokens of pages, after what was printed before
@@ -17,15 +19,19 @@ tokens_made = record {
   printed = λ s. s.lines;
 }
 
--- the links of pages, after what was printed before
-abbrev pub links_made : Making (Unit {0}) (List ℕ)
-links_made = record {
-  started = λ settings printed. printed;
-  begun = λ s. s;
-  page = tags_page links_step;
-  handed = tags_handed links_step;
-  printed = λ s. s;
+-- the links of pages, after what was printed before, by what is made of each tag
+abbrev pub links_made_by : (LinkReading → TagOf → ℕ → LinkReading) → Making Bases LinkReading
+links_made_by step = record {
+  started = link_reading;
+  begun = links_begun;
+  page = tags_page step;
+  handed = tags_handed step;
+  printed = λ s. s.printed;
 }
+
+-- as lines
+abbrev pub links_made : Making Bases LinkReading
+links_made = links_made_by links_step
 
 -- their text, where each page begins outside of scripts and styles
 abbrev pub text_made : Making (Unit {0}) Reading

@@ -2,6 +2,7 @@
 //! that prints, and a call that reads a page for it as the page arrives.
 #![tactic(auto)]
 
+pub mod bases;
 pub mod link_pages;
 pub mod links;
 pub mod page_text;

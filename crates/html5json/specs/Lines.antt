@@ -2,7 +2,7 @@
 use Rattle.std.specs.Prelude.{ℕ, List, [], ◌∷◌, ◌++◌, Option, None, Some, codes}
 use Rattle.html5ever_interface.specs.Token.{TagOf, Told}
 use Rattle.html5ever_interface.specs.Token.Told.{Text}
-use Rattle.html5extract.specs.Links.{link_of}
+use Rattle.html5extract.specs.LinkReading.{LinkReading, link_step}
 use Rattle.html5json.specs.Links.{json_of_link}
 use Rattle.html5json.specs.Tokens.{json_of_token}
 use Rattle.json.specs.Json.{Json}
@@ -26,11 +26,10 @@ run_line (byte ∷ bytes) = line_of (json_of_token (Text (byte ∷ bytes)) 0)
 abbrev pub json_tokens_step : List ℕ → List ℕ → Told → ℕ → List ℕ
 json_tokens_step printed run told line = printed ++ (run_line run ++ line_of (json_of_token told line))
 
--- the line of a link, where there is one
-abbrev pub link_line : ℕ → Option (List ℕ) → List ℕ
-link_line line None = []
-link_line line (Some link) = line_of (json_of_link line link)
+-- the line of a link
+abbrev pub link_line : ℕ → List ℕ → List ℕ
+link_line line link = line_of (json_of_link line link)
 
--- what was printed after a tag
-abbrev pub json_links_step : List ℕ → TagOf → ℕ → List ℕ
-json_links_step printed tag line = printed ++ link_line line (link_of tag)
+-- after a tag, where links are printed as lines of JSON
+abbrev pub json_links_step : LinkReading → TagOf → ℕ → LinkReading
+json_links_step s tag line = link_step link_line s tag line

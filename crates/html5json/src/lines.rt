@@ -1,8 +1,8 @@
 //! Lines of JSON.
 ghost use Rattle.std.specs.Prelude.{◌≡◌, ◌++◌, [], string_bytes, IfOk};
 ghost use Rattle.html5ever_interface.specs.Token.{told_by};
-ghost use Rattle.html5json.specs.Lines.{line_of, run_line};
-ghost use Rattle.html5json.specs.Links.{json_of_link};
+ghost use Rattle.html5extract.specs.Bases.{resolved};
+ghost use Rattle.html5json.specs.Lines.{line_of, link_line, run_line};
 ghost use Rattle.html5json.specs.Tokens.{json_of_token};
 ghost use Rattle.json.specs.Json.{Json};
 ghost use Rattle.json.specs.Tree.{json_tokens};
@@ -10,6 +10,7 @@ ghost use Rattle.json.specs.Tree.{json_tokens};
 use crate::members::{end_with_text, write_number};
 use crate::tokens::{write_run, write_token};
 use html5ever_interface::interface::token::Token;
+use html5extract::bases::{Bases, shown};
 use json::Writer;
 use std::alloc::{AllocError, Allocator};
 
@@ -62,13 +63,19 @@ pub fn token_lines<A: Allocator, B: Allocator>(
     with_token(run_line(alloc, run)?, token, line)
 }
 
-/// The line of a link.
-pub fn link_line<A: Allocator>(alloc: A, line: u64, link: &str) -> Result<Vec<u8, A>, AllocError>
-    ensures { IfOk result (λ lines. lines.items ≡ line_of (json_of_link line link.now)) }
+/// The line of a link, where it leads from these bases.
+pub fn link_line<A: Allocator>(
+    alloc: A,
+    line: u64,
+    bases: &Bases,
+    link: &str,
+) -> Result<Vec<u8, A>, AllocError>
+    ensures { IfOk result (λ lines. lines.items ≡ link_line line (resolved bases.now link.now)) }
 {
+    let url = bases.url_of(link)?;
     let mut writer = Writer::new(Vec::new(alloc));
     writer.begin_object()?;
     write_number(&mut writer, "line", line)?;
-    end_with_text(&mut writer, "link", link)?;
+    end_with_text(&mut writer, "link", shown(&url, link))?;
     ended(writer)
 }

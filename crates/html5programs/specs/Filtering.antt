@@ -4,6 +4,7 @@ use Rattle.std.specs.Str.{IsUtf8}
 use Rattle.html5ever_interface.specs.Sink.{Message}
 use Rattle.html5encodings.specs.declared.encoding.Encoding.{Encoding}
 use Rattle.html5programs.specs.Encodings.{IsTextOf}
+use Rattle.html5programs.specs.Words.{Asked}
 use Rattle.markup5ever.specs.NamedReferences.{NamedReference}
 
 -- what a filter makes of settings, which are of type T, and of pages, where its states are of type S
@@ -47,8 +48,18 @@ module _ {T S : Type 0} (means : Making T S) (references : List NamedReference) 
   ReadsFiles (file ∷ files) unread left before after =
       (now : Option (List ℕ)) × (between : S) × ReadsFile file unread now before between × ReadsFiles files now left between after
 
--- the settings where no file of them is given, or those of a text. Which text the file holds no contract says.
-module _ {T : Type 0} (unsaid : T) (said : List ℕ → Option T) where
-  abbrev pub AreSettingsAsked : Option (List ℕ) → T → Type 0
-  AreSettingsAsked None settings = settings ≡ unsaid
-  AreSettingsAsked (Some path) settings = (text : List ℕ) × (said text ≡ Some settings)
+-- by the file of settings that words name, and what words and that file's text say of settings
+module _ {T : Type 0} (file : Asked → Option (List ℕ)) (said : Asked → Option (List ℕ) → Option T) where
+  -- the settings that words say, by themselves or with a text
+  abbrev SayWith : Asked → Option (List ℕ) → T → Type 0
+  SayWith asked None settings = said asked None ≡ Some settings
+  SayWith asked (Some path) settings = (text : List ℕ) × (said asked (Some text) ≡ Some settings)
+
+  -- the settings that words ask for. Which text a file of settings holds no contract says.
+  abbrev pub AreSettingsAsked : Asked → T → Type 0
+  AreSettingsAsked asked settings = SayWith asked (file asked) settings
+
+  -- the words name no file of settings, and say none by themselves
+  pub record SaysNoSettings (asked : Asked) : Type 0 where
+    pub no_file : file asked ≡ None
+    pub none : said asked None ≡ None
