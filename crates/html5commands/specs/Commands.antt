@@ -7,9 +7,9 @@ use Rattle.html5commands.specs.declared.command.Command.{Command}
 use Rattle.html5commands.specs.declared.command.Command.TheVariants.{Tokens, Links, Text, Clean}
 use Rattle.html5commands.specs.declared.format.Format.{Format}
 use Rattle.html5commands.specs.declared.format.Format.TheVariants.{Lines, Json}
+use Rattle.html5extract.specs.Asked.{link_settings_said, token_settings_said}
 use Rattle.html5extract.specs.Bases.{bases_asked}
 use Rattle.html5extract.specs.Makings.{links_made, text_made, tokens_made}
-use Rattle.html5extract.specs.declared.bases.Bases.{Bases}
 use Rattle.html5json.specs.Makings.{json_links_made, json_tokens_made}
 use Rattle.html5programs.specs.Ending.{AsksNoText, PrintsAsked}
 use Rattle.html5programs.specs.Filtering.{Making}
@@ -42,9 +42,12 @@ abbrev pub reading_options : List KnownOption
 reading_options =
     flag (codes "--help") ∷ flag (codes "--version") ∷ before_word (codes "--encoding") ∷ before_word (codes "--entities") ∷ []
 
--- and of those that print in a format
+-- and of those that print in a format, with names in front
 abbrev pub format_options : List KnownOption
-format_options = reading_options ++ before_word (codes "--format") ∷ []
+format_options =
+    reading_options
+    ++ before_word (codes "--format")
+    ∷ flag (codes "-H") ∷ flag (codes "--with-filename") ∷ flag (codes "-h") ∷ flag (codes "--no-filename") ∷ []
 
 -- and of links
 abbrev pub link_options : List KnownOption
@@ -124,6 +127,7 @@ has_formats Clean = false
 abbrev pub clean_made : Making PolicySettings Standing
 clean_made = record {
   started = λ settings printed. record { policy = settings.policy; printed = printed };
+  named = λ file s. s;
   begun = λ s. s;
   page = page_messages;
   handed = printed_of;
@@ -141,9 +145,6 @@ no_file asked = None
 
 abbrev pub no_settings : Asked → Option (List ℕ) → Option (Unit {0})
 no_settings asked text = Some tt
-
-abbrev pub bases_said : Asked → Option (List ℕ) → Option Bases
-bases_said asked text = bases_asked asked
 
 abbrev pub policy_settings : Asked → Option (List ℕ) → Option PolicySettings
 policy_settings asked text = settings_by text
@@ -163,10 +164,10 @@ InFormat (Some Json) lines json = json
 -- all files that the words ask for were read, and what was written is what the command prints of them
 abbrev pub PrintsBy : Command → Asked → Option (List ℕ) → Option (List ℕ) → List ℕ → Type 0
 PrintsBy Tokens asked unread left written = InFormat (format_asked asked)
-    (PrintsAsked tokens_made no_file no_settings asked unread left written)
-    (PrintsAsked json_tokens_made no_file no_settings asked unread left written)
+    (PrintsAsked tokens_made no_file token_settings_said asked unread left written)
+    (PrintsAsked json_tokens_made no_file token_settings_said asked unread left written)
 PrintsBy Links asked unread left written = InFormat (format_asked asked)
-    (PrintsAsked links_made no_file bases_said asked unread left written)
-    (PrintsAsked json_links_made no_file bases_said asked unread left written)
+    (PrintsAsked links_made no_file link_settings_said asked unread left written)
+    (PrintsAsked json_links_made no_file link_settings_said asked unread left written)
 PrintsBy Text asked unread left written = PrintsAsked text_made no_file no_settings asked unread left written
 PrintsBy Clean asked unread left written = PrintsAsked clean_made settings_asked policy_settings asked unread left written

@@ -18,7 +18,6 @@ pub enum Command {
     Clean,
 }
 
-// An option without a word after it, and one with a word.
 const HELP: Choice<'static> = Choice {
     name: "--help",
     takes_word: false,
@@ -44,6 +43,26 @@ const FORMAT: Choice<'static> = Choice {
     takes_word: true,
 };
 
+const NAMES: Choice<'static> = Choice {
+    name: "-H",
+    takes_word: false,
+};
+
+const NAMES_LONG: Choice<'static> = Choice {
+    name: "--with-filename",
+    takes_word: false,
+};
+
+const NO_NAMES: Choice<'static> = Choice {
+    name: "-h",
+    takes_word: false,
+};
+
+const NO_NAMES_LONG: Choice<'static> = Choice {
+    name: "--no-filename",
+    takes_word: false,
+};
+
 const BASE: Choice<'static> = Choice {
     name: "--base",
     takes_word: true,
@@ -61,9 +80,30 @@ const PRINT_POLICY: Choice<'static> = Choice {
 
 static READING: [Choice<'static>; 4] = [HELP, VERSION, ENCODING, ENTITIES];
 
-static FORMATTING: [Choice<'static>; 5] = [HELP, VERSION, ENCODING, ENTITIES, FORMAT];
+static FORMATTING: [Choice<'static>; 9] = [
+    HELP,
+    VERSION,
+    ENCODING,
+    ENTITIES,
+    FORMAT,
+    NAMES,
+    NAMES_LONG,
+    NO_NAMES,
+    NO_NAMES_LONG,
+];
 
-static LINKING: [Choice<'static>; 6] = [HELP, VERSION, ENCODING, ENTITIES, FORMAT, BASE];
+static LINKING: [Choice<'static>; 10] = [
+    HELP,
+    VERSION,
+    ENCODING,
+    ENTITIES,
+    FORMAT,
+    NAMES,
+    NAMES_LONG,
+    NO_NAMES,
+    NO_NAMES_LONG,
+    BASE,
+];
 
 static CLEANING: [Choice<'static>; 6] = [HELP, VERSION, ENCODING, ENTITIES, POLICY, PRINT_POLICY];
 

@@ -2,6 +2,7 @@
 use Rattle.std.specs.Prelude.{ℕ, Bool, List, [], ◌∷◌, ◌++◌, ◌||◌, nat_eq, Option, None, Some, codes, decimal, if◌then◌else◌}
 use Rattle.std.specs.List.{flat_map}
 use Rattle.std.specs.Str.{bytes_eq}
+use Rattle.html5programs.specs.Fronts.{in_front}
 use Rattle.markup5ever.specs.Names.{AttributeOf}
 use Rattle.html5ever_interface.specs.Token.{TagOf}
 use Rattle.html5ever_interface.specs.declared.interface.token.TagKind.{TagKind}
@@ -40,3 +41,7 @@ kept byte = if nat_eq byte 9 || nat_eq byte 10 || nat_eq byte 13 then [] else by
 -- what is printed for a link: a line, with the number of its tag's line
 abbrev pub line_of : ℕ → List ℕ → List ℕ
 line_of line link = decimal line ++ codes " " ++ flat_map kept link ++ codes "\n"
+
+-- after the name in front
+abbrev pub named_line_of : Option (List ℕ) → ℕ → List ℕ → List ℕ
+named_line_of front line link = in_front front ++ line_of line link

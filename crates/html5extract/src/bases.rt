@@ -1,12 +1,13 @@
 //! Where the links of a page lead from.
 ghost use Rattle.std.specs.Prelude.{◌≡◌, false, IfOk, None, OnErr, OnOk, Some, option_map, string_bytes};
 ghost use Rattle.html5ever_interface.specs.Token.{tag_of};
-ghost use Rattle.html5extract.specs.Bases.{base_href, bases_after, frozen_base, is_refused_base, leads_to, page_bases, shown_or, url_at};
+ghost use Rattle.html5extract.specs.Bases.{base_href, bases_after, bases_asked, frozen_base, is_refused_base, leads_to, no_bases, page_bases, shown_or, url_at};
+ghost use Rattle.html5programs.specs.Words.{asked_by};
 ghost use Rattle.url.specs.Parser.{IsOutOfRoom};
 
 use crate::links::value_of;
 use html5ever_interface::interface::token::Tag;
-use html5programs::{Settings, Words};
+use html5programs::Words;
 use html5sinks::tags::is_start_of;
 use std::alloc::{AllocError, Allocator, Global};
 use thiserror::Error;
@@ -133,35 +134,28 @@ impl Bases {
     }
 }
 
-impl Settings for Bases {
-    ghost use Rattle.std.specs.Prelude.{None};
-    ghost use Rattle.html5extract.specs.Bases.{bases_asked};
-
-    type Fault = BaseError;
-
-    const OPTION: &'static str = "--base";
-
-    ghost file = { λ words. None };
-
-    ghost said = { λ words text. bases_asked words };
-
-    fn file_of<'w>(_words: &Words<'w>) -> Option<&'w str> {
-        None
+// No base: links are printed as they are written.
+fn no_bases() -> Bases
+    ensures { result ≡ no_bases }
+{
+    Bases {
+        fallback: None,
+        found: None,
     }
+}
 
-    fn of_words(alloc: Global, words: &Words<'_>, _text: Option<&str>) -> Result<Bases, BaseError> {
-        let Some(word) = words.value("--base") else {
-            return Ok(Bases {
-                fallback: None,
-                found: None,
-            });
-        };
-        match url_of_word(alloc, word) {
-            Ok(url) => Ok(Bases {
-                fallback: Some(url),
-                found: None,
-            }),
-            Err(fault) => Err(BaseError { fault }),
-        }
+/// The URL that words say pages are at, or none.
+pub fn bases_asked(alloc: Global, words: &Words<'_>) -> Result<Bases, BaseError>
+    ensures { IfOk result (λ bases. bases_asked (asked_by words.now) ≡ Some bases) }
+{
+    let Some(word) = words.value("--base") else {
+        return Ok(no_bases());
+    };
+    match url_of_word(alloc, word) {
+        Ok(url) => Ok(Bases {
+            fallback: Some(url),
+            found: None,
+        }),
+        Err(fault) => Err(BaseError { fault }),
     }
 }

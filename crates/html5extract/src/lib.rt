@@ -4,8 +4,10 @@
 
 pub mod bases;
 pub mod link_pages;
+pub mod link_settings;
 pub mod links;
 pub mod page_text;
 pub mod text_pages;
 pub mod token_lines;
 pub mod token_pages;
+pub mod token_settings;

@@ -5,8 +5,9 @@ use crate::lines::link_line;
 use devices::{Printer, Source, Target};
 use html5ever_interface::interface::token::{SinkFault, Tag};
 use html5extract::bases::Bases;
+use html5extract::link_settings::LinkSettings;
 use html5extract::links::link_of;
-use html5programs::Filter;
+use html5programs::{Filter, Front};
 use html5sinks::tags::TagHandler;
 use html5stream::{StreamError, read_tags};
 use markup5ever::data::NamedReferences;
@@ -19,6 +20,7 @@ pub struct JsonLinks<W, A: Allocator = Global> {
     pub alloc: A,
     pub printer: Printer<W, A>,
     pub bases: Bases,
+    pub front: Front,
 }
 
 impl<W: Target, A: Allocator + Copy> TagHandler<Tag<A>> for JsonLinks<W, A> {
@@ -27,7 +29,7 @@ impl<W: Target, A: Allocator + Copy> TagHandler<Tag<A>> for JsonLinks<W, A> {
 
     ghost State = { LinkReading };
 
-    ghost state = { λ l. link_reading l.bases l.printer.printed };
+    ghost state = { λ l. link_reading l.bases l.front l.printer.printed };
 
     ghost step = { json_links_step };
 
@@ -38,7 +40,13 @@ impl<W: Target, A: Allocator + Copy> TagHandler<Tag<A>> for JsonLinks<W, A> {
                 Err(AllocError) => Err(SinkFault),
             };
         };
-        let Ok(line) = link_line(self.alloc, line_number, &self.bases, link.as_str()) else {
+        let Ok(line) = link_line(
+            self.alloc,
+            line_number,
+            &self.bases,
+            &self.front,
+            link.as_str(),
+        ) else {
             return Err(SinkFault);
         };
         match self.printer.print(&line) {
@@ -49,25 +57,30 @@ impl<W: Target, A: Allocator + Copy> TagHandler<Tag<A>> for JsonLinks<W, A> {
 }
 
 impl<W: Target + Drop> Filter<W> for JsonLinks<W> {
-    ghost use Rattle.html5extract.specs.LinkReading.{LinkReading, link_reading};
+    ghost use Rattle.html5extract.specs.LinkReading.{LinkReading, link_reading, links_started};
     ghost use Rattle.html5json.specs.Makings.{json_links_made};
 
-    type Settings = Bases;
+    type Settings = LinkSettings;
 
     ghost State = { LinkReading };
 
-    ghost state = { λ l. link_reading l.bases l.printer.printed };
+    ghost state = { λ l. link_reading l.bases l.front l.printer.printed };
 
     ghost means = { json_links_made };
 
-    fn new(alloc: Global, printer: Printer<W>, bases: Bases) -> JsonLinks<W>
-        ensures { link_reading result.bases result.printer.printed ≡ link_reading bases printer.printed }
+    fn new(alloc: Global, printer: Printer<W>, settings: LinkSettings) -> JsonLinks<W>
+        ensures { link_reading result.bases result.front result.printer.printed ≡ links_started settings printer.printed }
     {
         JsonLinks {
             alloc,
             printer,
-            bases,
+            bases: settings.bases,
+            front: Front::new(alloc, settings.shows_names),
         }
+    }
+
+    fn name_file(&mut self, alloc: Global, file: &str) -> Result<(), AllocError> {
+        self.front.name_file(alloc, file)
     }
 
     fn read_page<R: Source>(
@@ -80,6 +93,7 @@ impl<W: Target + Drop> Filter<W> for JsonLinks<W> {
             alloc: self.alloc,
             printer: self.printer,
             bases: self.bases.at_page(),
+            front: self.front,
         };
         read_tags(alloc, source, links, references)
     }

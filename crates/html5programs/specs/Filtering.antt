@@ -11,6 +11,8 @@ use Rattle.markup5ever.specs.NamedReferences.{NamedReference}
 pub record Making (T S : Type 0) : Type 0 where
   -- a filter with these settings, to whose printer this was printed
   pub started : T → List ℕ → S
+  -- where a file of this name is next
+  pub named : List ℕ → S → S
   -- where a page begins, after what was read before
   pub begun : S → S
   -- the messages of a page whose bytes are given, by a table of names
@@ -38,7 +40,7 @@ module _ {T S : Type 0} (means : Making T S) (references : List NamedReference) 
   pub record ReadsFile (file : List ℕ) (unread left : Option (List ℕ)) (before after : S) : Type 0 where
     pub text : List ℕ
     pub utf8 : IsUtf8 text
-    pub told : after ≡ means.handed (means.begun before) (means.page references (means.begun before) text)
+    pub told : let start = means.begun (means.named file before) in after ≡ means.handed start (means.page references start text)
     pub input : IsInput file → IsTextOf encoding unread left text
     pub other : ¬ (IsInput file) → left ≡ unread
 
