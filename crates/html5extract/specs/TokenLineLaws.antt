@@ -26,7 +26,7 @@ text-joins front true x xs y ys =
     (sym (quoted_bytes-append (x ∷ xs) (y ∷ ys)))
 text-joins front false x xs y ys =
     let opening : List ℕ = codes "text \"" in
-    rw begun-named front (quoted_bytes (y ∷ ys))
+    rw (begun-named front (quoted_bytes (y ∷ ys)))
     (append_assoc front (opening ++ quoted_bytes (x ∷ xs)) (quoted_bytes (y ∷ ys))
     ∙ ap (λ l. front ++ l) (append_assoc opening (quoted_bytes (x ∷ xs)) (quoted_bytes (y ∷ ys))
     ∙ ap (λ l. opening ++ l) (sym (quoted_bytes-append (x ∷ xs) (y ∷ ys)))))

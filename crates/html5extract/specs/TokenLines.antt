@@ -44,11 +44,15 @@ tokens_named file s = record s { front = front_named file s.front }
 
 -- ---- what a token adds to the lines, with what stands in front of a line
 
+-- a byte, after it where no line has begun
+abbrev pub byte_added : List ℕ → Bool → ℕ → List ℕ
+byte_added front true byte = byte ∷ []
+byte_added front false byte = front ++ byte ∷ []
+
 -- bytes with it in front of each of their lines, where a line has begun or not
 unfoldable pub lines_added : List ℕ → Bool → List ℕ → List ℕ
 lines_added front begun [] = []
-lines_added front true (byte ∷ bytes) = byte ∷ lines_added front (not (nat_eq byte 10)) bytes
-lines_added front false (byte ∷ bytes) = front ++ byte ∷ lines_added front (not (nat_eq byte 10)) bytes
+lines_added front begun (byte ∷ bytes) = byte_added front begun byte ++ lines_added front (not (nat_eq byte 10)) bytes
 
 -- what was printed of a token, with it in front of each line
 abbrev pub text_named : List ℕ → Bool → List ℕ → List ℕ

@@ -1,8 +1,8 @@
 //! A sink that prints each token as it comes, a line each.
 ghost use Rattle.std.specs.Prelude.{◌≡◌, ◌++◌, [], false, true, string_bytes, IfOk, OnOk, OnErr};
-ghost use Rattle.html5ever_interface.specs.Token.{told_by, reply_of};
+ghost use Rattle.html5ever_interface.specs.Token.{is_text, told_by, reply_of};
 ghost use Rattle.html5ever_interface.specs.Token.Told.{Text};
-ghost use Rattle.html5extract.specs.TokenLines.{line_output, lines_added, lines_started, token_added, token_named};
+ghost use Rattle.html5extract.specs.TokenLines.{byte_added, line_output, lines_added, lines_started, token_added, token_named};
 ghost use Rattle.html5programs.specs.Fronts.{front_named, in_front};
 ghost use Rattle.html5sinks.specs.Pausing.{pausing_reply};
 ghost use Rattle.token_printer.specs.Output.{open_after};
@@ -52,6 +52,22 @@ fn is_open_after<A: Allocator>(in_text: bool, token: &Token<A>) -> bool
     }
 }
 
+// Appends a byte, after the name in front where no line has begun.
+fn push_byte<A: Allocator>(
+    lines: &mut Vec<u8, A>,
+    front: &Front,
+    begun: bool,
+    byte: u8,
+) -> Result<(), AllocError>
+    ensures { OnOk result (lines.new.items ≡ lines.old.items ++ byte_added (in_front front.now) begun byte) }
+{
+    if !begun {
+        front.push_to(lines)?;
+    }
+    lines.push(byte)?;
+    Ok(())
+}
+
 // Appends lines with the name in front of each, where a line has begun or not.
 #[tactic(auto, unfolding(crate::specs::TokenLines::lines_added))]
 fn push_lines<A: Allocator>(
@@ -64,10 +80,7 @@ fn push_lines<A: Allocator>(
 {
     let mut begun = begun;
     for byte in bytes {
-        if !begun {
-            front.push_to(lines)?;
-        }
-        lines.push(*byte)?;
+        push_byte(lines, front, begun, *byte)?;
         begun = *byte != b'\n';
     }
     Ok(())
@@ -96,6 +109,7 @@ fn named_lines<A: Allocator>(
 }
 
 // Prints what was printed of a token, with the name in front of each line.
+#[tactic(auto, using(crate::proofs::Unnamed::unnamed))]
 fn print_named<W: Target, A: Allocator + Copy>(
     alloc: A,
     front: &Front,
@@ -108,7 +122,7 @@ fn print_named<W: Target, A: Allocator + Copy>(
         ++ token_named (in_front front.now) in_text is_text printed.now) }
     ensures err { OnErr result (printer.new.printed ≡ printer.old.printed) }
 {
-    if front.name().is_none() {
+    if !front.is_shown() {
         return print_all(printer, printed);
     }
     match named_lines(alloc, front, in_text, is_text, printed) {
@@ -131,8 +145,15 @@ fn print_all<W: Target, A: Allocator>(
     }
 }
 
+// Whether a token is a text.
+fn is_text<A: Allocator>(token: &Token<A>) -> bool
+    ensures { result ≡ is_text (told_by token.now) }
+{
+    matches!(token, Token::CharacterTokens(_))
+}
+
 // Prints a token, all of its lines or nothing, and replies to it.
-#[tactic(auto, unfolding(token_printer::specs::Output::output_step))]
+#[tactic(auto, unfolding(token_printer::specs::Output::output_step, crate::specs::TokenLines::token_added))]
 fn print_token<W: Target, A: Allocator + Copy>(
     alloc: A,
     front: &Front,
@@ -146,7 +167,7 @@ fn print_token<W: Target, A: Allocator + Copy>(
     ensures replies { IfOk result (λ reply. reply_of string_bytes reply ≡ pausing_reply (told_by token)) }
     ensures err { OnErr result (printer.new.printed ≡ printer.old.printed) }
 {
-    let is_text = matches!(token, Token::CharacterTokens(_));
+    let is_text = is_text(&token);
     let mut sink = line_sink(alloc, in_text)?;
     let reply = sink.process_token(token, line_number)?;
     // A match in place of `?`: split for the proof.

@@ -116,13 +116,13 @@ token_depth (Doctype d) line = omega (arith, option_depth d.name, option_depth d
 token_depth End line = omega arith
 
 -- members with a file before them
-file_decimals : (file : Option (List ℕ)) (members : Members) → MembersHaveDecimals members → HasDecimals (of_file file members)
-file_decimals None members h = h
-file_decimals (Some file) members h = (tt, h)
+file_decimals : (file : Option (List ℕ)) (ms : Members) → MembersHaveDecimals ms → HasDecimals (of_file file ms)
+file_decimals None ms h = h
+file_decimals (Some file) ms h = (tt, h)
 
-file_depth : (file : Option (List ℕ)) (members : Members) → members_depth members ≤ 2 → depth (of_file file members) ≤ max_depth
-file_depth None members h = omega (arith, h)
-file_depth (Some file) members h = omega (arith, h)
+file_depth : (file : Option (List ℕ)) (ms : Members) → members_depth ms ≤ 2 → depth (of_file file ms) ≤ max_depth
+file_depth None ms h = omega (arith, h)
+file_depth (Some file) ms h = omega (arith, h)
 
 file_reads_back : (file : Option (List ℕ)) (members : Members) → MembersHaveDecimals members → members_depth members ≤ 2 → ReadsBack (of_file file members)
 file_reads_back file members h shallow = reads_back (of_file file members) (file_decimals file members h) (file_depth file members shallow)

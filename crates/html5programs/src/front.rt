@@ -1,5 +1,5 @@
 //! The name of a file in front of what is printed of it.
-ghost use Rattle.std.specs.Prelude.{◌≡◌, ◌++◌, OnErr, OnOk, option_map};
+ghost use Rattle.std.specs.Prelude.{◌≡◌, ◌++◌, OnErr, OnOk, is_some, option_map};
 ghost use Rattle.html5programs.specs.Fronts.{front_at_start, front_named, in_front};
 
 use std::alloc::{AllocError, Allocator, Global};
@@ -42,6 +42,13 @@ impl Front {
             self.name = Some(name);
         }
         Ok(())
+    }
+
+    /// Whether names stand in front.
+    pub fn is_shown(&self) -> bool
+        ensures { result ≡ is_some self.now }
+    {
+        self.name.is_some()
     }
 
     /// The name, where names stand in front.
