@@ -59,7 +59,7 @@ complete -o default -F _firnuubal firnuubal
 def options_of(text):
     """The options of a text: the name of each, the word for what stands after it, if there is one, and what it is."""
     for option, lines in man.parts(text)[2]:
-        name, _, word = option.partition(" ")
+        name, _, word = option.rpartition(", ")[2].partition(" ")
         yield name, word, lines[0].partition(":")[0]
 
 

@@ -21,8 +21,8 @@ _firnuubal() {
     *)
         ((COMP_CWORD == 1)) && words="tokens links text clean --help --version"
         [[ $word == -* ]] && case ${COMP_WORDS[1]} in
-        tokens) words="--encoding --entities --format --help --version" ;;
-        links) words="--encoding --entities --format --base --help --version" ;;
+        tokens) words="--encoding --entities --format --with-filename --no-filename --help --version" ;;
+        links) words="--encoding --entities --format --with-filename --no-filename --base --help --version" ;;
         text) words="--encoding --entities --help --version" ;;
         clean) words="--policy --print-policy --encoding --entities --help --version" ;;
         esac

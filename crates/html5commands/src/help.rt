@@ -36,6 +36,13 @@ Without a FILE, or where it is -, standard input is read. After -- all words are
                    Example: firnuubal tokens --entities names.txt page.html
   --format FORMAT  lines, as where it isn't given, or json: an object of JSON on each line
                    Example: firnuubal tokens --format json page.html
+  -H, --with-filename
+                   the name of its file in front of each line: it and a colon, or by json a member
+                   \"file\". So it is where more than one FILE is given. Standard input is named -
+                   Example: firnuubal tokens -H page.html
+  -h, --no-filename
+                   no names, however many files there are. Of both the last one counts
+                   Example: firnuubal tokens -h a.html b.html
   --help           this text
                    Example: firnuubal tokens --help
   --version        the program's name and its version
@@ -59,6 +66,13 @@ Without a FILE, or where it is -, standard input is read. After -- all words are
                    Example: firnuubal links --entities names.txt page.html
   --format FORMAT  lines, as where it isn't given, or json: an object of JSON on each line
                    Example: firnuubal links --format json page.html
+  -H, --with-filename
+                   the name of its file in front of each line: it and a colon, or by json a member
+                   \"file\". So it is where more than one FILE is given. Standard input is named -
+                   Example: firnuubal links -H page.html
+  -h, --no-filename
+                   no names, however many files there are. Of both the last one counts
+                   Example: firnuubal links -h a.html b.html
   --base URL       the URL of the pages: each link is printed as the URL that it leads to from
                    there, or from the first <base href> of the page, once that was read. A
                    link that leads to none is printed as it is written
