@@ -172,7 +172,7 @@ def without_permission(folder):
     if os.geteuid() == 0:
         return
     words = ["firnuubal", "links", "locked", "page"]
-    yield fault(words, run(folder, words), "1 x\n", f"firnuubal: locked: {DENIED}\n", 1)
+    yield fault(words, run(folder, words), "page:1 x\n", f"firnuubal: locked: {DENIED}\n", 1)
 
 
 def of_many_files(folder):
@@ -184,7 +184,7 @@ def of_many_files(folder):
             (folder / name).write_bytes(f"<a href={name}>".encode())
     (folder / "100.html").mkdir()
     (folder / "199.html").write_bytes(b"\xff")
-    printed = "".join(f"1 {name}\n" for name in names if name not in bad)
+    printed = "".join(f"{name}:1 {name}\n" for name in names if name not in bad)
     said = "".join(f"firnuubal: {name}: {bad[name]}\n" for name in names if name in bad)
     yield fault("200 files", run(folder, ["firnuubal", "links", *names]), printed, said, 1)
 

@@ -17,7 +17,7 @@ SOURCE = TOP / "crates/html5commands/src/help.rt"
 PAGES = TOP / "docs/man"
 TEXT = re.compile(r'^pub const (\w+): &str = "(.*?)";$', re.MULTILINE | re.DOTALL)
 COMMAND = re.compile(r"^  (\w+) +(\S.*)$", re.MULTILINE)
-OPTION = re.compile(r"^  (--[\w-]+(?: [A-Z]+)?) +(\S.*)$")
+OPTION = re.compile(r"^  ((?:-\w, )?--[\w-]+(?: [A-Z]+)?)(?: +(\S.*))?$")
 
 
 def texts():
@@ -38,7 +38,7 @@ def parts(text):
     for line in lines:
         option = OPTION.match(line)
         if option:
-            options.append((option[1], [option[2]]))
+            options.append((option[1], [option[2]] if option[2] else []))
         elif options and line.startswith("   "):
             options[-1][1].append(line.strip())
         else:

@@ -5,6 +5,8 @@ use Rattle.html5ever_interface.specs.Sink.{Message}
 use Rattle.html5ever_interface.specs.Token.{Told}
 use Rattle.html5stream.specs.Pages.{RunsItems, runs_after, runs_handed, runs_page}
 use Rattle.html5policy.specs.Policy.{PolicyOf}
+use Rattle.html5policy.specs.Standard.{standard_policy}
+use Rattle.html5policy.specs.Text.{policy_said}
 use Rattle.html5policy.specs.declared.error.PolicyError.{PolicyError}
 use Rattle.html5write.specs.Pieces.{Piece, pieces_text}
 use Rattle.html5cleaner.specs.Balance.{end_tags, is_end, open_by, written_by}
@@ -36,6 +38,11 @@ pub record Standing : Type 0 where
 abbrev pub policy_in : Result PolicyOf PolicyError → Option PolicyOf
 policy_in (Ok policy) = Some policy
 policy_in (Err error) = None
+
+-- the policy of a text, or where there is none the standard policy
+abbrev pub policy_by : Option (List ℕ) → Option PolicyOf
+policy_by None = Some standard_policy
+policy_by (Some text) = policy_in (policy_said text)
 
 -- where a page begins
 abbrev pub page_start : Standing → Cleaning

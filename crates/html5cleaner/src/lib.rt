@@ -24,4 +24,4 @@ pub use crate::clean_printer::CleanPrinter;
 pub use crate::cleaner::Cleaner;
 pub use crate::page::{clean_page, clean_text};
 pub use crate::printed_page::{print_cleaned, prints_clean_pieces};
-pub use crate::settings::PolicySettings;
+pub use crate::settings::{PolicySettings, SettingsError};

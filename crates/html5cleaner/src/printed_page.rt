@@ -16,7 +16,7 @@ use devices::{Printer, Source, Target};
 use html5programs::Filter;
 use html5stream::{StreamError, read_tokens};
 use markup5ever::data::NamedReferences;
-use std::alloc::{Allocator, Global};
+use std::alloc::{AllocError, Allocator, Global};
 
 /// The pieces that are kept of any messages, as those of a page or of a beginning of it, are clean, where a policy
 /// with the rule `tree` is sound, as each that is made is: so `laws::cleaned_page` says how what is printed of a page
@@ -89,6 +89,7 @@ impl<W: Target + Drop> Filter<W> for CleanPrinter<W> {
 
     ghost means = { record {
       started = λ settings printed. record { policy = settings.policy; printed = printed };
+      named = λ file s. s;
       begun = λ s. s;
       page = page_messages;
       handed = printed_of;
@@ -99,6 +100,10 @@ impl<W: Target + Drop> Filter<W> for CleanPrinter<W> {
         ensures { standing_of result ≡ record { policy = settings.policy; printed = printer.printed } }
     {
         CleanPrinter::new(alloc, printer, settings.policy)
+    }
+
+    fn name_file(&mut self, _alloc: Global, _file: &str) -> Result<(), AllocError> {
+        Ok(())
     }
 
     fn read_page<R: Source>(

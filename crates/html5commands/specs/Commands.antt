@@ -1,19 +1,19 @@
 -- The commands of the program, the options that each knows, and what each prints.
 use Rattle.std.specs.Prelude.{◌≡◌, ℕ, Bool, true, false, List, [], ◌∷◌, ◌++◌, Option, None, Some, codes, option_map, if◌then◌else◌, IsNone}
 use Rattle.std.specs.Str.{bytes_eq}
-use Rattle.html5cleaner.specs.Cleaning.{Standing, page_messages, policy_in, printed_of}
+use Rattle.html5cleaner.specs.Cleaning.{Standing, page_messages, policy_by, printed_of}
 use Rattle.html5cleaner.specs.declared.settings.PolicySettings.{PolicySettings}
 use Rattle.html5commands.specs.declared.command.Command.{Command}
 use Rattle.html5commands.specs.declared.command.Command.TheVariants.{Tokens, Links, Text, Clean}
 use Rattle.html5commands.specs.declared.format.Format.{Format}
 use Rattle.html5commands.specs.declared.format.Format.TheVariants.{Lines, Json}
+use Rattle.html5extract.specs.Asked.{link_settings_said, token_settings_said}
+use Rattle.html5extract.specs.Bases.{bases_asked}
 use Rattle.html5extract.specs.Makings.{links_made, text_made, tokens_made}
 use Rattle.html5json.specs.Makings.{json_links_made, json_tokens_made}
-use Rattle.html5policy.specs.Standard.{standard_policy}
-use Rattle.html5policy.specs.Text.{policy_said}
 use Rattle.html5programs.specs.Ending.{AsksNoText, PrintsAsked}
 use Rattle.html5programs.specs.Filtering.{Making}
-use Rattle.html5programs.specs.Words.{Asked, KnownOption, value_of, words_asked}
+use Rattle.html5programs.specs.Words.{Asked, KnownOption, settings_asked, value_of, words_asked}
 
 -- the name of the program
 abbrev pub program_name : List ℕ
@@ -42,13 +42,20 @@ abbrev pub reading_options : List KnownOption
 reading_options =
     flag (codes "--help") ∷ flag (codes "--version") ∷ before_word (codes "--encoding") ∷ before_word (codes "--entities") ∷ []
 
--- and of those that print in a format
+-- and of those that print in a format, with names in front
 abbrev pub format_options : List KnownOption
-format_options = reading_options ++ before_word (codes "--format") ∷ []
+format_options =
+    reading_options
+    ++ before_word (codes "--format")
+    ∷ flag (codes "-H") ∷ flag (codes "--with-filename") ∷ flag (codes "-h") ∷ flag (codes "--no-filename") ∷ []
+
+-- and of links
+abbrev pub link_options : List KnownOption
+link_options = format_options ++ before_word (codes "--base") ∷ []
 
 unfoldable pub options_of : Command → List KnownOption
 options_of Tokens = format_options
-options_of Links = format_options
+options_of Links = link_options
 options_of Text = reading_options
 options_of Clean = reading_options ++ before_word (codes "--policy") ∷ flag (codes "--print-policy") ∷ []
 
@@ -120,18 +127,33 @@ has_formats Clean = false
 abbrev pub clean_made : Making PolicySettings Standing
 clean_made = record {
   started = λ settings printed. record { policy = settings.policy; printed = printed };
+  named = λ file s. s;
   begun = λ s. s;
   page = page_messages;
   handed = printed_of;
   printed = λ s. s.printed;
 }
 
--- the standard policy, and that which a text says
-abbrev pub standard_settings : PolicySettings
-standard_settings = record { policy = standard_policy }
+-- the policy of a text, or where there is none the standard policy
+abbrev pub settings_by : Option (List ℕ) → Option PolicySettings
+settings_by text = option_map (λ policy. record { policy = policy }) (policy_by text)
 
-abbrev pub settings_said : List ℕ → Option PolicySettings
-settings_said text = option_map (λ policy. record { policy = policy }) (policy_in (policy_said text))
+-- ---- the files of settings, and what words and such a file's text say
+
+abbrev pub no_file : Asked → Option (List ℕ)
+no_file asked = None
+
+abbrev pub no_settings : Asked → Option (List ℕ) → Option (Unit {0})
+no_settings asked text = Some tt
+
+abbrev pub policy_settings : Asked → Option (List ℕ) → Option PolicySettings
+policy_settings asked text = settings_by text
+
+-- they ask for no text and none is wrong, but the URL that they give is none
+pub record NamesNoBase (asked : Asked) : Type 0 where
+  pub no_text : AsksNoText asked
+  pub no_wrong : IsNone asked.wrong
+  pub no_url : bases_asked asked ≡ None
 
 -- by the format that is asked for
 abbrev pub InFormat : Option Format → Type 0 → Type 0 → Type 0
@@ -142,10 +164,10 @@ InFormat (Some Json) lines json = json
 -- all files that the words ask for were read, and what was written is what the command prints of them
 abbrev pub PrintsBy : Command → Asked → Option (List ℕ) → Option (List ℕ) → List ℕ → Type 0
 PrintsBy Tokens asked unread left written = InFormat (format_asked asked)
-    (PrintsAsked tokens_made tt (λ text. Some tt) asked unread left written)
-    (PrintsAsked json_tokens_made tt (λ text. Some tt) asked unread left written)
+    (PrintsAsked tokens_made no_file token_settings_said asked unread left written)
+    (PrintsAsked json_tokens_made no_file token_settings_said asked unread left written)
 PrintsBy Links asked unread left written = InFormat (format_asked asked)
-    (PrintsAsked links_made tt (λ text. Some tt) asked unread left written)
-    (PrintsAsked json_links_made tt (λ text. Some tt) asked unread left written)
-PrintsBy Text asked unread left written = PrintsAsked text_made tt (λ text. Some tt) asked unread left written
-PrintsBy Clean asked unread left written = PrintsAsked clean_made standard_settings settings_said asked unread left written
+    (PrintsAsked links_made no_file link_settings_said asked unread left written)
+    (PrintsAsked json_links_made no_file link_settings_said asked unread left written)
+PrintsBy Text asked unread left written = PrintsAsked text_made no_file no_settings asked unread left written
+PrintsBy Clean asked unread left written = PrintsAsked clean_made settings_asked policy_settings asked unread left written

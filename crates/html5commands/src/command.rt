@@ -18,74 +18,94 @@ pub enum Command {
     Clean,
 }
 
-static READING: [Choice<'static>; 4] = [
-    Choice {
-        name: "--help",
-        takes_word: false,
-    },
-    Choice {
-        name: "--version",
-        takes_word: false,
-    },
-    Choice {
-        name: "--encoding",
-        takes_word: true,
-    },
-    Choice {
-        name: "--entities",
-        takes_word: true,
-    },
+const HELP: Choice<'static> = Choice {
+    name: "--help",
+    takes_word: false,
+};
+
+const VERSION: Choice<'static> = Choice {
+    name: "--version",
+    takes_word: false,
+};
+
+const ENCODING: Choice<'static> = Choice {
+    name: "--encoding",
+    takes_word: true,
+};
+
+const ENTITIES: Choice<'static> = Choice {
+    name: "--entities",
+    takes_word: true,
+};
+
+const FORMAT: Choice<'static> = Choice {
+    name: "--format",
+    takes_word: true,
+};
+
+const NAMES: Choice<'static> = Choice {
+    name: "-H",
+    takes_word: false,
+};
+
+const NAMES_LONG: Choice<'static> = Choice {
+    name: "--with-filename",
+    takes_word: false,
+};
+
+const NO_NAMES: Choice<'static> = Choice {
+    name: "-h",
+    takes_word: false,
+};
+
+const NO_NAMES_LONG: Choice<'static> = Choice {
+    name: "--no-filename",
+    takes_word: false,
+};
+
+const BASE: Choice<'static> = Choice {
+    name: "--base",
+    takes_word: true,
+};
+
+const POLICY: Choice<'static> = Choice {
+    name: "--policy",
+    takes_word: true,
+};
+
+const PRINT_POLICY: Choice<'static> = Choice {
+    name: "--print-policy",
+    takes_word: false,
+};
+
+static READING: [Choice<'static>; 4] = [HELP, VERSION, ENCODING, ENTITIES];
+
+static FORMATTING: [Choice<'static>; 9] = [
+    HELP,
+    VERSION,
+    ENCODING,
+    ENTITIES,
+    FORMAT,
+    NAMES,
+    NAMES_LONG,
+    NO_NAMES,
+    NO_NAMES_LONG,
 ];
 
-static FORMATTING: [Choice<'static>; 5] = [
-    Choice {
-        name: "--help",
-        takes_word: false,
-    },
-    Choice {
-        name: "--version",
-        takes_word: false,
-    },
-    Choice {
-        name: "--encoding",
-        takes_word: true,
-    },
-    Choice {
-        name: "--entities",
-        takes_word: true,
-    },
-    Choice {
-        name: "--format",
-        takes_word: true,
-    },
+static LINKING: [Choice<'static>; 10] = [
+    HELP,
+    VERSION,
+    ENCODING,
+    ENTITIES,
+    FORMAT,
+    NAMES,
+    NAMES_LONG,
+    NO_NAMES,
+    NO_NAMES_LONG,
+    BASE,
 ];
 
-static CLEANING: [Choice<'static>; 6] = [
-    Choice {
-        name: "--help",
-        takes_word: false,
-    },
-    Choice {
-        name: "--version",
-        takes_word: false,
-    },
-    Choice {
-        name: "--encoding",
-        takes_word: true,
-    },
-    Choice {
-        name: "--entities",
-        takes_word: true,
-    },
-    Choice {
-        name: "--policy",
-        takes_word: true,
-    },
-    Choice {
-        name: "--print-policy",
-        takes_word: false,
-    },
-];
+static CLEANING: [Choice<'static>; 6] = [HELP, VERSION, ENCODING, ENTITIES, POLICY, PRINT_POLICY];
 
 /// The command of this name.
 #[tactic(auto, unfolding(crate::specs::Commands::command_of))]
@@ -107,7 +127,8 @@ fn choices_of(command: Command) -> &'static [Choice<'static>]
     ensures { known_options result.now ≡ options_of command }
 {
     match command {
-        Command::Tokens | Command::Links => FORMATTING.as_slice(),
+        Command::Tokens => FORMATTING.as_slice(),
+        Command::Links => LINKING.as_slice(),
         Command::Text => READING.as_slice(),
         Command::Clean => CLEANING.as_slice(),
     }

@@ -1,7 +1,7 @@
 //! The format of what is printed.
 ghost use Rattle.std.specs.Prelude.{◌≡◌, ◌⊎◌, [], true, false, IfErr, IfOk, IsNone, Some, map, string_bytes};
 ghost use Rattle.html5commands.specs.Commands.{InFormat, NamesNoFormat, format_asked, format_named};
-ghost use Rattle.html5programs.specs.Ending.{AsksNoText, AsksSettings, AsksVersion, HasWrongWord, NamesNoEncoding, PrintsAsked, asked_of};
+ghost use Rattle.html5programs.specs.Ending.{AsksNoSettings, AsksNoText, AsksSettings, AsksVersion, HasWrongWord, NamesNoEncoding, PrintsAsked, asked_of, status_of};
 ghost use Rattle.html5programs.specs.Version.{version_line};
 ghost use Rattle.html5programs.specs.Words.{asked_by, known_options, words_asked};
 
@@ -103,9 +103,9 @@ pub fn filter_in_format<
 ) -> (Logged<Output<O>>, Ending)
     ensures done { AsksNoText (asked_of program.entry (map string_bytes words.now)) → result.1 ≡ Ending.Done
         → InFormat (format_asked (asked_of program.entry (map string_bytes words.now)))
-        (PrintsAsked F.means F.Settings.unsaid F.Settings.said (asked_of program.entry (map string_bytes words.now))
+        (PrintsAsked F.means F.Settings.file F.Settings.said (asked_of program.entry (map string_bytes words.now))
         (I.remaining stdin.old.inner) (I.remaining stdin.new.inner) result.0.taken)
-        (PrintsAsked J.means J.Settings.unsaid J.Settings.said (asked_of program.entry (map string_bytes words.now))
+        (PrintsAsked J.means J.Settings.file J.Settings.said (asked_of program.entry (map string_bytes words.now))
         (I.remaining stdin.old.inner) (I.remaining stdin.new.inner) result.0.taken) }
     ensures version { AsksVersion (asked_of program.entry (map string_bytes words.now)) → result.1 ≡ Ending.Done
         → result.0.taken ≡ version_line program.entry.name.now }
@@ -116,6 +116,9 @@ pub fn filter_in_format<
         → ((result.1 ≡ Ending.WrongValue) ⊎ (result.1 ≡ Ending.NoMemory)) × (stdin.new ≡ stdin.old) × (result.0.taken ≡ []) }
     ensures format { NamesNoFormat (asked_of program.entry (map string_bytes words.now))
         → ((result.1 ≡ Ending.WrongValue) ⊎ (result.1 ≡ Ending.NoMemory)) × (stdin.new ≡ stdin.old) × (result.0.taken ≡ []) }
+    ensures no_settings { AsksNoSettings F.Settings.file F.Settings.said (asked_of program.entry (map string_bytes words.now))
+        → AsksNoSettings J.Settings.file J.Settings.said (asked_of program.entry (map string_bytes words.now))
+        → ((status_of result.1 ≡ 2) ⊎ (result.1 ≡ Ending.NoMemory)) × (stdin.new ≡ stdin.old) × (result.0.taken ≡ []) }
     ensures wrong { result.1 ≡ Ending.WrongWord → HasWrongWord (asked_of program.entry (map string_bytes words.now)) }
     ensures usage { HasWrongWord (asked_of program.entry (map string_bytes words.now))
         → (result.1 ≡ Ending.WrongWord) ⊎ (result.1 ≡ Ending.NoMemory) }

@@ -17,7 +17,7 @@ Without a FILE, or where it is -, standard input is read. After -- all words are
 
 The status is 0 where all was done, or nobody reads the output any more; 1 where something could
 not be read or printed, and each such file is named; 2 where words, the label of an encoding, the
-name of a format, or a file that they name for entities or a policy, are wrong.
+name of a format, the URL of pages, or a file that they name for entities or a policy, are wrong.
 ";
 
 /// How `tokens` is used.
@@ -36,6 +36,13 @@ Without a FILE, or where it is -, standard input is read. After -- all words are
                    Example: firnuubal tokens --entities names.txt page.html
   --format FORMAT  lines, as where it isn't given, or json: an object of JSON on each line
                    Example: firnuubal tokens --format json page.html
+  -H, --with-filename
+                   the name of its file in front of each line: it and a colon, or by json a member
+                   \"file\". So it is where more than one FILE is given. Standard input is named -
+                   Example: firnuubal tokens -H page.html
+  -h, --no-filename
+                   no names, however many files there are. Of both the last one counts
+                   Example: firnuubal tokens -h a.html b.html
   --help           this text
                    Example: firnuubal tokens --help
   --version        the program's name and its version
@@ -46,7 +53,7 @@ Without a FILE, or where it is -, standard input is read. After -- all words are
 pub const LINKS: &str = "usage: firnuubal links [OPTION...] [FILE...]
 Prints the links of HTML pages as they arrive, a line each: the number of the line on which the
 tag ends, a space, and the link. Links are the href of a, area and link, and the src of img,
-script and iframe, as they are written: <base> is neglected.
+script and iframe, as they are written, or by --base where they lead.
   Example: firnuubal links page.html
 
 Without a FILE, or where it is -, standard input is read. After -- all words are files.
@@ -59,6 +66,17 @@ Without a FILE, or where it is -, standard input is read. After -- all words are
                    Example: firnuubal links --entities names.txt page.html
   --format FORMAT  lines, as where it isn't given, or json: an object of JSON on each line
                    Example: firnuubal links --format json page.html
+  -H, --with-filename
+                   the name of its file in front of each line: it and a colon, or by json a member
+                   \"file\". So it is where more than one FILE is given. Standard input is named -
+                   Example: firnuubal links -H page.html
+  -h, --no-filename
+                   no names, however many files there are. Of both the last one counts
+                   Example: firnuubal links -h a.html b.html
+  --base URL       the URL of the pages: each link is printed as the URL that it leads to from
+                   there, or from the first <base href> of the page, once that was read. A
+                   link that leads to none is printed as it is written
+                   Example: firnuubal links --base https://a.example/b/ page.html
   --help           this text
                    Example: firnuubal links --help
   --version        the program's name and its version

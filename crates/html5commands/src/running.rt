@@ -1,9 +1,9 @@
 //! A run of the program, by the words after its name.
 ghost use Rattle.std.specs.Prelude.{◌≡◌, ◌⊎◌, ◌∷◌, [], true, Contains, IfSome, IsNone, Ok, codes, map, string_bytes};
-ghost use Rattle.html5commands.specs.Commands.{IsUnknownWord, NamesNoFormat, NamesNothing, PrintsBy, asked_of_command, command_named, has_formats, options_of, program_name};
+ghost use Rattle.html5commands.specs.Commands.{IsUnknownWord, NamesNoBase, NamesNoFormat, NamesNothing, PrintsBy, asked_of_command, command_named, has_formats, options_of, program_name};
 ghost use Rattle.html5policy.specs.Standard.{standard_policy};
 ghost use Rattle.html5policy.specs.Text.{policy_said};
-ghost use Rattle.html5programs.specs.Ending.{AsksNoText, AsksSettings, AsksVersion, HasWrongWord, NamesNoEncoding};
+ghost use Rattle.html5programs.specs.Ending.{AsksNoText, AsksSettings, AsksVersion, HasWrongWord, NamesNoEncoding, status_of};
 ghost use Rattle.html5programs.specs.Version.{version_line};
 ghost use Rattle.html5programs.specs.Words.{words_asked};
 
@@ -53,6 +53,8 @@ fn by_command<R: Files + Alloc<A = Global>, I: Read, O: Write + Drop, E: Target>
         → ((result.1 ≡ Ending.WrongValue) ⊎ (result.1 ≡ Ending.NoMemory)) × (stdin.new ≡ stdin.old) × (result.0.taken ≡ []) }
     ensures format { has_formats command ≡ true → NamesNoFormat (words_asked (options_of command) (map string_bytes words.now))
         → ((result.1 ≡ Ending.WrongValue) ⊎ (result.1 ≡ Ending.NoMemory)) × (stdin.new ≡ stdin.old) × (result.0.taken ≡ []) }
+    ensures base { command ≡ Command.Links → NamesNoBase (words_asked (options_of command) (map string_bytes words.now))
+        → ((status_of result.1 ≡ 2) ⊎ (result.1 ≡ Ending.NoMemory)) × (stdin.new ≡ stdin.old) × (result.0.taken ≡ []) }
     ensures wrong { result.1 ≡ Ending.WrongWord
         → HasWrongWord (words_asked (options_of command) (map string_bytes words.now)) }
     ensures usage { HasWrongWord (words_asked (options_of command) (map string_bytes words.now))
@@ -131,6 +133,9 @@ pub fn command_by_words<R: Files + Alloc<A = Global>, I: Read, O: Write + Drop, 
     ensures format { IfSome (command_named (map string_bytes words.now)) (λ named.
         has_formats named.command ≡ true → NamesNoFormat (asked_of_command named)
         → ((result.1 ≡ Ending.WrongValue) ⊎ (result.1 ≡ Ending.NoMemory)) × (stdin.new ≡ stdin.old) × (result.0.taken ≡ [])) }
+    ensures base { IfSome (command_named (map string_bytes words.now)) (λ named.
+        named.command ≡ Command.Links → NamesNoBase (asked_of_command named)
+        → ((status_of result.1 ≡ 2) ⊎ (result.1 ≡ Ending.NoMemory)) × (stdin.new ≡ stdin.old) × (result.0.taken ≡ [])) }
     ensures usage { IfSome (command_named (map string_bytes words.now)) (λ named.
         HasWrongWord (asked_of_command named) → (result.1 ≡ Ending.WrongWord) ⊎ (result.1 ≡ Ending.NoMemory)) }
     ensures wrong { IfSome (command_named (map string_bytes words.now)) (λ named.

@@ -1,1 +1,2 @@
 pub mod TokenPages
+pub mod Unnamed

@@ -3,10 +3,9 @@ use Rattle.std.proofs.Common.{◌≡◌, List, refl}
 use Rattle.markup5ever.specs.NamedReferences.{NamedReference}
 use Rattle.html5ever_interface.specs.Options.{OptionsOf, default_options}
 use Rattle.html5stream.proofs.Pages.{IsPage, IsUnmoved}
-use Rattle.html5extract.specs.TokenLines.{token_lines, tokens_page, tokens_printed}
-use Rattle.token_printer.specs.Output.{Output}
+use Rattle.html5extract.specs.TokenLines.{TokenReading, token_lines, tokens_page, tokens_printed}
 
-pub lines-are-page : {X : Type 0} (references : List NamedReference) (options : OptionsOf) (state : X → Output) (from : Output)
+pub lines-are-page : {X : Type 0} (references : List NamedReference) (options : OptionsOf) (state : X → TokenReading) (from : TokenReading)
     → options ≡ default_options → IsPage (token_lines state) (λ t. t) (tokens_page references) tokens_printed options references from from
 unfolding tokens_page tokens_printed
 lines-are-page references options state from chosen =

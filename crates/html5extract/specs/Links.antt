@@ -2,6 +2,7 @@
 use Rattle.std.specs.Prelude.{ℕ, Bool, List, [], ◌∷◌, ◌++◌, ◌||◌, nat_eq, Option, None, Some, codes, decimal, if◌then◌else◌}
 use Rattle.std.specs.List.{flat_map}
 use Rattle.std.specs.Str.{bytes_eq}
+use Rattle.html5programs.specs.Fronts.{in_front}
 use Rattle.markup5ever.specs.Names.{AttributeOf}
 use Rattle.html5ever_interface.specs.Token.{TagOf}
 use Rattle.html5ever_interface.specs.declared.interface.token.TagKind.{TagKind}
@@ -37,11 +38,10 @@ link_of tag = link_by_kind tag.kind tag.name tag.attributes
 abbrev pub kept : ℕ → List ℕ
 kept byte = if nat_eq byte 9 || nat_eq byte 10 || nat_eq byte 13 then [] else byte ∷ []
 
--- what is printed for the link of a tag: a line, with the number of the tag's line
-abbrev pub line_of : ℕ → Option (List ℕ) → List ℕ
-line_of line None = []
-line_of line (Some link) = decimal line ++ codes " " ++ flat_map kept link ++ codes "\n"
+-- what is printed for a link: a line, with the number of its tag's line
+abbrev pub line_of : ℕ → List ℕ → List ℕ
+line_of line link = decimal line ++ codes " " ++ flat_map kept link ++ codes "\n"
 
--- what was printed after a tag
-abbrev pub links_step : List ℕ → TagOf → ℕ → List ℕ
-links_step printed tag line = printed ++ line_of line (link_of tag)
+-- after the name in front
+abbrev pub named_line_of : Option (List ℕ) → ℕ → List ℕ → List ℕ
+named_line_of front line link = in_front front ++ line_of line link

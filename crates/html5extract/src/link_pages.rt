@@ -2,16 +2,18 @@
 ghost use Rattle.std.specs.Prelude.{◌≡◌, ◌≢◌, ℕ, ◌+◌, ◌-◌, ◌^◌, Err, OnOk, OnErr};
 ghost use Rattle.html5stream.specs.Pages.{ReadsPage, ReadsPageItems, StopsPage, passage_of, TagsItems, tags_page, tags_handed, tags_after};
 ghost use Rattle.html5stream.specs.Streams.{GivesNoText, GivesNoFault, GivesAtLeast, failed_reads};
-ghost use Rattle.html5extract.specs.Links.{links_step};
+ghost use Rattle.html5extract.specs.LinkReading.{link_reading, links_begun, links_step};
 
+use crate::link_settings::LinkSettings;
 use crate::links::Links;
 use devices::{Printer, Source, Target};
-use html5programs::Filter;
+use html5programs::{Filter, Front};
 use html5stream::{StreamError, read_tags};
 use markup5ever::data::NamedReferences;
-use std::alloc::{Allocator, Global};
+use std::alloc::{AllocError, Allocator, Global};
 
-/// Reads a page, and prints its links as it arrives, in the order in which they stand there.
+/// Reads a page, and prints its links as it arrives, in the order in which they stand there, each where it
+/// leads from the page's URL, or from the base that the tags before it name.
 pub fn read_links<R: Source, W: Target, A: Allocator + Copy>(
     alloc: A,
     source: &mut R,
@@ -19,11 +21,14 @@ pub fn read_links<R: Source, W: Target, A: Allocator + Copy>(
     references: &NamedReferences<A>,
 ) -> (Links<W, A>, Result<(), StreamError>)
     ensures finishes { OnOk result.1 (ReadsPage (tags_after links_step references.now)
-        (passage_of R.remaining source.old source.new links.printer.printed result.0.printer.printed)) }
+        (passage_of R.remaining source.old source.new (links_begun (link_reading links.bases links.front links.printer.printed))
+        (link_reading result.0.bases result.0.front result.0.printer.printed))) }
     ensures items { OnOk result.1 (ReadsPageItems (TagsItems links_step references.now) (tags_handed links_step)
-        (passage_of R.remaining source.old source.new links.printer.printed result.0.printer.printed)) }
+        (passage_of R.remaining source.old source.new (links_begun (link_reading links.bases links.front links.printer.printed))
+        (link_reading result.0.bases result.0.front result.0.printer.printed))) }
     ensures beginning { OnErr result.1 (StopsPage (tags_page links_step references.now) (tags_handed links_step)
-        (passage_of R.remaining source.old source.new links.printer.printed result.0.printer.printed)) }
+        (passage_of R.remaining source.old source.new (links_begun (link_reading links.bases links.front links.printer.printed))
+        (link_reading result.0.bases result.0.front result.0.printer.printed))) }
     ensures not_utf8 { (place : ℕ) → result.1 ≡ Err (StreamError.NotUtf8 place)
         → GivesNoText place (R.remaining source.old) (R.remaining source.new) }
     ensures no_fault { ((place : ℕ) → result.1 ≢ Err (StreamError.NotUtf8 place))
@@ -32,25 +37,34 @@ pub fn read_links<R: Source, W: Target, A: Allocator + Copy>(
         → GivesAtLeast (2 ^ 64 - 1) (R.remaining source.old) (R.remaining source.new) }
     ensures read { R.failures source.new ≡ R.failures source.old + failed_reads result.1 }
 {
-    read_tags(alloc, source, links, references)
+    read_tags(alloc, source, links.at_page(), references)
 }
 
 impl<W: Target + Drop> Filter<W> for Links<W> {
-    ghost use Rattle.std.specs.Prelude.{ℕ, List};
+    ghost use Rattle.html5extract.specs.LinkReading.{LinkReading, link_reading, links_started};
     ghost use Rattle.html5extract.specs.Makings.{links_made};
 
-    type Settings = ();
+    type Settings = LinkSettings;
 
-    ghost State = { List ℕ };
+    ghost State = { LinkReading };
 
-    ghost state = { λ l. l.printer.printed };
+    ghost state = { λ l. link_reading l.bases l.front l.printer.printed };
 
     ghost means = { links_made };
 
-    fn new(alloc: Global, printer: Printer<W>, _settings: ()) -> Links<W>
-        ensures { result.printer.printed ≡ printer.printed }
+    fn new(alloc: Global, printer: Printer<W>, settings: LinkSettings) -> Links<W>
+        ensures { link_reading result.bases result.front result.printer.printed ≡ links_started settings printer.printed }
     {
-        Links { alloc, printer }
+        Links {
+            alloc,
+            printer,
+            bases: settings.bases,
+            front: Front::new(alloc, settings.shows_names),
+        }
+    }
+
+    fn name_file(&mut self, alloc: Global, file: &str) -> Result<(), AllocError> {
+        self.front.name_file(alloc, file)
     }
 
     fn read_page<R: Source>(

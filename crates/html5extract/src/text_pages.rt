@@ -9,7 +9,7 @@ use devices::{Printer, Source, Target};
 use html5programs::Filter;
 use html5stream::{StreamError, read_tokens};
 use markup5ever::data::NamedReferences;
-use std::alloc::{Allocator, Global};
+use std::alloc::{AllocError, Allocator, Global};
 
 /// Reads a page, and prints its text as it arrives, without scripts and styles.
 pub fn read_text<R: Source, W: Target, A: Allocator + Copy>(
@@ -51,6 +51,10 @@ impl<W: Target + Drop> Filter<W> for PageText<W> {
         ensures { reading_of result ≡ at_start printer.printed }
     {
         PageText::new(printer)
+    }
+
+    fn name_file(&mut self, _alloc: Global, _file: &str) -> Result<(), AllocError> {
+        Ok(())
     }
 
     fn read_page<R: Source>(

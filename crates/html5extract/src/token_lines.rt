@@ -1,16 +1,18 @@
 //! A sink that prints each token as it comes, a line each.
 ghost use Rattle.std.specs.Prelude.{◌≡◌, ◌++◌, [], false, true, string_bytes, IfOk, OnOk, OnErr};
-ghost use Rattle.html5ever_interface.specs.Token.{told_by, reply_of};
+ghost use Rattle.html5ever_interface.specs.Token.{is_text, told_by, reply_of};
 ghost use Rattle.html5ever_interface.specs.Token.Told.{Text};
-ghost use Rattle.html5extract.specs.TokenLines.{line_output, lines_started};
+ghost use Rattle.html5extract.specs.TokenLines.{byte_added, line_output, lines_added, lines_started, token_added, token_named};
+ghost use Rattle.html5programs.specs.Fronts.{front_named, in_front};
 ghost use Rattle.html5sinks.specs.Pausing.{pausing_reply};
-ghost use Rattle.token_printer.specs.Output.{added_by, open_after};
+ghost use Rattle.token_printer.specs.Output.{open_after};
 
 use devices::{Printer, Target};
 use ghost_counts::Count;
 use html5ever_interface::interface::sink::TokenSink;
 use html5ever_interface::interface::token::{SinkFault, Token, TokenSinkResult};
-use std::alloc::{Allocator, Global};
+use html5programs::Front;
+use std::alloc::{AllocError, Allocator, Global};
 use std::marker::Model;
 use token_printer::print_sink::PrintSink;
 
@@ -50,33 +52,139 @@ fn is_open_after<A: Allocator>(in_text: bool, token: &Token<A>) -> bool
     }
 }
 
-// Prints a token, all of its line or nothing, and replies to it.
-#[tactic(auto, unfolding(token_printer::specs::Output::output_step))]
+// Appends a byte, after the name in front where no line has begun.
+fn push_byte<A: Allocator>(
+    lines: &mut Vec<u8, A>,
+    front: &Front,
+    begun: bool,
+    byte: u8,
+) -> Result<(), AllocError>
+    ensures { OnOk result (lines.new.items ≡ lines.old.items ++ byte_added (in_front front.now) begun byte) }
+{
+    if !begun {
+        front.push_to(lines)?;
+    }
+    lines.push(byte)?;
+    Ok(())
+}
+
+// Appends lines with the name in front of each, where a line has begun or not.
+#[tactic(auto, unfolding(crate::specs::TokenLines::lines_added))]
+fn push_lines<A: Allocator>(
+    lines: &mut Vec<u8, A>,
+    front: &Front,
+    begun: bool,
+    bytes: &[u8],
+) -> Result<(), AllocError>
+    ensures { OnOk result (lines.new.items ≡ lines.old.items ++ lines_added (in_front front.now) begun bytes.now) }
+{
+    let mut begun = begun;
+    for byte in bytes {
+        push_byte(lines, front, begun, *byte)?;
+        begun = *byte != b'\n';
+    }
+    Ok(())
+}
+
+// What was printed of a token, with the name in front of each line.
+fn named_lines<A: Allocator>(
+    alloc: A,
+    front: &Front,
+    in_text: bool,
+    is_text: bool,
+    printed: &[u8],
+) -> Result<Vec<u8, A>, AllocError>
+    ensures { IfOk result (λ lines. lines.items ≡ token_named (in_front front.now) in_text is_text printed.now) }
+{
+    let mut lines = Vec::new(alloc);
+    if !is_text {
+        push_lines(&mut lines, front, in_text, printed)?;
+        return Ok(lines);
+    }
+    if !in_text && !printed.is_empty() {
+        front.push_to(&mut lines)?;
+    }
+    lines.extend_from_slice(printed)?;
+    Ok(lines)
+}
+
+// Prints what was printed of a token, with the name in front of each line.
+#[tactic(auto, using(crate::proofs::Unnamed::unnamed))]
+fn print_named<W: Target, A: Allocator + Copy>(
+    alloc: A,
+    front: &Front,
+    in_text: bool,
+    is_text: bool,
+    printer: &mut Printer<W, A>,
+    printed: &[u8],
+) -> Result<(), SinkFault>
+    ensures ok { OnOk result (printer.new.printed ≡ printer.old.printed
+        ++ token_named (in_front front.now) in_text is_text printed.now) }
+    ensures err { OnErr result (printer.new.printed ≡ printer.old.printed) }
+{
+    if !front.is_shown() {
+        return print_all(printer, printed);
+    }
+    match named_lines(alloc, front, in_text, is_text, printed) {
+        Ok(lines) => print_all(printer, &lines),
+        Err(AllocError) => Err(SinkFault),
+    }
+}
+
+// Prints bytes.
+fn print_all<W: Target, A: Allocator>(
+    printer: &mut Printer<W, A>,
+    bytes: &[u8],
+) -> Result<(), SinkFault>
+    ensures ok { OnOk result (printer.new.printed ≡ printer.old.printed ++ bytes.now) }
+    ensures err { OnErr result (printer.new.printed ≡ printer.old.printed) }
+{
+    match printer.print(bytes) {
+        Ok(()) => Ok(()),
+        Err(_) => Err(SinkFault),
+    }
+}
+
+// Whether a token is a text.
+fn is_text<A: Allocator>(token: &Token<A>) -> bool
+    ensures { result ≡ is_text (told_by token.now) }
+{
+    matches!(token, Token::CharacterTokens(_))
+}
+
+// Prints a token, all of its lines or nothing, and replies to it.
+#[tactic(auto, unfolding(token_printer::specs::Output::output_step, crate::specs::TokenLines::token_added))]
 fn print_token<W: Target, A: Allocator + Copy>(
     alloc: A,
+    front: &Front,
     in_text: bool,
     printer: &mut Printer<W, A>,
     token: Token<A>,
     line_number: u64,
 ) -> Result<TokenSinkResult<(), String<A>>, SinkFault>
-    ensures ok { OnOk result (printer.new.printed ≡ printer.old.printed ++ added_by in_text (told_by token) line_number) }
+    ensures ok { OnOk result (printer.new.printed ≡ printer.old.printed
+        ++ token_added (in_front front.now) in_text (told_by token) line_number) }
     ensures replies { IfOk result (λ reply. reply_of string_bytes reply ≡ pausing_reply (told_by token)) }
     ensures err { OnErr result (printer.new.printed ≡ printer.old.printed) }
 {
+    let is_text = is_text(&token);
     let mut sink = line_sink(alloc, in_text)?;
     let reply = sink.process_token(token, line_number)?;
-    match printer.print(sink.output()) {
+    // A match in place of `?`: split for the proof.
+    match print_named(alloc, front, in_text, is_text, printer, sink.output()) {
         Ok(()) => Ok(reply),
-        Err(_) => Err(SinkFault),
+        Err(SinkFault) => Err(SinkFault),
     }
 }
 
-/// Prints what it is sent as `PrintSink` does, but to a printer, as it comes. It replies as that does.
+/// Prints what it is sent as `PrintSink` does, but to a printer, as it comes, with a name in front of each
+/// line where there is one. It replies as that does.
 #[derive(Drop)]
 pub struct TokenLines<W, A: Allocator = Global> {
     alloc: A,
     printer: Printer<W, A>,
     in_text: bool,
+    front: Front,
     faults: Count,
 }
 
@@ -85,18 +193,19 @@ impl<W, A: Allocator> Model for TokenLines<W, A> {
 
     ghost Value = { LinePrinter W };
 
-    ghost view = { λ t. record { printer = t.printer; in_text = t.in_text; faults = t.faults.total } };
+    ghost view = { λ t. record { printer = t.printer; in_text = t.in_text; front = t.front; faults = t.faults.total } };
 }
 
 impl<W: Target, A: Allocator> TokenLines<W, A> {
     /// Prints to this printer, where no text is open.
-    pub fn new(alloc: A, printer: Printer<W, A>) -> TokenLines<W, A>
-        ensures { result ≡ lines_started printer }
+    pub fn new(alloc: A, printer: Printer<W, A>, front: Front) -> TokenLines<W, A>
+        ensures { result ≡ lines_started printer front }
     {
         TokenLines {
             alloc,
             printer,
             in_text: false,
+            front,
             faults: Count::new(),
         }
     }
@@ -109,28 +218,37 @@ impl<W: Target, A: Allocator> TokenLines<W, A> {
     }
 }
 
+impl<W: Target> TokenLines<W> {
+    /// Takes note of the name of the file that is read next.
+    pub fn name_file(&mut self, alloc: Global, file: &str) -> Result<(), AllocError>
+        ensures ok { OnOk result (self.new ≡ record self.old { front = front_named file.now self.old.front }) }
+        ensures err { OnErr result (self.new ≡ self.old) }
+    {
+        self.front.name_file(alloc, file)
+    }
+}
+
 impl<W: Target, A: Allocator + Copy> TokenSink<Token<A>> for TokenLines<W, A> {
-    ghost use Rattle.html5extract.specs.TokenLines.{lines_of, token_lines};
-    ghost use Rattle.token_printer.specs.Output.{Output};
-    ghost use Rattle.token_printer.specs.OutputLaws.{output_joins, output_empty, output_any_line, output_keeps_on};
+    ghost use Rattle.html5extract.specs.TokenLines.{TokenReading, lines_of, token_lines};
+    ghost use Rattle.html5extract.specs.TokenLineLaws.{tokens_join, tokens_empty, tokens_any_line, tokens_keep_on};
 
     type Handle = ();
 
-    ghost State = { Output };
+    ghost State = { TokenReading };
 
     ghost means = { token_lines lines_of };
 
     ghost faults = { λ t. t.faults };
 
-    ghost joins = { output_joins };
+    ghost joins = { tokens_join };
 
-    ghost empty = { output_empty };
+    ghost empty = { tokens_empty };
 
-    ghost any_line = { output_any_line };
+    ghost any_line = { tokens_any_line };
 
-    ghost keeps_on = { output_keeps_on };
+    ghost keeps_on = { tokens_keep_on };
 
-    #[tactic(auto, unfolding(token_printer::specs::Output::output_step))]
+    #[tactic(auto, unfolding(crate::specs::TokenLines::tokens_step))]
     fn process_token(
         &mut self,
         token: Token<A>,
@@ -139,6 +257,7 @@ impl<W: Target, A: Allocator + Copy> TokenSink<Token<A>> for TokenLines<W, A> {
         let in_text = is_open_after(self.in_text, &token);
         match print_token(
             self.alloc,
+            &self.front,
             self.in_text,
             &mut self.printer,
             token,

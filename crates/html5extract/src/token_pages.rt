@@ -5,12 +5,13 @@ ghost use Rattle.html5stream.specs.Pages.{ReadsPage, StopsPage, passage_of};
 ghost use Rattle.html5stream.specs.Streams.{GivesNoText, GivesNoFault, GivesAtLeast, failed_reads};
 
 use crate::token_lines::TokenLines;
+use crate::token_settings::TokenSettings;
 use devices::{Printer, Source, Target};
 use html5ever_interface::options::TokenizerOpts;
-use html5programs::Filter;
+use html5programs::{Filter, Front};
 use html5stream::{StreamError, read_source};
 use markup5ever::data::NamedReferences;
-use std::alloc::{Allocator, Global};
+use std::alloc::{AllocError, Allocator, Global};
 
 /// Reads a page, and prints its tokens as it arrives, a line each, with errors and pauses.
 pub fn read_lines<R: Source, W: Target, A: Allocator + Copy>(
@@ -37,21 +38,26 @@ pub fn read_lines<R: Source, W: Target, A: Allocator + Copy>(
 
 impl<W: Target + Drop> Filter<W> for TokenLines<W> {
     ghost use Rattle.html5extract.specs.Makings.{tokens_made};
-    ghost use Rattle.html5extract.specs.TokenLines.{lines_of};
-    ghost use Rattle.token_printer.specs.Output.{Output};
+    ghost use Rattle.html5extract.specs.TokenLines.{TokenReading, lines_of};
+    ghost use Rattle.html5programs.specs.Fronts.{front_at_start};
 
-    type Settings = ();
+    type Settings = TokenSettings;
 
-    ghost State = { Output };
+    ghost State = { TokenReading };
 
     ghost state = { lines_of };
 
     ghost means = { tokens_made };
 
-    fn new(alloc: Global, printer: Printer<W>, _settings: ()) -> TokenLines<W>
-        ensures { lines_of result ≡ record { lines = printer.printed; in_text = false; foreign = false } }
+    fn new(alloc: Global, printer: Printer<W>, settings: TokenSettings) -> TokenLines<W>
+        ensures { lines_of result
+            ≡ record { lines = printer.printed; in_text = false; front = front_at_start settings.shows_names } }
     {
-        TokenLines::new(alloc, printer)
+        TokenLines::new(alloc, printer, Front::new(alloc, settings.shows_names))
+    }
+
+    fn name_file(&mut self, alloc: Global, file: &str) -> Result<(), AllocError> {
+        TokenLines::name_file(self, alloc, file)
     }
 
     fn read_page<R: Source>(

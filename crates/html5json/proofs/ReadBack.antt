@@ -3,13 +3,13 @@ use Rattle.std.proofs.Common.{◌≡◌, ℕ, ◌<◌, ◌≤◌, ◌^◌, List,
 use Rattle.html5ever_interface.specs.Token.{Told}
 use Rattle.html5ever_interface.specs.Token.Told.{Text, Null, Error, Tag, Comment, Instruction, Doctype, End}
 use Rattle.html5json.specs.Lines.{text_of}
-use Rattle.html5json.specs.Links.{json_of_link}
+use Rattle.html5json.specs.Links.{json_of_link, link_members}
 use Rattle.html5json.specs.Reading.{ReadsBack}
-use Rattle.html5json.specs.Tokens.{attribute_items, json_of_option, json_of_token}
+use Rattle.html5json.specs.Tokens.{attribute_items, json_of_option, json_of_token, of_file, token_members}
 use Rattle.html5json.proofs.InLine.{HasDecimals, ItemsHaveDecimals, MembersHaveDecimals, print_in_line}
 use Rattle.json.specs.Json.{Json, null, boolean, number, string, array, object, Items, no_items, item, Members, no_members, member, value, if_last}
 use Rattle.json.specs.Print.{print}
-use Rattle.json.specs.Tree.{json_tokens, HasNumbers, ItemsHaveNumbers, MembersHaveNumbers, depth, items_depth}
+use Rattle.json.specs.Tree.{json_tokens, HasNumbers, ItemsHaveNumbers, MembersHaveNumbers, depth, items_depth, members_depth}
 use Rattle.json.proofs.Printed.Decimals.{IsNumber-decimal}
 use Rattle.json.proofs.Printed.Tokens.{tokens-print}
 use Rattle.json.proofs.Printed.Trees.{ArePrintable-json_tokens, document-print, value-json_tokens}
@@ -94,7 +94,7 @@ attribute_depth : (attributes : List AttributeOf) → items_depth (attribute_ite
 attribute_depth [] = omega arith
 attribute_depth (attribute ∷ attributes) = omega (arith, attribute_depth attributes)
 
-token_decimals : (told : Told) (line : ℕ) → line < 2 ^ 64 → HasDecimals (json_of_token told line)
+token_decimals : (told : Told) (line : ℕ) → line < 2 ^ 64 → MembersHaveDecimals (token_members told line)
 token_decimals (Text text) line h = (tt, (tt, tt))
 token_decimals Null line h = (tt, ((line, h, refl), tt))
 token_decimals (Error message) line h = (tt, ((line, h, refl), (tt, tt)))
@@ -105,7 +105,7 @@ token_decimals (Doctype d) line h =
     (tt, ((line, h, refl), (option_decimals d.name, (option_decimals d.public_id, (option_decimals d.system_id, (tt, tt))))))
 token_decimals End line h = (tt, ((line, h, refl), tt))
 
-token_depth : (told : Told) (line : ℕ) → depth (json_of_token told line) ≤ max_depth
+token_depth : (told : Told) (line : ℕ) → members_depth (token_members told line) ≤ 2
 token_depth (Text text) line = omega arith
 token_depth Null line = omega arith
 token_depth (Error message) line = omega arith
@@ -115,8 +115,20 @@ token_depth (Instruction text) line = omega arith
 token_depth (Doctype d) line = omega (arith, option_depth d.name, option_depth d.public_id, option_depth d.system_id)
 token_depth End line = omega arith
 
-pub token_reads_back : (told : Told) (line : ℕ) → line < 2 ^ 64 → ReadsBack (json_of_token told line)
-token_reads_back told line h = reads_back (json_of_token told line) (token_decimals told line h) (token_depth told line)
+-- members with a file before them
+file_decimals : (file : Option (List ℕ)) (ms : Members) → MembersHaveDecimals ms → HasDecimals (of_file file ms)
+file_decimals None ms h = h
+file_decimals (Some file) ms h = (tt, h)
 
-pub link_reads_back : (line : ℕ) (link : List ℕ) → line < 2 ^ 64 → ReadsBack (json_of_link line link)
-link_reads_back line link h = reads_back (json_of_link line link) ((line, h, refl), (tt, tt)) (omega arith)
+file_depth : (file : Option (List ℕ)) (ms : Members) → members_depth ms ≤ 2 → depth (of_file file ms) ≤ max_depth
+file_depth None ms h = omega (arith, h)
+file_depth (Some file) ms h = omega (arith, h)
+
+file_reads_back : (file : Option (List ℕ)) (members : Members) → MembersHaveDecimals members → members_depth members ≤ 2 → ReadsBack (of_file file members)
+file_reads_back file members h shallow = reads_back (of_file file members) (file_decimals file members h) (file_depth file members shallow)
+
+pub token_reads_back : (file : Option (List ℕ)) (told : Told) (line : ℕ) → line < 2 ^ 64 → ReadsBack (json_of_token file told line)
+token_reads_back file told line h = file_reads_back file (token_members told line) (token_decimals told line h) (token_depth told line)
+
+pub link_reads_back : (file : Option (List ℕ)) (line : ℕ) (link : List ℕ) → line < 2 ^ 64 → ReadsBack (json_of_link file line link)
+link_reads_back file line link h = file_reads_back file (link_members line link) ((line, h, refl), (tt, tt)) (omega arith)

@@ -1,25 +1,25 @@
 -- What programs make of pages: their tokens and their links as JSON.
-use Rattle.std.specs.Prelude.{ℕ, List}
-use Rattle.html5json.specs.Lines.{json_links_step, json_tokens_step}
+use Rattle.std.specs.Prelude.{List}
+use Rattle.html5extract.specs.LinkReading.{LinkReading}
+use Rattle.html5extract.specs.Makings.{links_made_by}
+use Rattle.html5extract.specs.declared.link_settings.LinkSettings.{LinkSettings}
+use Rattle.html5extract.specs.declared.token_settings.TokenSettings.{TokenSettings}
+use Rattle.html5json.specs.Lines.{JsonReading, json_links_step, json_tokens_step}
 use Rattle.html5programs.specs.Filtering.{Making}
-use Rattle.html5stream.specs.Pages.{runs_handed, runs_page, tags_handed, tags_page}
+use Rattle.html5programs.specs.Fronts.{front_at_start, front_named}
+use Rattle.html5stream.specs.Pages.{runs_handed, runs_page}
 
 -- the tokens of pages, after what was printed before
-abbrev pub json_tokens_made : Making (Unit {0}) (List ℕ)
+abbrev pub json_tokens_made : Making TokenSettings JsonReading
 json_tokens_made = record {
-  started = λ settings printed. printed;
+  started = λ settings printed. record { printed = printed; front = front_at_start settings.shows_names };
+  named = λ file s. record s { front = front_named file s.front };
   begun = λ s. s;
   page = runs_page json_tokens_step;
   handed = runs_handed json_tokens_step;
-  printed = λ s. s;
+  printed = λ s. s.printed;
 }
 
 -- the links of pages, after what was printed before
-abbrev pub json_links_made : Making (Unit {0}) (List ℕ)
-json_links_made = record {
-  started = λ settings printed. printed;
-  begun = λ s. s;
-  page = tags_page json_links_step;
-  handed = tags_handed json_links_step;
-  printed = λ s. s;
-}
+abbrev pub json_links_made : Making LinkSettings LinkReading
+json_links_made = links_made_by json_links_step

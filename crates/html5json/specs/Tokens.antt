@@ -5,6 +5,7 @@ use Rattle.html5ever_interface.specs.Token.Told.{Text, Null, Error, Tag, Comment
 use Rattle.html5ever_interface.specs.declared.interface.token.TagKind.{TagKind}
 use Rattle.html5ever_interface.specs.declared.interface.token.TagKind.TheVariants.{StartTag, EndTag}
 use Rattle.json.specs.Json.{Json, null, boolean, number, string, array, object, Items, no_items, item, Members, no_members, member}
+use Rattle.json.specs.Token.{Token, key, string as string_token}
 use Rattle.markup5ever.specs.Names.{AttributeOf}
 
 -- a text, or null where there is none
@@ -21,12 +22,12 @@ abbrev pub attribute_items : List AttributeOf → Items
 attribute_items [] = no_items
 attribute_items (attribute ∷ attributes) = item (json_of_attribute attribute) (attribute_items attributes)
 
--- an object of this type, with these members after the type
-abbrev pub of_type : List ℕ → Members → Json
-of_type kind members = object (member (codes "type") (string kind) members)
+-- a type, and these members after it
+abbrev pub of_type : List ℕ → Members → Members
+of_type kind members = member (codes "type") (string kind) members
 
--- and on this line
-abbrev pub on_line : List ℕ → ℕ → Members → Json
+-- and a line
+abbrev pub on_line : List ℕ → ℕ → Members → Members
 on_line kind line members = of_type kind (member (codes "line") (number (decimal line)) members)
 
 -- a member that is a text, after all others
@@ -53,13 +54,27 @@ doctype_members doctype =
     member (codes "system_id") (json_of_option doctype.system_id) (
     member (codes "force_quirks") (boolean doctype.force_quirks) no_members)))
 
--- a token, on the line that the tokenizer has reached. A text has no line: it may stand on many.
-abbrev pub json_of_token : Told → ℕ → Json
-json_of_token (Text text) line = of_type (codes "text") (last_text (codes "text") text)
-json_of_token Null line = on_line (codes "null") line no_members
-json_of_token (Error message) line = on_line (codes "error") line (last_text (codes "message") message)
-json_of_token (Tag tag) line = on_line (kind_word tag.kind) line (tag_members tag)
-json_of_token (Comment text) line = on_line (codes "comment") line (last_text (codes "text") text)
-json_of_token (Instruction text) line = on_line (codes "instruction") line (last_text (codes "text") text)
-json_of_token (Doctype doctype) line = on_line (codes "doctype") line (doctype_members doctype)
-json_of_token End line = on_line (codes "end_of_page") line no_members
+-- what a token holds, on the line that the tokenizer has reached. A text has no line: it may stand on many.
+abbrev pub token_members : Told → ℕ → Members
+token_members (Text text) line = of_type (codes "text") (last_text (codes "text") text)
+token_members Null line = on_line (codes "null") line no_members
+token_members (Error message) line = on_line (codes "error") line (last_text (codes "message") message)
+token_members (Tag tag) line = on_line (kind_word tag.kind) line (tag_members tag)
+token_members (Comment text) line = on_line (codes "comment") line (last_text (codes "text") text)
+token_members (Instruction text) line = on_line (codes "instruction") line (last_text (codes "text") text)
+token_members (Doctype doctype) line = on_line (codes "doctype") line (doctype_members doctype)
+token_members End line = on_line (codes "end_of_page") line no_members
+
+-- a file that members are of, before them, where it is named
+abbrev pub of_file : Option (List ℕ) → Members → Json
+of_file None members = object members
+of_file (Some file) members = object (member (codes "file") (string file) members)
+
+-- how such an object goes on
+abbrev pub file_tokens : Option (List ℕ) → List Token
+file_tokens None = []
+file_tokens (Some file) = key (codes "file") ∷ string_token file ∷ []
+
+-- a token of a file
+abbrev pub json_of_token : Option (List ℕ) → Told → ℕ → Json
+json_of_token file told line = of_file file (token_members told line)

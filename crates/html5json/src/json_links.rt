@@ -4,36 +4,49 @@ ghost use Rattle.std.specs.Prelude.{◌≡◌};
 use crate::lines::link_line;
 use devices::{Printer, Source, Target};
 use html5ever_interface::interface::token::{SinkFault, Tag};
+use html5extract::bases::Bases;
+use html5extract::link_settings::LinkSettings;
 use html5extract::links::link_of;
-use html5programs::Filter;
+use html5programs::{Filter, Front};
 use html5sinks::tags::TagHandler;
 use html5stream::{StreamError, read_tags};
 use markup5ever::data::NamedReferences;
-use std::alloc::{Allocator, Global};
+use std::alloc::{AllocError, Allocator, Global};
 
 /// Prints the links of the tags that it takes, an object of JSON a line: the number of the line on which
-/// the tag ends, and the link as it is written.
+/// the tag ends, and where the link leads, or the link as it is written.
 #[derive(Drop)]
 pub struct JsonLinks<W, A: Allocator = Global> {
     pub alloc: A,
     pub printer: Printer<W, A>,
+    pub bases: Bases,
+    pub front: Front,
 }
 
 impl<W: Target, A: Allocator + Copy> TagHandler<Tag<A>> for JsonLinks<W, A> {
-    ghost use Rattle.std.specs.Prelude.{ℕ, List};
+    ghost use Rattle.html5extract.specs.LinkReading.{LinkReading, link_reading};
     ghost use Rattle.html5json.specs.Lines.{json_links_step};
 
-    ghost State = { List ℕ };
+    ghost State = { LinkReading };
 
-    ghost state = { λ l. l.printer.printed };
+    ghost state = { λ l. link_reading l.bases l.front l.printer.printed };
 
     ghost step = { json_links_step };
 
     fn take_tag(&mut self, tag: Tag<A>, line_number: u64) -> Result<(), SinkFault> {
         let Some(link) = link_of(&tag) else {
-            return Ok(());
+            return match self.bases.take_tag(&tag) {
+                Ok(()) => Ok(()),
+                Err(AllocError) => Err(SinkFault),
+            };
         };
-        let Ok(line) = link_line(self.alloc, line_number, link.as_str()) else {
+        let Ok(line) = link_line(
+            self.alloc,
+            line_number,
+            &self.bases,
+            &self.front,
+            link.as_str(),
+        ) else {
             return Err(SinkFault);
         };
         match self.printer.print(&line) {
@@ -44,21 +57,30 @@ impl<W: Target, A: Allocator + Copy> TagHandler<Tag<A>> for JsonLinks<W, A> {
 }
 
 impl<W: Target + Drop> Filter<W> for JsonLinks<W> {
-    ghost use Rattle.std.specs.Prelude.{ℕ, List};
+    ghost use Rattle.html5extract.specs.LinkReading.{LinkReading, link_reading, links_started};
     ghost use Rattle.html5json.specs.Makings.{json_links_made};
 
-    type Settings = ();
+    type Settings = LinkSettings;
 
-    ghost State = { List ℕ };
+    ghost State = { LinkReading };
 
-    ghost state = { λ l. l.printer.printed };
+    ghost state = { λ l. link_reading l.bases l.front l.printer.printed };
 
     ghost means = { json_links_made };
 
-    fn new(alloc: Global, printer: Printer<W>, _settings: ()) -> JsonLinks<W>
-        ensures { result.printer.printed ≡ printer.printed }
+    fn new(alloc: Global, printer: Printer<W>, settings: LinkSettings) -> JsonLinks<W>
+        ensures { link_reading result.bases result.front result.printer.printed ≡ links_started settings printer.printed }
     {
-        JsonLinks { alloc, printer }
+        JsonLinks {
+            alloc,
+            printer,
+            bases: settings.bases,
+            front: Front::new(alloc, settings.shows_names),
+        }
+    }
+
+    fn name_file(&mut self, alloc: Global, file: &str) -> Result<(), AllocError> {
+        self.front.name_file(alloc, file)
     }
 
     fn read_page<R: Source>(
@@ -67,7 +89,13 @@ impl<W: Target + Drop> Filter<W> for JsonLinks<W> {
         source: &mut R,
         references: &NamedReferences,
     ) -> (JsonLinks<W>, Result<(), StreamError>) {
-        read_tags(alloc, source, self, references)
+        let links = JsonLinks {
+            alloc: self.alloc,
+            printer: self.printer,
+            bases: self.bases.at_page(),
+            front: self.front,
+        };
+        read_tags(alloc, source, links, references)
     }
 
     fn into_printer(self) -> Printer<W>

@@ -1,5 +1,5 @@
 //! Each line is JSON, and is read back.
-ghost use Rattle.std.specs.Prelude.{ℕ, ◌<◌, ◌^◌, List};
+ghost use Rattle.std.specs.Prelude.{ℕ, ◌<◌, ◌^◌, List, Option};
 ghost use Rattle.html5ever_interface.specs.Token.{Told};
 ghost use Rattle.html5json.specs.Links.{json_of_link};
 ghost use Rattle.html5json.specs.Reading.{ReadsBack};
@@ -7,10 +7,10 @@ ghost use Rattle.html5json.specs.Tokens.{json_of_token};
 
 /// What is printed for a token, whatever it holds, is read back as that token.
 pub fn tokens_read_back()
-    ensures { (told : Told) (line : ℕ) → line < 2 ^ 64 → ReadsBack (json_of_token told line) }
+    ensures { (file : Option (List ℕ)) (told : Told) (line : ℕ) → line < 2 ^ 64 → ReadsBack (json_of_token file told line) }
 {}
 
 /// What is printed for a link is read back as that link.
 pub fn links_read_back()
-    ensures { (line : ℕ) (link : List ℕ) → line < 2 ^ 64 → ReadsBack (json_of_link line link) }
+    ensures { (file : Option (List ℕ)) (line : ℕ) (link : List ℕ) → line < 2 ^ 64 → ReadsBack (json_of_link file line link) }
 {}

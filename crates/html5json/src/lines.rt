@@ -1,15 +1,16 @@
 //! Lines of JSON.
-ghost use Rattle.std.specs.Prelude.{◌≡◌, ◌++◌, [], string_bytes, IfOk};
+ghost use Rattle.std.specs.Prelude.{◌≡◌, ◌++◌, [], IfOk, option_map};
 ghost use Rattle.html5ever_interface.specs.Token.{told_by};
-ghost use Rattle.html5json.specs.Lines.{line_of, run_line};
-ghost use Rattle.html5json.specs.Links.{json_of_link};
-ghost use Rattle.html5json.specs.Tokens.{json_of_token};
+ghost use Rattle.html5extract.specs.Bases.{resolved};
+ghost use Rattle.html5json.specs.Lines.{line_of, link_line, run_line, token_line};
 ghost use Rattle.json.specs.Json.{Json};
 ghost use Rattle.json.specs.Tree.{json_tokens};
 
-use crate::members::{end_with_text, write_number};
+use crate::members::{begin_of_file, end_with_text, write_number};
 use crate::tokens::{write_run, write_token};
 use html5ever_interface::interface::token::Token;
+use html5extract::bases::{Bases, shown};
+use html5programs::Front;
 use json::Writer;
 use std::alloc::{AllocError, Allocator};
 
@@ -24,14 +25,19 @@ fn ended<A: Allocator>(writer: Writer<A>) -> Result<Vec<u8, A>, AllocError>
 }
 
 // The line of a run of text, where there is one.
-fn run_line<A: Allocator>(alloc: A, run: &str) -> Result<Vec<u8, A>, AllocError>
-    ensures { IfOk result (λ lines. lines.items ≡ run_line run.now) }
+fn run_line<A: Allocator>(
+    alloc: A,
+    file: Option<&str>,
+    run: &str,
+) -> Result<Vec<u8, A>, AllocError>
+    ensures { IfOk result (λ lines. lines.items ≡ run_line (option_map (λ name. name.now) file.entry) run.now) }
 {
     let lines = Vec::new(alloc);
     if run.is_empty() {
         return Ok(lines);
     }
     let mut writer = Writer::new(lines);
+    begin_of_file(&mut writer, file)?;
     write_run(&mut writer, run)?;
     ended(writer)
 }
@@ -39,36 +45,49 @@ fn run_line<A: Allocator>(alloc: A, run: &str) -> Result<Vec<u8, A>, AllocError>
 // These lines, and that of a token.
 fn with_token<A: Allocator, B: Allocator>(
     lines: Vec<u8, A>,
+    file: Option<&str>,
     token: &Token<B>,
     line: u64,
 ) -> Result<Vec<u8, A>, AllocError>
-    ensures { IfOk result (λ more. more.items ≡ lines.items ++ line_of (json_of_token (told_by token.now) line)) }
+    ensures { IfOk result (λ more. more.items
+        ≡ lines.items ++ token_line (option_map (λ name. name.now) file.entry) (told_by token.now) line) }
 {
     let mut writer = Writer::new(lines);
+    begin_of_file(&mut writer, file)?;
     write_token(&mut writer, token, line)?;
     ended(writer)
 }
 
-/// The lines of a run of text and of the token after it. An empty run has none.
+/// The lines of a run of text and of the token after it, with the name of their file, where there is one. An
+/// empty run has none.
 pub fn token_lines<A: Allocator, B: Allocator>(
     alloc: A,
+    front: &Front,
     run: &str,
     token: &Token<B>,
     line: u64,
 ) -> Result<Vec<u8, A>, AllocError>
     ensures { IfOk result (λ lines. lines.items
-        ≡ run_line run.now ++ line_of (json_of_token (told_by token.now) line)) }
+        ≡ run_line front.now run.now ++ token_line front.now (told_by token.now) line) }
 {
-    with_token(run_line(alloc, run)?, token, line)
+    let file = front.name();
+    with_token(run_line(alloc, file, run)?, file, token, line)
 }
 
-/// The line of a link.
-pub fn link_line<A: Allocator>(alloc: A, line: u64, link: &str) -> Result<Vec<u8, A>, AllocError>
-    ensures { IfOk result (λ lines. lines.items ≡ line_of (json_of_link line link.now)) }
+/// The line of a link, where it leads from these bases, with the name of its file, where there is one.
+pub fn link_line<A: Allocator>(
+    alloc: A,
+    line: u64,
+    bases: &Bases,
+    front: &Front,
+    link: &str,
+) -> Result<Vec<u8, A>, AllocError>
+    ensures { IfOk result (λ lines. lines.items ≡ link_line front.now line (resolved bases.now link.now)) }
 {
+    let url = bases.url_of(link)?;
     let mut writer = Writer::new(Vec::new(alloc));
-    writer.begin_object()?;
+    begin_of_file(&mut writer, front.name())?;
     write_number(&mut writer, "line", line)?;
-    end_with_text(&mut writer, "link", link)?;
+    end_with_text(&mut writer, "link", shown(&url, link))?;
     ended(writer)
 }

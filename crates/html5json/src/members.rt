@@ -1,7 +1,7 @@
 //! Members of an object that is written.
 ghost use Rattle.std.specs.Prelude.{◌≡◌, [], ◌∷◌, ◌++◌, codes, decimal, option_map, string_bytes};
 ghost use Rattle.html5json.specs.Adding.{Adds};
-ghost use Rattle.html5json.specs.Tokens.{json_of_option};
+ghost use Rattle.html5json.specs.Tokens.{file_tokens, json_of_option};
 ghost use Rattle.json.specs.Token.{begin_object, key, string, number, boolean, end_object};
 ghost use Rattle.json.specs.Tree.{json_tokens};
 
@@ -48,25 +48,37 @@ pub(crate) fn write_option<A: Allocator, B: Allocator>(
     }
 }
 
-// Begins an object of this type.
-pub(crate) fn begin<A: Allocator>(writer: &mut Writer<A>, kind: &str) -> Result<(), AllocError>
-    ensures { Adds result writer.old writer.new
-        (begin_object ∷ key (codes "type") ∷ string kind.now ∷ []) }
+// Begins an object, with the name of its file where there is one.
+pub(crate) fn begin_of_file<A: Allocator>(
+    writer: &mut Writer<A>,
+    file: Option<&str>,
+) -> Result<(), AllocError>
+    ensures { Adds result writer.old writer.new (begin_object ∷ file_tokens (option_map (λ name. name.now) file.entry)) }
 {
     writer.begin_object()?;
+    match file {
+        Some(name) => write_text(writer, "file", name),
+        None => Ok(()),
+    }
+}
+
+// Writes a type.
+pub(crate) fn write_type<A: Allocator>(writer: &mut Writer<A>, kind: &str) -> Result<(), AllocError>
+    ensures { Adds result writer.old writer.new (key (codes "type") ∷ string kind.now ∷ []) }
+{
     write_text(writer, "type", kind)
 }
 
-// Begins an object of this type, on this line.
-pub(crate) fn begin_on_line<A: Allocator>(
+// Writes a type and a line.
+pub(crate) fn write_type_and_line<A: Allocator>(
     writer: &mut Writer<A>,
     kind: &str,
     line: u64,
 ) -> Result<(), AllocError>
     ensures { Adds result writer.old writer.new
-        (begin_object ∷ key (codes "type") ∷ string kind.now ∷ key (codes "line") ∷ number (decimal line) ∷ []) }
+        (key (codes "type") ∷ string kind.now ∷ key (codes "line") ∷ number (decimal line) ∷ []) }
 {
-    begin(writer, kind)?;
+    write_type(writer, kind)?;
     write_number(writer, "line", line)
 }
 

@@ -3,14 +3,14 @@ ghost use Rattle.std.specs.Prelude.{◌≡◌, [], ◌∷◌, ◌++◌, codes, d
 ghost use Rattle.html5ever_interface.specs.Token.{doctype_of, tag_of, told_by};
 ghost use Rattle.html5ever_interface.specs.Token.Told.{Doctype as ToldDoctype, Tag as ToldTag, Text};
 ghost use Rattle.html5json.specs.Adding.{Adds};
-ghost use Rattle.html5json.specs.Tokens.{attribute_items, json_of_attribute, json_of_token, kind_word, last_text, on_line, tag_members};
+ghost use Rattle.html5json.specs.Tokens.{attribute_items, json_of_attribute, kind_word, last_text, on_line, tag_members, token_members};
 ghost use Rattle.json.specs.Json.{no_members};
 ghost use Rattle.json.specs.Token.{begin_array, key};
 ghost use Rattle.json.specs.Tree.{items_tokens, json_tokens, members_tokens};
 ghost use Rattle.markup5ever.specs.Names.{attribute_of};
 
 use crate::members::{
-    begin, begin_on_line, end_with_flag, end_with_text, write_option, write_text,
+    end_with_flag, end_with_text, write_option, write_text, write_type, write_type_and_line,
 };
 use html5ever_interface::interface::token::{Doctype, Tag, TagKind, Token};
 use json::Writer;
@@ -89,15 +89,15 @@ fn kind_word(kind: TagKind) -> &'static str
     }
 }
 
-// Writes an object that has a type and a line, and no more.
+// Writes the members of an object that has a type and a line, and no more, and its end.
 fn write_bare<A: Allocator>(writer: &mut Writer<A>, kind: &str, line: u64) -> Result<(), AllocError>
-    ensures { Adds result writer.old writer.new (json_tokens (on_line kind.now line no_members)) }
+    ensures { Adds result writer.old writer.new (members_tokens (on_line kind.now line no_members)) }
 {
-    begin_on_line(writer, kind, line)?;
+    write_type_and_line(writer, kind, line)?;
     writer.end_object()
 }
 
-// Writes an object that has a type, a line and a text.
+// Writes the members of an object that has a type, a line and a text, and its end.
 fn write_texted<A: Allocator>(
     writer: &mut Writer<A>,
     kind: &str,
@@ -105,54 +105,54 @@ fn write_texted<A: Allocator>(
     name: &str,
     text: &str,
 ) -> Result<(), AllocError>
-    ensures { Adds result writer.old writer.new (json_tokens (on_line kind.now line (last_text name.now text.now))) }
+    ensures { Adds result writer.old writer.new (members_tokens (on_line kind.now line (last_text name.now text.now))) }
 {
-    begin_on_line(writer, kind, line)?;
+    write_type_and_line(writer, kind, line)?;
     end_with_text(writer, name, text)
 }
 
-// Writes a tag.
+// Writes the members of a tag, and the end of its object.
 fn write_tag<A: Allocator, B: Allocator>(
     writer: &mut Writer<A>,
     tag: &Tag<B>,
     line: u64,
 ) -> Result<(), AllocError>
-    ensures { Adds result writer.old writer.new (json_tokens (json_of_token (ToldTag (tag_of tag.now)) line)) }
+    ensures { Adds result writer.old writer.new (members_tokens (token_members (ToldTag (tag_of tag.now)) line)) }
 {
-    begin_on_line(writer, kind_word(tag.kind), line)?;
+    write_type_and_line(writer, kind_word(tag.kind), line)?;
     write_tag_members(writer, tag)
 }
 
-// Writes a DOCTYPE.
+// Writes the members of a DOCTYPE, and the end of its object.
 fn write_doctype<A: Allocator, B: Allocator>(
     writer: &mut Writer<A>,
     doctype: &Doctype<B>,
     line: u64,
 ) -> Result<(), AllocError>
-    ensures { Adds result writer.old writer.new (json_tokens (json_of_token (ToldDoctype (doctype_of doctype.now)) line)) }
+    ensures { Adds result writer.old writer.new (members_tokens (token_members (ToldDoctype (doctype_of doctype.now)) line)) }
 {
-    begin_on_line(writer, "doctype", line)?;
+    write_type_and_line(writer, "doctype", line)?;
     write_option(writer, "name", &doctype.name)?;
     write_option(writer, "public_id", &doctype.public_id)?;
     write_option(writer, "system_id", &doctype.system_id)?;
     end_with_flag(writer, "force_quirks", doctype.force_quirks)
 }
 
-/// Writes a text.
+/// Writes the members of a text, and the end of its object.
 pub fn write_run<A: Allocator>(writer: &mut Writer<A>, text: &str) -> Result<(), AllocError>
-    ensures { Adds result writer.old writer.new (json_tokens (json_of_token (Text text.now) 0)) }
+    ensures { Adds result writer.old writer.new (members_tokens (token_members (Text text.now) 0)) }
 {
-    begin(writer, "text")?;
+    write_type(writer, "text")?;
     end_with_text(writer, "text", text)
 }
 
-/// Writes a token.
+/// Writes the members of a token, and the end of its object.
 pub fn write_token<A: Allocator, B: Allocator>(
     writer: &mut Writer<A>,
     token: &Token<B>,
     line: u64,
 ) -> Result<(), AllocError>
-    ensures { Adds result writer.old writer.new (json_tokens (json_of_token (told_by token.now) line)) }
+    ensures { Adds result writer.old writer.new (members_tokens (token_members (told_by token.now) line)) }
 {
     match token {
         Token::CharacterTokens(text) => write_run(writer, text),

@@ -1,9 +1,9 @@
 -- How a run ends: its status, and what was read and printed.
 use Rattle.std.specs.Prelude.{◌≡◌, ℕ, List, [], Option, IsNone, IsSome, codes, true, false}
 use Rattle.html5programs.specs.Encodings.{IsEncodingAsked, IsUnknownLabel}
-use Rattle.html5programs.specs.Filtering.{AreSettingsAsked, Making, ReadsFiles}
+use Rattle.html5programs.specs.Filtering.{AreSettingsAsked, Making, ReadsFiles, SaysNoSettings}
 use Rattle.html5programs.specs.References.{IsTableAsked}
-use Rattle.html5programs.specs.Words.{Asked, entities_asked, files_asked, has_option, known_options, label_asked, settings_asked, words_asked}
+use Rattle.html5programs.specs.Words.{Asked, entities_asked, files_asked, has_option, known_options, label_asked, words_asked}
 use Rattle.html5programs.specs.declared.program.Program.{Program}
 use Rattle.html5programs.specs.declared.ending.Ending.{Ending}
 use Rattle.html5programs.specs.declared.ending.Ending.TheVariants.{Done, Closed, Missed, Unprinted, NoMemory, WrongWord, WrongValue, NoTable, NoSettings}
@@ -59,6 +59,12 @@ pub record NamesNoEncoding (asked : Asked) : Type 0 where
   pub no_wrong : IsNone asked.wrong
   pub unknown : IsUnknownLabel (label_asked asked)
 
+-- they ask for no text and none is wrong, but they say no settings
+pub record AsksNoSettings {T : Type 0} (file : Asked → Option (List ℕ)) (said : Asked → Option (List ℕ) → Option T) (asked : Asked) : Type 0 where
+  pub no_text : AsksNoText asked
+  pub no_wrong : IsNone asked.wrong
+  pub none : SaysNoSettings file said asked
+
 module _ {T S : Type 0} (means : Making T S) where
   -- these files were read by a table, in an encoding and by settings, and what was written is what the filter printed of them
   pub record PrintsFiles (references : List NamedReference) (encoding : Option Encoding) (settings : T) (files : List (List ℕ)) (unread left : Option (List ℕ)) (written : List ℕ) : Type 0 where
@@ -67,11 +73,12 @@ module _ {T S : Type 0} (means : Making T S) where
     pub printed : written ≡ means.printed after
 
   -- those that the words ask for were, by the table, the encoding and the settings that they ask for
-  pub record PrintsAsked (unsaid : T) (said_by : List ℕ → Option T) (asked : Asked) (unread left : Option (List ℕ)) (written : List ℕ) : Type 0 where
+  pub record PrintsAsked (file : Asked → Option (List ℕ)) (said_by : Asked → Option (List ℕ) → Option T) (asked : Asked)
+      (unread left : Option (List ℕ)) (written : List ℕ) : Type 0 where
     pub references : List NamedReference
     pub encoding : Option Encoding
     pub settings : T
     pub label : IsEncodingAsked (label_asked asked) encoding
     pub table : IsTableAsked (entities_asked asked) references
-    pub said : AreSettingsAsked unsaid said_by (settings_asked asked) settings
+    pub said : AreSettingsAsked file said_by asked settings
     pub prints : PrintsFiles references encoding settings (files_asked asked) unread left written

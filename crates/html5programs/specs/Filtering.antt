@@ -4,12 +4,15 @@ use Rattle.std.specs.Str.{IsUtf8}
 use Rattle.html5ever_interface.specs.Sink.{Message}
 use Rattle.html5encodings.specs.declared.encoding.Encoding.{Encoding}
 use Rattle.html5programs.specs.Encodings.{IsTextOf}
+use Rattle.html5programs.specs.Words.{Asked}
 use Rattle.markup5ever.specs.NamedReferences.{NamedReference}
 
 -- what a filter makes of settings, which are of type T, and of pages, where its states are of type S
 pub record Making (T S : Type 0) : Type 0 where
   -- a filter with these settings, to whose printer this was printed
   pub started : T → List ℕ → S
+  -- where a file of this name is next
+  pub named : List ℕ → S → S
   -- where a page begins, after what was read before
   pub begun : S → S
   -- the messages of a page whose bytes are given, by a table of names
@@ -37,7 +40,7 @@ module _ {T S : Type 0} (means : Making T S) (references : List NamedReference) 
   pub record ReadsFile (file : List ℕ) (unread left : Option (List ℕ)) (before after : S) : Type 0 where
     pub text : List ℕ
     pub utf8 : IsUtf8 text
-    pub told : after ≡ means.handed (means.begun before) (means.page references (means.begun before) text)
+    pub told : let start = means.begun (means.named file before) in after ≡ means.handed start (means.page references start text)
     pub input : IsInput file → IsTextOf encoding unread left text
     pub other : ¬ (IsInput file) → left ≡ unread
 
@@ -47,8 +50,18 @@ module _ {T S : Type 0} (means : Making T S) (references : List NamedReference) 
   ReadsFiles (file ∷ files) unread left before after =
       (now : Option (List ℕ)) × (between : S) × ReadsFile file unread now before between × ReadsFiles files now left between after
 
--- the settings where no file of them is given, or those of a text. Which text the file holds no contract says.
-module _ {T : Type 0} (unsaid : T) (said : List ℕ → Option T) where
-  abbrev pub AreSettingsAsked : Option (List ℕ) → T → Type 0
-  AreSettingsAsked None settings = settings ≡ unsaid
-  AreSettingsAsked (Some path) settings = (text : List ℕ) × (said text ≡ Some settings)
+-- by the file of settings that words name, and what words and that file's text say of settings
+module _ {T : Type 0} (file : Asked → Option (List ℕ)) (said : Asked → Option (List ℕ) → Option T) where
+  -- the settings that words say, by themselves or with a text
+  abbrev SayWith : Asked → Option (List ℕ) → T → Type 0
+  SayWith asked None settings = said asked None ≡ Some settings
+  SayWith asked (Some path) settings = (text : List ℕ) × (said asked (Some text) ≡ Some settings)
+
+  -- the settings that words ask for. Which text a file of settings holds no contract says.
+  abbrev pub AreSettingsAsked : Asked → T → Type 0
+  AreSettingsAsked asked settings = SayWith asked (file asked) settings
+
+  -- the words name no file of settings, and say none by themselves
+  pub record SaysNoSettings (asked : Asked) : Type 0 where
+    pub no_file : file asked ≡ None
+    pub none : said asked None ≡ None

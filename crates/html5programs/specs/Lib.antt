@@ -5,3 +5,4 @@ pub mod Filtering
 pub mod Ending
 pub mod Version
 pub mod Encodings
+pub mod Fronts

@@ -1,6 +1,6 @@
 -- What the words of the command line ask for. A word is its bytes.
-use Rattle.std.specs.Prelude.{Bool, true, false, not, ◌||◌, ◌==◌, ℕ, List, [], ◌∷◌, ◌++◌, Option, None, Some, is_some, map, codes, if◌then◌else◌}
-use Rattle.std.specs.Option.{is_none, option_map}
+use Rattle.std.specs.Prelude.{Bool, true, false, not, ◌||◌, ◌==◌, ℕ, List, [], ◌∷◌, ◌++◌, Option, None, Some, is_some, map, codes, length, nat_lt, unwrap_or, if◌then◌else◌}
+use Rattle.std.specs.Option.{is_none, option_map, option_or}
 use Rattle.std.specs.Str.{bytes_eq}
 use Rattle.html5programs.specs.declared.words.Choice.{Choice}
 use Rattle.html5programs.specs.declared.words.GivenOption.{GivenOption}
@@ -141,3 +141,21 @@ files_or_input (file ∷ files) = file ∷ files
 
 abbrev pub files_asked : Asked → List (List ℕ)
 files_asked asked = files_or_input asked.files
+
+-- ---- names in front
+
+-- whether an option asks for the names of files in front, or for none, if it is about them
+abbrev pub naming_by : List ℕ → Option Bool
+naming_by option =
+    if bytes_eq option (codes "-H") || bytes_eq option (codes "--with-filename") then Some true
+    else if bytes_eq option (codes "-h") || bytes_eq option (codes "--no-filename") then Some false
+    else None
+
+-- what the last option about them asks for
+unfoldable pub naming_of : List AskedOption → Option Bool
+naming_of [] = None
+naming_of (g ∷ given) = option_or (naming_by g.name) (naming_of given)
+
+-- whether names stand in front: as the words ask for it, or else where they name more than one file
+abbrev pub shows_names : Asked → Bool
+shows_names asked = unwrap_or (naming_of asked.given) (nat_lt 1 (length asked.files))

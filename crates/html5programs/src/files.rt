@@ -71,6 +71,10 @@ fn read_file<F: Filter<W>, W: Target + Drop, R: Files + Alloc<A = Global>, I: Re
         (I.remaining stdin.old.inner) (I.remaining stdin.new.inner) (F.state filter) (F.state result.0)) }
     ensures read { OnOk result.1 (IsNone encoding → stdin.new.failures ≡ stdin.old.failures) }
 {
+    let mut filter = filter;
+    if filter.name_file(rt.alloc(), file).is_err() {
+        return (filter, Err(FileError::Stream(StreamError::Memory)));
+    }
     if file == "-" {
         let (filter, read) = read_page(rt.alloc(), filter, references, encoding, stdin);
         return (filter, read_or_error(read, stdin.fault()));

@@ -3,7 +3,7 @@ use crate::settings::Settings;
 use devices::{Printer, Source, Target};
 use html5stream::StreamError;
 use markup5ever::data::NamedReferences;
-use std::alloc::Global;
+use std::alloc::{AllocError, Global};
 
 /// What a program makes of the pages that it reads: what it prints.
 pub trait Filter<W: Target + Drop>: Drop {
@@ -25,6 +25,11 @@ pub trait Filter<W: Target + Drop>: Drop {
     /// A filter that has read nothing, and prints to this printer.
     fn new(alloc: Global, printer: Printer<W>, settings: Self::Settings) -> Self
         ensures { state result ≡ means.started settings printer.printed };
+
+    /// Takes note of the name of the file that is read next.
+    fn name_file(&mut self, alloc: Global, file: &str) -> Result<(), AllocError>
+        ensures named { OnOk result (state self.new ≡ means.named file.now (state self.old)) }
+        ensures err { OnErr result (state self.new ≡ state self.old) };
 
     /// Reads a page, and prints what it makes of it as it arrives: of the whole page, or after an error
     /// of a beginning of it.

@@ -6,6 +6,7 @@ mod ending;
 mod entity_lines;
 mod files;
 mod filter;
+mod front;
 mod input;
 mod messages;
 mod output;
@@ -19,6 +20,7 @@ mod words;
 
 pub use crate::ending::Ending;
 pub use crate::filter::Filter;
+pub use crate::front::Front;
 pub use crate::input::Input;
 pub use crate::messages::Messages;
 pub use crate::output::Output;

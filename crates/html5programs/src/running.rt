@@ -1,8 +1,8 @@
 //! Programs that read pages, and print what they make of them.
-ghost use Rattle.std.specs.Prelude.{◌≡◌, ◌≢◌, ◌⊎◌, ◌∷◌, [], true, Contains, IfSome, map, option_map, string_bytes};
+ghost use Rattle.std.specs.Prelude.{◌≡◌, ◌≢◌, ◌⊎◌, ◌∷◌, [], true, Contains, IfSome, Ok, map, option_map, string_bytes};
 ghost use Rattle.html5programs.specs.Encodings.{IsUnknownLabel};
-ghost use Rattle.html5programs.specs.Ending.{AsksHelp, AsksNoText, AsksSettings, AsksVersion, HasWrongWord, NamesNoEncoding, PrintsAsked, asked_of};
-ghost use Rattle.html5programs.specs.Filtering.{AreSettingsAsked};
+ghost use Rattle.html5programs.specs.Ending.{AsksHelp, AsksNoSettings, AsksNoText, AsksSettings, AsksVersion, HasWrongWord, NamesNoEncoding, PrintsAsked, asked_of, status_of};
+ghost use Rattle.html5programs.specs.Filtering.{AreSettingsAsked, SaysNoSettings};
 ghost use Rattle.html5programs.specs.Version.{version_line};
 ghost use Rattle.html5programs.specs.Words.{asked_by, label_asked};
 
@@ -26,34 +26,39 @@ use std::fs::Files;
 use std::io::{Read, Write};
 use std::rt::Env;
 
-// The settings of a file, or else those of a filter where none is given. Where there are none, it says
-// why.
-fn read_settings<F: Filter<W>, W: Target + Drop, R: Files + Alloc<A = Global>, E: Target>(
+// The settings that the words ask for. Where there are none, it says why.
+fn read_settings<S: Settings, R: Files + Alloc<A = Global>, E: Target>(
     rt: &R,
-    path: Option<&str>,
+    asked: &Words<'_>,
     messages: &mut Messages<'_, E>,
-) -> Option<F::Settings>
-    ensures { IfSome result (AreSettingsAsked F.Settings.unsaid F.Settings.said
-        (option_map (λ path. path.now) path.entry)) }
+) -> Option<S>
+    ensures { IfSome result (AreSettingsAsked S.file S.said (asked_by asked.now)) }
 {
-    let Some(path) = path else {
-        let Ok(settings) = F::Settings::standard(rt.alloc()) else {
-            messages.say("settings", "out of memory");
-            return None;
-        };
-        return Some(settings);
+    let Some(path) = S::file_of(asked) else {
+        let what = asked.value(S::OPTION).unwrap_or("settings");
+        return settings_or_say(S::of_words(rt.alloc(), asked, None), what, messages);
     };
-    let text = match fs::read_to_string(rt, path) {
-        Ok(text) => text,
+    match fs::read_to_string(rt, path) {
+        Ok(text) => settings_or_say(S::of_words(rt.alloc(), asked, Some(&text)), path, messages),
         Err(fault) => {
             messages.say(path, fault);
-            return None;
+            None
         }
-    };
-    match F::Settings::parse(rt.alloc(), &text) {
+    }
+}
+
+// The settings, or that there are none, and it was said why.
+fn settings_or_say<S: Settings, E: Target>(
+    said: Result<S, S::Fault>,
+    what: &str,
+    messages: &mut Messages<'_, E>,
+) -> Option<S>
+    ensures { IfSome result (λ settings. said ≡ Ok settings) }
+{
+    match said {
         Ok(settings) => Some(settings),
         Err(fault) => {
-            messages.say(path, fault);
+            messages.say(what, fault);
             None
         }
     }
@@ -73,12 +78,14 @@ fn filter_asked<
     stdout: O,
     messages: &mut Messages<'_, E>,
 ) -> (Logged<Output<O>>, Ending)
-    ensures done { result.1 ≡ Ending.Done → PrintsAsked F.means F.Settings.unsaid F.Settings.said (asked_by asked.now)
+    ensures done { result.1 ≡ Ending.Done → PrintsAsked F.means F.Settings.file F.Settings.said (asked_by asked.now)
         (I.remaining stdin.old.inner) (I.remaining stdin.new.inner) result.0.taken }
     ensures closed { result.1 ≡ Ending.Closed → result.0.inner.is_closed ≡ true }
     ensures words { (result.1 ≢ Ending.WrongWord) × (result.1 ≢ Ending.NoMemory) }
     ensures encoding { IsUnknownLabel (label_asked (asked_by asked.now))
         → (result.1 ≡ Ending.WrongValue) × (stdin.new ≡ stdin.old) × (result.0.taken ≡ []) }
+    ensures settings { SaysNoSettings F.Settings.file F.Settings.said (asked_by asked.now)
+        → (status_of result.1 ≡ 2) × (stdin.new ≡ stdin.old) × (result.0.taken ≡ []) }
 {
     let label = asked.value("--encoding");
     let encoding = match encoding_asked(label) {
@@ -88,6 +95,9 @@ fn filter_asked<
             return (Logged::new(Output::new(stdout)), Ending::WrongValue);
         }
     };
+    let Some(settings) = read_settings::<F::Settings, R, E>(rt, asked, messages) else {
+        return (Logged::new(Output::new(stdout)), Ending::NoSettings);
+    };
     let entities = asked.value("--entities");
     let table = match read_references(rt, entities) {
         Ok(table) => table,
@@ -95,10 +105,6 @@ fn filter_asked<
             messages.say(entities.unwrap_or("entities"), error);
             return (Logged::new(Output::new(stdout)), Ending::NoTable);
         }
-    };
-    let policy = asked.value("--policy");
-    let Some(settings) = read_settings::<F, Output<O>, R, E>(rt, policy, messages) else {
-        return (Logged::new(Output::new(stdout)), Ending::NoSettings);
     };
     filter_files::<F, R, I, O, E>(
         rt,
@@ -190,7 +196,7 @@ pub fn filter_by_words<
     // What `Done` says: all files that the words ask for were read to their ends, and what was written is
     // what the filter printed of them.
     ensures done { AsksNoText (asked_of program.entry (map string_bytes words.now)) → result.1 ≡ Ending.Done
-        → PrintsAsked F.means F.Settings.unsaid F.Settings.said (asked_of program.entry (map string_bytes words.now))
+        → PrintsAsked F.means F.Settings.file F.Settings.said (asked_of program.entry (map string_bytes words.now))
         (I.remaining stdin.old.inner) (I.remaining stdin.new.inner) result.0.taken }
     ensures help { AsksHelp (asked_of program.entry (map string_bytes words.now)) → result.1 ≡ Ending.Done
         → result.0.taken ≡ program.entry.help.now }
@@ -203,6 +209,8 @@ pub fn filter_by_words<
     // When words are wrong, and that nothing is read and written then.
     ensures encoding { NamesNoEncoding (asked_of program.entry (map string_bytes words.now))
         → ((result.1 ≡ Ending.WrongValue) ⊎ (result.1 ≡ Ending.NoMemory)) × (stdin.new ≡ stdin.old) × (result.0.taken ≡ []) }
+    ensures no_settings { AsksNoSettings F.Settings.file F.Settings.said (asked_of program.entry (map string_bytes words.now))
+        → ((status_of result.1 ≡ 2) ⊎ (result.1 ≡ Ending.NoMemory)) × (stdin.new ≡ stdin.old) × (result.0.taken ≡ []) }
     ensures wrong { result.1 ≡ Ending.WrongWord → HasWrongWord (asked_of program.entry (map string_bytes words.now)) }
     ensures usage { HasWrongWord (asked_of program.entry (map string_bytes words.now))
         → (result.1 ≡ Ending.WrongWord) ⊎ (result.1 ≡ Ending.NoMemory) }

@@ -1,6 +1,6 @@
 //! The words of the command line.
 ghost use Rattle.std.specs.Prelude.{◌≡◌, IfOk, OnOk, map, option_map, is_some, string_bytes};
-ghost use Rattle.html5programs.specs.Words.{asked_by, asked_with, files_asked, has_option, is_file, known_options, nothing_asked, settled, value_of, wants_word, with_given, with_option, with_word, with_wrong, words_asked};
+ghost use Rattle.html5programs.specs.Words.{asked_by, asked_with, files_asked, has_option, is_file, known_options, naming_by, nothing_asked, settled, shows_names, value_of, wants_word, with_given, with_option, with_word, with_wrong, words_asked};
 
 use std::alloc::{AllocError, Allocator, Global};
 
@@ -141,6 +141,17 @@ impl<'w, A: Allocator + Copy> Words<'w, A> {
     }
 }
 
+// Whether an option asks for the names of files in front, or for none.
+fn naming_by(option: &str) -> Option<bool>
+    ensures { result ≡ naming_by option.now }
+{
+    match option {
+        "-H" | "--with-filename" => Some(true),
+        "-h" | "--no-filename" => Some(false),
+        _ => None,
+    }
+}
+
 impl<'w, A: Allocator> Words<'w, A> {
     /// The word that belongs to an option, the last one where it was given more than once.
     #[tactic(auto, unfolding(crate::specs::Words::value_of))]
@@ -163,6 +174,20 @@ impl<'w, A: Allocator> Words<'w, A> {
             return INPUT.as_slice();
         }
         &self.files
+    }
+
+    /// Whether the names of files stand in front of what is printed of them: as the last option about them
+    /// says, or else where there is more than one.
+    #[tactic(auto, unfolding(crate::specs::Words::naming_of))]
+    pub fn shows_names(&self) -> bool
+        ensures { result ≡ shows_names (asked_by self.now) }
+    {
+        for given in &self.given {
+            if let Some(is_shown) = naming_by(given.name) {
+                return is_shown;
+            }
+        }
+        self.files.len() > 1
     }
 
     /// Whether an option was given.

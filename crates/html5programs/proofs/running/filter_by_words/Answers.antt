@@ -11,3 +11,7 @@ returns-clause-settings g c =
 pub returns-then-has-3-clause-encoding : goal.returns-then-has-3-clause-encoding
 returns-then-has-3-clause-encoding g c =
     λ names. absurd (true≢false (sym c.if-has-3.true ∙ c.has-3.ensures ∙ ap (has_option (codes "--print-policy")) c.in-Ok.ensures ∙ names.no_text.no_settings))
+
+pub returns-then-has-3-clause-no_settings : goal.returns-then-has-3-clause-no_settings
+returns-then-has-3-clause-no_settings g c =
+    λ names. absurd (true≢false (sym c.if-has-3.true ∙ c.has-3.ensures ∙ ap (has_option (codes "--print-policy")) c.in-Ok.ensures ∙ names.no_text.no_settings))

@@ -1,0 +1,33 @@
+# What a shell completes after firnuubal. Made by tools/completions.py.
+_firnuubal() {
+    local word=${COMP_WORDS[COMP_CWORD]} words= at
+    COMPREPLY=()
+    for ((at = 1; at < COMP_CWORD; at++)); do
+        [[ ${COMP_WORDS[at]} == -- ]] && return
+    done
+    case ${COMP_WORDS[1]}:${COMP_WORDS[COMP_CWORD - 1]} in
+    tokens:--encoding) words="" ;;
+    tokens:--entities) words="" ;;
+    tokens:--format) words="lines json" ;;
+    links:--encoding) words="" ;;
+    links:--entities) words="" ;;
+    links:--format) words="lines json" ;;
+    links:--base) words="" ;;
+    text:--encoding) words="" ;;
+    text:--entities) words="" ;;
+    clean:--policy) words="" ;;
+    clean:--encoding) words="" ;;
+    clean:--entities) words="" ;;
+    *)
+        ((COMP_CWORD == 1)) && words="tokens links text clean --help --version"
+        [[ $word == -* ]] && case ${COMP_WORDS[1]} in
+        tokens) words="--encoding --entities --format --with-filename --no-filename --help --version" ;;
+        links) words="--encoding --entities --format --with-filename --no-filename --base --help --version" ;;
+        text) words="--encoding --entities --help --version" ;;
+        clean) words="--policy --print-policy --encoding --entities --help --version" ;;
+        esac
+        ;;
+    esac
+    COMPREPLY=($(compgen -W "$words" -- "$word"))
+}
+complete -o default -F _firnuubal firnuubal
