@@ -132,7 +132,7 @@ twin-step enough limit policy c twin run told line t =
     as-kept (shape_of twin.policy) (is_end told) twin.opened other (ap shape_of t.plain) in
     let written : written_by (shape_of c.policy) (is_end told) c.opened kept ≡ written_by (Tree limit) (is_end told) c.opened other =
     λ i. written_by (shape i) (is_end told) c.opened (same i) in
-    let open : open_by (shape_of c.policy) (is_end told) c.opened kept ≡ open_by (Tree limit) (is_end told) c.opened other =
+    let opening : open_by (shape_of c.policy) (is_end told) c.opened kept ≡ open_by (Tree limit) (is_end told) c.opened other =
     λ i. open_by (shape i) (is_end told) c.opened (same i) in
     let ready : IsReady limit c.opened = subst (λ s. IsReadyFor s c.opened) shape t.goes.1 in
     record {
@@ -148,7 +148,7 @@ twin-step enough limit policy c twin run told line t =
           let both = length-items twin.pieces other in
           let m : length (open_by (Tree limit) (is_end told) c.opened other) ≤ 8 * length (items_of (twin.pieces ++ other)) = omega (arith, l, s, both) in
           subst (λ p. length (open_by (shape_of c.policy) (is_end told) c.opened kept) ≤ 8 * length (items_of (twin.pieces ++ p))) (sym plain)
-          (subst (λ (o : List (List ℕ)). length o ≤ 8 * length (items_of (twin.pieces ++ other))) (sym open) m);
+          (subst (λ (o : List (List ℕ)). length o ≤ 8 * length (items_of (twin.pieces ++ other))) (sym opening) m);
       kept = λ room.
           let room_for : HasRoomFor enough limit (twin.pieces ++ other) = subst (λ p. HasRoomFor enough limit (twin.pieces ++ p)) plain room in
           subst (λ p. Keeps enough (items_of (twin.pieces ++ p)) (items_of (c.pieces ++ written_by (shape_of c.policy) (is_end told) c.opened kept))) (sym plain)
