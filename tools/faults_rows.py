@@ -96,6 +96,15 @@ def filters():
     yield by_own(["tokens"], b'<p a="&own;">x&#x41;y<!--z-->', lines, *of_page(lines))
     links = "1 \u2603\n2 z\n"
     yield by_own(["links"], b'<a href="&own;">y\n<img src=z>', links, *of_page(links))
+    links = "-:1 http://a/c/d\n-:2 http://a/z\n"
+    page = b"<base href=c/><a href=d>y\n<img src=/z>"
+    ends = (End(said("http://a/b"), 2), *of_page(links))
+    yield by_own(["links", "-H", "--base", "http://a/b"], page, links, *ends)
+    lines = '{"file":"-","type":"start","line":1,"name":"p","attributes":[],"self_closing":false}\n'
+    lines += '{"file":"-","type":"text","text":"x"}\n{"file":"-","type":"end_of_page","line":1}\n'
+    yield by_own(["tokens", "--with-filename", "--format", "json"], b"<p>x", lines, *of_page(lines))
+    lines = '-:text "x"\n-:end 1 "script"\n-:pause script\n-:eof 1\n'
+    yield by_own(["tokens", "-H"], b"x</script>", lines, *of_page(lines))
     text = "a\u2603bd"
     yield by_own(["text"], b"a&own;<p>b<script>c</script>d", text, *of_page(text))
     text = "a\u65e5b"
@@ -122,8 +131,10 @@ def messages():
     ends = [End(said("first"), 1, first, after=second), End(said("second"), 1, second, before=first)]
     yield by_own(["text", "first", "second"], b"", first + second, *ends, End(UNPRINTED, 1, first + second))
     missing = said("missing", MISSING)
-    ends = [End("", 1, before="1 x\n"), End(missing + said("-"), 1, "1 x\n"), End(missing + UNPRINTED, 1, "1 x\n")]
-    yield by_own(["links", "missing", "-"], b"<a href=x>", "1 x\n", *ends)._replace(said=missing, status=1)
+    line = "-:1 x\n"
+    ends = [End("", 1, before=line), End(said("missing"), 1, before=line)]
+    ends += [End(missing + said("-"), 1, line), End(missing + UNPRINTED, 1, line)]
+    yield by_own(["links", "missing", "-"], b"<a href=x>", line, *ends)._replace(said=missing, status=1)
     like = said("--entites", "no such option; did you mean --entities?")
     ends = (NO_WORDS, End(said("--entites", "no such option; try --help"), 2), End("", 2))
     yield Row(["firnuubal", "links", "--entites"], b"a", "", like, 2, ends)

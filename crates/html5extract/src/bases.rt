@@ -14,10 +14,12 @@ use thiserror::Error;
 use url::{ParseError, Url};
 
 /// Why a word is no URL that pages are at.
-#[derive(Clone, Copy, Debug, PartialEq, Eq, Error)]
-#[error("no absolute URL: {fault}")]
-pub struct BaseError {
-    pub fault: ParseError,
+#[derive(Clone, Copy, Debug, Error)]
+pub enum BaseError {
+    #[error("out of memory")]
+    Memory,
+    #[error("no absolute URL: {0}")]
+    NoUrl(ParseError),
 }
 
 /// The URL that a page is at, and the one that it names for its links.
@@ -156,6 +158,7 @@ pub fn bases_asked(alloc: Global, words: &Words<'_>) -> Result<Bases, BaseError>
             fallback: Some(url),
             found: None,
         }),
-        Err(fault) => Err(BaseError { fault }),
+        Err(ParseError::OutOfMemory) => Err(BaseError::Memory),
+        Err(fault) => Err(BaseError::NoUrl(fault)),
     }
 }
