@@ -1,1 +1,2 @@
 pub mod AsciiLabels
+pub mod FrontLemmas

@@ -1,5 +1,5 @@
 //! The first bytes of a page.
-ghost use Rattle.std.specs.Prelude.{◌≡◌, ◌+◌, ◌<◌, ◌⊎◌, [], length, take, IfOk, IfSome, OnErr, OnOk};
+ghost use Rattle.std.specs.Prelude.{◌≡◌, ◌+◌, ◌<◌, ◌≤◌, ◌⊎◌, [], length, take, IfOk, IfSome, OnErr, OnOk};
 ghost use Rattle.std.specs.Io.KnownBytes.{Consumes, IsAtEnd};
 ghost use Rattle.devices.specs.Device.{ConsumesBeginning};
 ghost use Rattle.html5sniffing.specs.Fronts.{ReadsMore};
@@ -65,6 +65,7 @@ impl Front {
     fn fill<S: Source>(&mut self, source: &mut S) -> io::Result<()>
         requires { self.old ≡ [] }
         ensures front { OnOk result (Consumes (S.remaining source.old) (S.remaining source.new) self.new) }
+        ensures bound { length self.new ≤ 1024 }
         ensures whole { OnOk result ((length self.new ≡ 1024) ⊎ IsAtEnd (S.remaining source.new)) }
         ensures err { OnErr result (ConsumesBeginning (S.remaining source.old) (S.remaining source.new)) }
         ensures no_failure { OnOk result (S.failures source.new ≡ S.failures source.old) }

@@ -1,5 +1,5 @@
 //! A source whose first bytes were read.
-ghost use Rattle.std.specs.Prelude.{◌≡◌, length, min, take};
+ghost use Rattle.std.specs.Prelude.{◌≡◌, ◌<◌, ◌≤◌, ◌++◌, [], length, min, take};
 
 use crate::front::Front;
 use devices::Source;
@@ -50,6 +50,18 @@ impl<S> Fronted<S> {
         }
     }
 
+    // Takes bytes of the front, and answers how many: none only where none wait, or there is no room.
+    fn take(&mut self, into: &mut [u8]) -> usize
+        ensures bound { result ≤ length into.new }
+        ensures taken { self.old.waiting ≡ take result into.new ++ self.new.waiting }
+        ensures none { result ≡ 0 → 0 < length into.new → self.new.waiting ≡ [] }
+        ensures inner { self.new.inner ≡ self.old.inner }
+    {
+        let count = copy_front(&self.front.bytes()[self.given..], into);
+        self.given += count;
+        count
+    }
+
     /// The source. Bytes that were read of it and not yet given are lost.
     pub fn into_inner(self) -> S
         ensures { result ≡ self.inner }
@@ -66,12 +78,10 @@ impl<S: Source> Source for Fronted<S> {
     ghost failures = { λ s. S.failures s.inner };
 
     fn read(&mut self, buf: &mut [u8]) -> io::Result<usize> {
-        let waiting = &self.front.bytes()[self.given..];
-        if waiting.is_empty() {
-            return self.inner.read(buf);
+        let count = self.take(buf);
+        if count > 0 || buf.is_empty() {
+            return Ok(count);
         }
-        let count = copy_front(waiting, buf);
-        self.given += count;
-        Ok(count)
+        self.inner.read(buf)
     }
 }
