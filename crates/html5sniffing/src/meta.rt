@@ -44,7 +44,11 @@ fn after_equals(bytes: &[u8]) -> Option<&[u8]>
     let [first, rest @ ..] = bytes else {
         return None;
     };
-    if *first == b'=' { Some(trimmed(rest)) } else { None }
+    if *first == b'=' {
+        Some(trimmed(rest))
+    } else {
+        None
+    }
 }
 
 // What follows the word `charset` and an equals sign at the front.
