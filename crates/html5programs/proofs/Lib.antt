@@ -1,3 +1,4 @@
 pub mod EntityLines
 pub mod FilesRead
 pub mod Saying
+pub mod TextsRead

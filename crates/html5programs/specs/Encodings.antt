@@ -1,9 +1,12 @@
 -- The encoding of the pages that a program reads.
-use Rattle.std.specs.Prelude.{◌≡◌, List, ℕ, Option, None, Some, encode_utf8_all, IfSome}
+use Rattle.std.specs.Prelude.{◌≡◌, List, ℕ, Bool, true, false, Option, None, Some, IfSome}
 use Rattle.std.specs.Io.KnownBytes.{Consumes, IsAtEnd}
-use Rattle.html5encodings.specs.Decoding.{decoded}
 use Rattle.html5encodings.specs.Encodings.{encoding_of}
 use Rattle.html5encodings.specs.declared.encoding.Encoding.{Encoding}
+use Rattle.html5sniffing.specs.PageEncoding.{text_of_page}
+use Rattle.markup5ever.specs.NamedReferences.{NamedReference}
+use Rattle.html5programs.specs.declared.encoded.PageDecoding.{PageDecoding}
+use Rattle.html5programs.specs.declared.encoded.PageDecoding.TheVariants.{Utf8Alone, ByPage}
 
 -- the encoding that a label names, or none where no label is given
 abbrev pub IsEncodingAsked : Option (List ℕ) → Option Encoding → Type 0
@@ -16,8 +19,13 @@ abbrev pub IsUnknownLabel : Option (List ℕ) → Type 0
 IsUnknownLabel None = ⊥
 IsUnknownLabel (Some label) = encoding_of label ≡ None
 
--- The text of a page that a source gave. With no encoding it is the bytes that the source had left, up to its end; in an
--- encoding it is what all of them decode to, in UTF-8.
-abbrev pub IsTextOf : Option Encoding → Option (List ℕ) → Option (List ℕ) → List ℕ → Type 0
-IsTextOf None unread left text = Consumes unread left text × IsAtEnd left
-IsTextOf (Some encoding) unread left text = IfSome unread (λ bytes. text ≡ encode_utf8_all (decoded encoding bytes))
+-- how pages are decoded of which this encoding is said, by whether bytes that are no UTF-8 are to be refused
+abbrev pub decoding_of : Bool → Option Encoding → PageDecoding
+decoding_of true said = Utf8Alone
+decoding_of false said = ByPage said
+
+-- The text of a page that a source gave, by a table of references. As UTF-8 alone it is the bytes that the source had left, up to its
+-- end; else it is what all of them decode to by the encoding of the page.
+abbrev pub IsTextOf : List NamedReference → PageDecoding → Option (List ℕ) → Option (List ℕ) → List ℕ → Type 0
+IsTextOf references Utf8Alone unread left text = Consumes unread left text × IsAtEnd left
+IsTextOf references (ByPage said) unread left text = IfSome unread (λ bytes. text ≡ text_of_page references said None bytes)

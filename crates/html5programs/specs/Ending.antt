@@ -1,13 +1,14 @@
 -- How a run ends: its status, and what was read and printed.
 use Rattle.std.specs.Prelude.{◌≡◌, ℕ, List, [], Option, IsNone, IsSome, codes, true, false}
-use Rattle.html5programs.specs.Encodings.{IsEncodingAsked, IsUnknownLabel}
+use Rattle.html5programs.specs.Encodings.{IsEncodingAsked, IsUnknownLabel, decoding_of}
 use Rattle.html5programs.specs.Filtering.{AreSettingsAsked, Making, ReadsFiles, SaysNoSettings}
 use Rattle.html5programs.specs.References.{IsTableAsked}
-use Rattle.html5programs.specs.Words.{Asked, entities_asked, files_asked, has_option, known_options, label_asked, words_asked}
+use Rattle.html5programs.specs.Words.{Asked, entities_asked, fatal_asked, files_asked, has_option, known_options, label_asked, words_asked}
 use Rattle.html5programs.specs.declared.program.Program.{Program}
 use Rattle.html5programs.specs.declared.ending.Ending.{Ending}
 use Rattle.html5programs.specs.declared.ending.Ending.TheVariants.{Done, Closed, Missed, Unprinted, NoMemory, WrongWord, WrongValue, NoTable, NoSettings}
 use Rattle.html5encodings.specs.declared.encoding.Encoding.{Encoding}
+use Rattle.html5programs.specs.declared.encoded.PageDecoding.{PageDecoding}
 use Rattle.markup5ever.specs.NamedReferences.{NamedReference}
 
 -- the status that the process ends with
@@ -66,13 +67,13 @@ pub record AsksNoSettings {T : Type 0} (file : Asked → Option (List ℕ)) (sai
   pub none : SaysNoSettings file said asked
 
 module _ {T S : Type 0} (means : Making T S) where
-  -- these files were read by a table, in an encoding and by settings, and what was written is what the filter printed of them
-  pub record PrintsFiles (references : List NamedReference) (encoding : Option Encoding) (settings : T) (files : List (List ℕ)) (unread left : Option (List ℕ)) (written : List ℕ) : Type 0 where
+  -- these files were read by a table, decoded so and by settings, and what was written is what the filter printed of them
+  pub record PrintsFiles (references : List NamedReference) (decoding : PageDecoding) (settings : T) (files : List (List ℕ)) (unread left : Option (List ℕ)) (written : List ℕ) : Type 0 where
     pub after : S
-    pub read : ReadsFiles means references encoding files unread left (means.started settings []) after
+    pub read : ReadsFiles means references decoding files unread left (means.started settings []) after
     pub printed : written ≡ means.printed after
 
-  -- those that the words ask for were, by the table, the encoding and the settings that they ask for
+  -- those that the words ask for were, by the table, the encoding and the settings that they ask for, and decoded as they ask
   pub record PrintsAsked (file : Asked → Option (List ℕ)) (said_by : Asked → Option (List ℕ) → Option T) (asked : Asked)
       (unread left : Option (List ℕ)) (written : List ℕ) : Type 0 where
     pub references : List NamedReference
@@ -81,4 +82,4 @@ module _ {T S : Type 0} (means : Making T S) where
     pub label : IsEncodingAsked (label_asked asked) encoding
     pub table : IsTableAsked (entities_asked asked) references
     pub said : AreSettingsAsked file said_by asked settings
-    pub prints : PrintsFiles references encoding settings (files_asked asked) unread left written
+    pub prints : PrintsFiles references (decoding_of (fatal_asked asked) encoding) settings (files_asked asked) unread left written

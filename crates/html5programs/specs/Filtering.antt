@@ -2,7 +2,7 @@
 use Rattle.std.specs.Prelude.{◌≡◌, ℕ, List, [], ◌∷◌, Option, None, Some, codes}
 use Rattle.std.specs.Str.{IsUtf8}
 use Rattle.html5ever_interface.specs.Sink.{Message}
-use Rattle.html5encodings.specs.declared.encoding.Encoding.{Encoding}
+use Rattle.html5programs.specs.declared.encoded.PageDecoding.{PageDecoding}
 use Rattle.html5programs.specs.Encodings.{IsTextOf}
 use Rattle.html5programs.specs.Words.{Asked}
 use Rattle.markup5ever.specs.NamedReferences.{NamedReference}
@@ -26,22 +26,22 @@ pub record Making (T S : Type 0) : Type 0 where
 abbrev pub IsInput : List ℕ → Type 0
 IsInput file = file ≡ codes "-"
 
--- how pages are read: by a table of references, and in an encoding, or in UTF-8 where there is none
-module _ {T S : Type 0} (means : Making T S) (references : List NamedReference) (encoding : Option Encoding) where
+-- how pages are read: by a table of references, and decoded so
+module _ {T S : Type 0} (means : Making T S) (references : List NamedReference) (decoding : PageDecoding) where
   -- a page was read to its end, its text is UTF-8, and the filter was handed all of its messages. The source of the page had this left
   -- before and after it.
   pub record ReadsText (unread left : Option (List ℕ)) (before after : S) : Type 0 where
     pub text : List ℕ
     pub utf8 : IsUtf8 text
     pub told : after ≡ means.handed (means.begun before) (means.page references (means.begun before) text)
-    pub whole : IsTextOf encoding unread left text
+    pub whole : IsTextOf references decoding unread left text
 
   -- a file was read so. Of standard input it is all that it had left. Which bytes another file holds no contract says.
   pub record ReadsFile (file : List ℕ) (unread left : Option (List ℕ)) (before after : S) : Type 0 where
     pub text : List ℕ
     pub utf8 : IsUtf8 text
     pub told : let start = means.begun (means.named file before) in after ≡ means.handed start (means.page references start text)
-    pub input : IsInput file → IsTextOf encoding unread left text
+    pub input : IsInput file → IsTextOf references decoding unread left text
     pub other : ¬ (IsInput file) → left ≡ unread
 
   -- and so was each of the files, one after the other

@@ -127,6 +127,10 @@ has_option option asked = is_some (value_of option asked.given)
 abbrev pub label_asked : Asked → Option (List ℕ)
 label_asked asked = value_of (codes "--encoding") asked.given
 
+-- whether bytes that are no UTF-8 are to be refused
+abbrev pub fatal_asked : Asked → Bool
+fatal_asked asked = has_option (codes "--fatal") asked
+
 -- the file of the table of named references, and that of the settings, where they are given
 abbrev pub entities_asked : Asked → Option (List ℕ)
 entities_asked asked = value_of (codes "--entities") asked.given

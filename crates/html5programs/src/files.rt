@@ -1,16 +1,15 @@
 //! Files that a filter reads, one after the other.
-ghost use Rattle.std.specs.Prelude.{◌≡◌, ◌≢◌, true, IsNone, IsOk, OnOk, map};
+ghost use Rattle.std.specs.Prelude.{◌≡◌, ◌≢◌, true, IsOk, OnOk, map};
 ghost use Rattle.html5programs.specs.Ending.{PrintsFiles};
 ghost use Rattle.html5programs.specs.Filtering.{ReadsFile, ReadsFiles};
 
-use crate::encoded::read_page;
+use crate::encoded::{PageDecoding, read_page};
 use crate::ending::Ending;
 use crate::filter::Filter;
 use crate::input::Input;
 use crate::messages::Messages;
 use crate::output::Output;
 use devices::{Logged, Printer, Target};
-use html5encodings::Encoding;
 use html5stream::StreamError;
 use markup5ever::data::NamedReferences;
 use std::alloc::Global;
@@ -63,26 +62,26 @@ fn read_file<F: Filter<W>, W: Target + Drop, R: Files + Alloc<A = Global>, I: Re
     rt: &R,
     filter: F,
     references: &NamedReferences,
-    encoding: Option<Encoding>,
+    decoding: PageDecoding,
     stdin: &mut Input<I>,
     file: &str,
 ) -> (F, Result<(), FileError>)
-    ensures file { OnOk result.1 (ReadsFile F.means references.now encoding file.now
+    ensures file { OnOk result.1 (ReadsFile F.means references.now decoding file.now
         (I.remaining stdin.old.inner) (I.remaining stdin.new.inner) (F.state filter) (F.state result.0)) }
-    ensures read { OnOk result.1 (IsNone encoding → stdin.new.failures ≡ stdin.old.failures) }
+    ensures read { OnOk result.1 (decoding ≡ PageDecoding.Utf8Alone → stdin.new.failures ≡ stdin.old.failures) }
 {
     let mut filter = filter;
     if filter.name_file(rt.alloc(), file).is_err() {
         return (filter, Err(FileError::Stream(StreamError::Memory)));
     }
     if file == "-" {
-        let (filter, read) = read_page(rt.alloc(), filter, references, encoding, stdin);
+        let (filter, read) = read_page(rt.alloc(), filter, references, decoding, stdin);
         return (filter, read_or_error(read, stdin.fault()));
     }
     match File::open(rt, file) {
         Ok(opened) => {
             let mut opened = Input::new(opened);
-            let (filter, read) = read_page(rt.alloc(), filter, references, encoding, &mut opened);
+            let (filter, read) = read_page(rt.alloc(), filter, references, decoding, &mut opened);
             (filter, read_or_error(read, opened.fault()))
         }
         Err(fault) => (filter, Err(FileError::System(fault))),
@@ -94,19 +93,19 @@ fn read_files<F: Filter<W>, W: Target + Drop, R: Files + Alloc<A = Global>, I: R
     rt: &R,
     filter: F,
     references: &NamedReferences,
-    encoding: Option<Encoding>,
+    decoding: PageDecoding,
     stdin: &mut Input<I>,
     files: &[&str],
     messages: &mut Messages<'_, E>,
 ) -> (F, Outcome)
-    ensures files { result.1 ≡ Outcome.Read → ReadsFiles F.means references.now encoding (map (λ file. file.now) files.now)
+    ensures files { result.1 ≡ Outcome.Read → ReadsFiles F.means references.now decoding (map (λ file. file.now) files.now)
         (I.remaining stdin.old.inner) (I.remaining stdin.new.inner) (F.state filter) (F.state result.0) }
-    ensures read { result.1 ≡ Outcome.Read → IsNone encoding → stdin.new.failures ≡ stdin.old.failures }
+    ensures read { result.1 ≡ Outcome.Read → decoding ≡ PageDecoding.Utf8Alone → stdin.new.failures ≡ stdin.old.failures }
 {
     let mut filter = filter;
     let mut outcome = Outcome::Read;
     for file in files {
-        let (afterwards, read) = read_file(rt, filter, references, encoding, stdin, file);
+        let (afterwards, read) = read_file(rt, filter, references, decoding, stdin, file);
         filter = afterwards;
         match read {
             Ok(()) => {}
@@ -166,7 +165,7 @@ fn say_unprinted<O: Write, E: Target>(
     }
 }
 
-/// Reads the files, in an encoding or else in UTF-8, and prints what the filter makes of them.
+/// Reads the files, decoded so, and prints what the filter makes of them.
 pub fn filter_files<
     F: Filter<Output<O>>,
     R: Files + Alloc<A = Global>,
@@ -176,21 +175,21 @@ pub fn filter_files<
 >(
     rt: &R,
     references: &NamedReferences,
-    encoding: Option<Encoding>,
+    decoding: PageDecoding,
     settings: F::Settings,
     files: &[&str],
     stdin: &mut Input<I>,
     stdout: O,
     messages: &mut Messages<'_, E>,
 ) -> (Logged<Output<O>>, Ending)
-    ensures done { result.1 ≡ Ending.Done → PrintsFiles F.means references.now encoding settings (map (λ file. file.now) files.now)
+    ensures done { result.1 ≡ Ending.Done → PrintsFiles F.means references.now decoding settings (map (λ file. file.now) files.now)
         (I.remaining stdin.old.inner) (I.remaining stdin.new.inner) result.0.taken }
     ensures closed { result.1 ≡ Ending.Closed → result.0.inner.is_closed ≡ true }
     ensures words { (result.1 ≢ Ending.WrongWord) × (result.1 ≢ Ending.NoMemory) }
 {
     let printer = Printer::new(rt.alloc(), Output::new(stdout));
     let filter = F::new(rt.alloc(), printer, settings);
-    let (filter, outcome) = read_files(rt, filter, references, encoding, stdin, files, messages);
+    let (filter, outcome) = read_files(rt, filter, references, decoding, stdin, files, messages);
     let (target, written) = filter.into_printer().finish();
     let ending = ending_of(outcome, written.is_ok(), target.inner().is_closed());
     say_unprinted(ending, target.inner(), messages);

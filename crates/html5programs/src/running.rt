@@ -6,7 +6,7 @@ ghost use Rattle.html5programs.specs.Filtering.{AreSettingsAsked, SaysNoSettings
 ghost use Rattle.html5programs.specs.Version.{version_line};
 ghost use Rattle.html5programs.specs.Words.{asked_by, label_asked};
 
-use crate::encoded::encoding_asked;
+use crate::encoded::{decoding_of, encoding_asked};
 use crate::ending::Ending;
 use crate::files::{ending_of_text, filter_files};
 use crate::filter::Filter;
@@ -109,7 +109,7 @@ fn filter_asked<
     filter_files::<F, R, I, O, E>(
         rt,
         &table,
-        encoding,
+        decoding_of(asked.has("--fatal"), encoding),
         settings,
         asked.inputs(),
         stdin,

@@ -1,5 +1,5 @@
 //! Worked cases of encodings: names and labels, byte order marks, texts of bytes that are cut anywhere,
-//! sources, a page, and refused growths. What is expected is from the Encoding Standard, by hand.
+//! sources, pages and which encoding they are in, and refused growths. What is expected is from the Encoding Standard, by hand.
 #![tactic(auto)]
 
 #[cfg(test)]
@@ -7,7 +7,11 @@ mod labels;
 #[cfg(test)]
 mod pages;
 #[cfg(test)]
+mod pages_of_bytes;
+#[cfg(test)]
 mod refused;
+#[cfg(test)]
+mod sniffing;
 #[cfg(test)]
 mod sources;
 #[cfg(test)]

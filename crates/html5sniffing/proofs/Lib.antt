@@ -1,0 +1,5 @@
+pub mod AsciiLabels
+pub mod Encodings
+pub mod FrontLemmas
+pub mod Hints
+pub mod PageTexts

@@ -1,0 +1,4 @@
+pub mod Fronts
+pub mod Meta
+pub mod PageEncoding
+pub mod Pages

@@ -1,0 +1,87 @@
+//! A source whose first bytes were read.
+ghost use Rattle.std.specs.Prelude.{◌≡◌, ◌<◌, ◌≤◌, ◌++◌, [], length, min, take};
+
+use crate::front::Front;
+use devices::Source;
+use std::io;
+use std::marker::Model;
+
+/// A source whose first bytes were read: it gives these bytes, and then the rest.
+#[derive(Drop)]
+pub struct Fronted<S> {
+    inner: S,
+    front: Front,
+    // How many bytes of the front were given.
+    given: usize,
+}
+
+impl<S> Model for Fronted<S> {
+    ghost use Rattle.std.specs.Prelude.{◌≤◌, drop, length};
+    ghost use Rattle.html5sniffing.specs.Fronts.{Fronting};
+
+    ghost Value = { Fronting S };
+
+    ghost view = { λ s. record { inner = s.inner; waiting = drop s.given s.front } };
+
+    ghost invariant = { λ s. s.given ≤ length s.front };
+}
+
+// Copies the front of bytes, as much as there is room for, and answers how many bytes that is.
+fn copy_front(from: &[u8], into: &mut [u8]) -> usize
+    ensures count { result ≡ min (length into.old) (length from.now) }
+    ensures copied { take result into.new ≡ take result from.now }
+    ensures room { length into.new ≡ length into.old }
+{
+    let count = into.len().min(from.len());
+    into[..count].copy_from_slice(&from[..count]);
+    count
+}
+
+impl<S> Fronted<S> {
+    /// The source, of which this front was read.
+    pub fn new(front: Front, inner: S) -> Fronted<S>
+        ensures inner { result.inner ≡ inner }
+        ensures waiting { result.waiting ≡ front }
+    {
+        Fronted {
+            inner,
+            front,
+            given: 0,
+        }
+    }
+
+    // Takes bytes of the front, and answers how many: none only where none wait, or there is no room.
+    fn take(&mut self, into: &mut [u8]) -> usize
+        ensures bound { result ≤ length into.new }
+        ensures taken { self.old.waiting ≡ take result into.new ++ self.new.waiting }
+        ensures none { result ≡ 0 → 0 < length into.new → self.new.waiting ≡ [] }
+        ensures inner { self.new.inner ≡ self.old.inner }
+    {
+        let count = copy_front(&self.front.bytes()[self.given..], into);
+        self.given += count;
+        count
+    }
+
+    /// The source. Bytes that were read of it and not yet given are lost.
+    pub fn into_inner(self) -> S
+        ensures { result ≡ self.inner }
+    {
+        self.inner
+    }
+}
+
+impl<S: Source> Source for Fronted<S> {
+    ghost use Rattle.std.specs.Io.KnownBytes.{prepend_known};
+
+    ghost remaining = { λ s. prepend_known s.waiting (S.remaining s.inner) };
+
+    ghost failures = { λ s. S.failures s.inner };
+
+    fn read(&mut self, buf: &mut [u8]) -> io::Result<usize> {
+        let count = self.take(buf);
+        if count > 0 || buf.is_empty() {
+            return Ok(count);
+        }
+        self.inner.read(buf)
+    }
+}

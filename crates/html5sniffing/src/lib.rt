@@ -1,0 +1,18 @@
+//! Which encoding a page is in, and pages that are read by it.
+#![tactic(auto)]
+
+mod front;
+mod fronted;
+mod lent;
+mod meta;
+mod opening;
+mod page;
+mod page_encoding;
+
+pub use crate::front::{FRONT_LEN, Front};
+pub use crate::fronted::Fronted;
+pub use crate::lent::Lent;
+pub use crate::meta::meta_encoding;
+pub use crate::opening::{Opening, open_page};
+pub use crate::page::{read_tags_of_bytes, read_tokens_of_bytes};
+pub use crate::page_encoding::sniff;
