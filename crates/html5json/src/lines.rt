@@ -25,11 +25,7 @@ fn ended<A: Allocator>(writer: Writer<A>) -> Result<Vec<u8, A>, AllocError>
 }
 
 // The line of a run of text, where there is one.
-fn run_line<A: Allocator>(
-    alloc: A,
-    file: Option<&str>,
-    run: &str,
-) -> Result<Vec<u8, A>, AllocError>
+fn run_line<A: Allocator>(alloc: A, file: Option<&str>, run: &str) -> Result<Vec<u8, A>, AllocError>
     ensures { IfOk result (λ lines. lines.items ≡ run_line (option_map (λ name. name.now) file.entry) run.now) }
 {
     let lines = Vec::new(alloc);
