@@ -31,7 +31,7 @@ CASES = [
     (["links", "page", "--format", "j"], ["json"]),
     (["links", "--base", "h"], []),
     (["links", "--", "--f"], []),
-    (["links", "--policy", "--f"], ["--format"]),
+    (["links", "--policy", "--f"], ["--fatal", "--format"]),
 ]
 
 BASH = """\

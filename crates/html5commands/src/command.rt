@@ -33,6 +33,11 @@ const ENCODING: Choice<'static> = Choice {
     takes_word: true,
 };
 
+const FATAL: Choice<'static> = Choice {
+    name: "--fatal",
+    takes_word: false,
+};
+
 const ENTITIES: Choice<'static> = Choice {
     name: "--entities",
     takes_word: true,
@@ -78,12 +83,13 @@ const PRINT_POLICY: Choice<'static> = Choice {
     takes_word: false,
 };
 
-static READING: [Choice<'static>; 4] = [HELP, VERSION, ENCODING, ENTITIES];
+static READING: [Choice<'static>; 5] = [HELP, VERSION, ENCODING, FATAL, ENTITIES];
 
-static FORMATTING: [Choice<'static>; 9] = [
+static FORMATTING: [Choice<'static>; 10] = [
     HELP,
     VERSION,
     ENCODING,
+    FATAL,
     ENTITIES,
     FORMAT,
     NAMES,
@@ -92,10 +98,11 @@ static FORMATTING: [Choice<'static>; 9] = [
     NO_NAMES_LONG,
 ];
 
-static LINKING: [Choice<'static>; 10] = [
+static LINKING: [Choice<'static>; 11] = [
     HELP,
     VERSION,
     ENCODING,
+    FATAL,
     ENTITIES,
     FORMAT,
     NAMES,
@@ -105,7 +112,15 @@ static LINKING: [Choice<'static>; 10] = [
     BASE,
 ];
 
-static CLEANING: [Choice<'static>; 6] = [HELP, VERSION, ENCODING, ENTITIES, POLICY, PRINT_POLICY];
+static CLEANING: [Choice<'static>; 7] = [
+    HELP,
+    VERSION,
+    ENCODING,
+    FATAL,
+    ENTITIES,
+    POLICY,
+    PRINT_POLICY,
+];
 
 /// The command of this name.
 #[tactic(auto, unfolding(crate::specs::Commands::command_of))]
