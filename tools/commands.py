@@ -186,7 +186,7 @@ def of_many_files(folder):
     (folder / "199.html").write_bytes(b"\xff")
     printed = "".join(f"1 {name}\n" for name in names if name not in bad)
     said = "".join(f"firnuubal: {name}: {bad[name]}\n" for name in names if name in bad)
-    yield fault("200 files", run(folder, ["firnuubal", "links", *names]), printed, said, 1)
+    yield fault("200 files", run(folder, ["firnuubal", "links", "--fatal", *names]), printed, said, 1)
 
 
 def of_long_pages(folder):

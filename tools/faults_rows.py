@@ -75,8 +75,9 @@ UNPRINTED = said("output", "can't be printed")
 
 
 def of_page(whole):
-    """How it ends for want of memory for a page, or for what is printed of it."""
-    return (End(said("-"), 1, whole), End(UNPRINTED, 1, whole))
+    """How it ends for want of memory for a page, for decoding it, or for what is printed of it."""
+    # A decoder that wants for memory is a source of which a read fails.
+    return (End(said("-"), 1, whole), End(said("-", "a read failed"), 1, whole), End(UNPRINTED, 1, whole))
 
 
 def of_policy(name, *lines):
@@ -99,9 +100,7 @@ def filters():
     text = "a\u2603bd"
     yield by_own(["text"], b"a&own;<p>b<script>c</script>d", text, *of_page(text))
     text = "a\u65e5b"
-    # A decoder that wants for memory is a source of which a read fails.
-    ends = (End(said("-", "a read failed"), 1, text), *of_page(text))
-    yield by_own(["text", "--encoding", "shift_jis"], b"a\x93\xfa<p>b", text, *ends)
+    yield by_own(["text", "--encoding", "shift_jis"], b"a\x93\xfa<p>b", text, *of_page(text))
     kept = '<p title="\u2603">a &#60; b<a href="x">c</a></p>'
     page = b'<p title="&own;" onclick=x>a < b<a href=x>c</a><script>d'
     yield by_own(["clean"], page, kept, NO_SETTINGS, *of_page(kept))
@@ -172,12 +171,14 @@ def refused():
 # Pages for firnuubal, what is printed of each, and what of that after so many bytes. A text is told as it comes, and its
 # line is closed by the next token; the last run of text ends at the end of the page; a tag brings the text in front of it.
 LINES = 'start 1 "p"\ntext "a'
+# A page whose encoding is to be found tells nothing where its first bytes can't be read.
 PAGES = [
-    (["tokens"], b"<p>a", LINES + '"\neof 1\n', [(0, ""), (3, 'start 1 "p"\n'), (4, LINES)]),
-    (["links"], b"<a href=x>y<a href=z>", "1 x\n1 z\n", [(0, ""), (10, "1 x\n"), (21, "1 x\n1 z\n")]),
-    (["text"], b"a<p>bc", "abc", [(0, ""), (4, "a")]),
-    (["text", "--encoding", "latin1"], b"a<p>b\xe9", "ab\u00e9", [(0, ""), (4, "a")]),
-    (["clean"], b"<p>a<b x>c", "<p>a<b>c</b></p>", [(0, ""), (3, "<p>"), (9, "<p>a<b>")]),
+    (["text"], b"a<p>bc", "abc", [(0, ""), (4, "")]),
+    (["tokens", "--fatal"], b"<p>a", LINES + '"\neof 1\n', [(0, ""), (3, 'start 1 "p"\n'), (4, LINES)]),
+    (["links", "--fatal"], b"<a href=x>y<a href=z>", "1 x\n1 z\n", [(0, ""), (10, "1 x\n"), (21, "1 x\n1 z\n")]),
+    (["text", "--fatal"], b"a<p>bc", "abc", [(0, ""), (4, "a")]),
+    (["text", "--encoding", "latin1"], b"a<p>b\xe9", "ab\u00e9", [(0, ""), (4, "")]),
+    (["clean", "--fatal"], b"<p>a<b x>c", "<p>a<b>c</b></p>", [(0, ""), (3, "<p>"), (9, "<p>a<b>")]),
 ]
 
 

@@ -18,7 +18,7 @@ pub enum Command {
     Clean,
 }
 
-static READING: [Choice<'static>; 4] = [
+static READING: [Choice<'static>; 5] = [
     Choice {
         name: "--help",
         takes_word: false,
@@ -30,6 +30,10 @@ static READING: [Choice<'static>; 4] = [
     Choice {
         name: "--encoding",
         takes_word: true,
+    },
+    Choice {
+        name: "--fatal",
+        takes_word: false,
     },
     Choice {
         name: "--entities",
@@ -37,7 +41,7 @@ static READING: [Choice<'static>; 4] = [
     },
 ];
 
-static FORMATTING: [Choice<'static>; 5] = [
+static FORMATTING: [Choice<'static>; 6] = [
     Choice {
         name: "--help",
         takes_word: false,
@@ -49,6 +53,10 @@ static FORMATTING: [Choice<'static>; 5] = [
     Choice {
         name: "--encoding",
         takes_word: true,
+    },
+    Choice {
+        name: "--fatal",
+        takes_word: false,
     },
     Choice {
         name: "--entities",
@@ -60,7 +68,7 @@ static FORMATTING: [Choice<'static>; 5] = [
     },
 ];
 
-static CLEANING: [Choice<'static>; 6] = [
+static CLEANING: [Choice<'static>; 7] = [
     Choice {
         name: "--help",
         takes_word: false,
@@ -72,6 +80,10 @@ static CLEANING: [Choice<'static>; 6] = [
     Choice {
         name: "--encoding",
         takes_word: true,
+    },
+    Choice {
+        name: "--fatal",
+        takes_word: false,
     },
     Choice {
         name: "--entities",

@@ -27,10 +27,15 @@ that the tokenizer has reached, and what it holds. Parse errors have lines of th
   Example: firnuubal tokens page.html
 
 Without a FILE, or where it is -, standard input is read. After -- all words are files.
-  --encoding LABEL the encoding of the pages, where it isn't UTF-8: a label of the Encoding
-                   Standard, as windows-1252, shift_jis or utf-16le. Bytes that are none of it
-                   are read as U+FFFD, by utf-8 too. What is printed is UTF-8
+  --encoding LABEL the encoding that is said of the pages, as by a server: a label of the
+                   Encoding Standard, as windows-1252, shift_jis or utf-16le. A byte order mark
+                   decides before it. Where it isn't given, a <meta charset=..> in a page's first
+                   1,024 bytes decides, or else whether these are UTF-8; pages that are not are
+                   windows-1252. Bytes that are none of a page's encoding are read as U+FFFD.
+                   What is printed is UTF-8
                    Example: firnuubal tokens --encoding shift_jis page.html
+  --fatal          pages are UTF-8, whatever else is said, and end where their bytes are none
+                   Example: firnuubal tokens --fatal page.html
   --entities FILE  the named character references, in place of the standard's 2,231: an entry
                    a line, or joined by commas, each NAME=HEX or NAME=HEX+HEX
                    Example: firnuubal tokens --entities names.txt page.html
@@ -50,10 +55,15 @@ script and iframe, as they are written: <base> is neglected.
   Example: firnuubal links page.html
 
 Without a FILE, or where it is -, standard input is read. After -- all words are files.
-  --encoding LABEL the encoding of the pages, where it isn't UTF-8: a label of the Encoding
-                   Standard, as windows-1252, shift_jis or utf-16le. Bytes that are none of it
-                   are read as U+FFFD, by utf-8 too. What is printed is UTF-8
+  --encoding LABEL the encoding that is said of the pages, as by a server: a label of the
+                   Encoding Standard, as windows-1252, shift_jis or utf-16le. A byte order mark
+                   decides before it. Where it isn't given, a <meta charset=..> in a page's first
+                   1,024 bytes decides, or else whether these are UTF-8; pages that are not are
+                   windows-1252. Bytes that are none of a page's encoding are read as U+FFFD.
+                   What is printed is UTF-8
                    Example: firnuubal links --encoding shift_jis page.html
+  --fatal          pages are UTF-8, whatever else is said, and end where their bytes are none
+                   Example: firnuubal links --fatal page.html
   --entities FILE  the named character references, in place of the standard's 2,231: an entry
                    a line, or joined by commas, each NAME=HEX or NAME=HEX+HEX
                    Example: firnuubal links --entities names.txt page.html
@@ -72,10 +82,15 @@ scripts and styles.
   Example: firnuubal text page.html
 
 Without a FILE, or where it is -, standard input is read. After -- all words are files.
-  --encoding LABEL the encoding of the pages, where it isn't UTF-8: a label of the Encoding
-                   Standard, as windows-1252, shift_jis or utf-16le. Bytes that are none of it
-                   are read as U+FFFD, by utf-8 too. What is printed is UTF-8
+  --encoding LABEL the encoding that is said of the pages, as by a server: a label of the
+                   Encoding Standard, as windows-1252, shift_jis or utf-16le. A byte order mark
+                   decides before it. Where it isn't given, a <meta charset=..> in a page's first
+                   1,024 bytes decides, or else whether these are UTF-8; pages that are not are
+                   windows-1252. Bytes that are none of a page's encoding are read as U+FFFD.
+                   What is printed is UTF-8
                    Example: firnuubal text --encoding shift_jis page.html
+  --fatal          pages are UTF-8, whatever else is said, and end where their bytes are none
+                   Example: firnuubal text --fatal page.html
   --entities FILE  the named character references, in place of the standard's 2,231: an entry
                    a line, or joined by commas, each NAME=HEX or NAME=HEX+HEX
                    Example: firnuubal text --entities names.txt page.html
@@ -107,10 +122,15 @@ Without a FILE, or where it is -, standard input is read. After -- all words are
                    Example: firnuubal clean --policy policy.txt page.html
   --print-policy   the standard policy, to begin one's own from
                    Example: firnuubal clean --print-policy > policy.txt
-  --encoding LABEL the encoding of the pages, where it isn't UTF-8: a label of the Encoding
-                   Standard, as windows-1252, shift_jis or utf-16le. Bytes that are none of it
-                   are read as U+FFFD, by utf-8 too. What is printed is UTF-8
+  --encoding LABEL the encoding that is said of the pages, as by a server: a label of the
+                   Encoding Standard, as windows-1252, shift_jis or utf-16le. A byte order mark
+                   decides before it. Where it isn't given, a <meta charset=..> in a page's first
+                   1,024 bytes decides, or else whether these are UTF-8; pages that are not are
+                   windows-1252. Bytes that are none of a page's encoding are read as U+FFFD.
+                   What is printed is UTF-8
                    Example: firnuubal clean --encoding shift_jis page.html
+  --fatal          pages are UTF-8, whatever else is said, and end where their bytes are none
+                   Example: firnuubal clean --fatal page.html
   --entities FILE  the named character references, in place of the standard's 2,231: an entry
                    a line, or joined by commas, each NAME=HEX or NAME=HEX+HEX
                    Example: firnuubal clean --entities names.txt page.html
