@@ -57,6 +57,8 @@ class Row(NamedTuple):
     # Where a read of a byte fails, and how it does.
     failing: tuple = ()
     error: int = FAILED
+    # How many reads find the end.
+    at_end: int = 1
     # Where a write of a byte fails: how, what is said then and the status, and which writes, if not each.
     refusals: tuple = ()
     writes: tuple = ()
@@ -74,10 +76,13 @@ NO_SETTINGS = End(said("settings"), 2)
 UNPRINTED = said("output", "can't be printed")
 
 
+# A decoder that wants for memory is a source of which a read fails.
+UNDECODED = "a read failed"
+
+
 def of_page(whole):
     """How it ends for want of memory for a page, for decoding it, or for what is printed of it."""
-    # A decoder that wants for memory is a source of which a read fails.
-    return (End(said("-"), 1, whole), End(said("-", "a read failed"), 1, whole), End(UNPRINTED, 1, whole))
+    return (End(said("-"), 1, whole), End(said("-", UNDECODED), 1, whole), End(UNPRINTED, 1, whole))
 
 
 def of_policy(name, *lines):
@@ -127,12 +132,14 @@ def filters():
 def messages():
     """Files of which one is missing, and words that ask for no page."""
     first, second = "1\u26032", "4"
-    ends = [End(said("first"), 1, first, after=second), End(said("second"), 1, second, before=first)]
-    yield by_own(["text", "first", "second"], b"", first + second, *ends, End(UNPRINTED, 1, first + second))
+    ends = [End(UNPRINTED, 1, first + second)]
+    for why in ("out of memory", UNDECODED):
+        ends += [End(said("first", why), 1, first, after=second), End(said("second", why), 1, second, before=first)]
+    yield by_own(["text", "first", "second"], b"", first + second, *ends)
     missing = said("missing", MISSING)
     line = "-:1 x\n"
     ends = [End("", 1, before=line), End(said("missing"), 1, before=line)]
-    ends += [End(missing + said("-"), 1, line), End(missing + UNPRINTED, 1, line)]
+    ends += [End(missing + why, 1, line) for why in (said("-"), said("-", UNDECODED), UNPRINTED)]
     yield by_own(["links", "missing", "-"], b"<a href=x>", line, *ends)._replace(said=missing, status=1)
     like = said("--entites", "no such option; did you mean --entities?")
     ends = (NO_WORDS, End(said("--entites", "no such option; try --help"), 2), End("", 2))
@@ -182,13 +189,14 @@ def refused():
 # Pages for firnuubal, what is printed of each, and what of that after so many bytes. A text is told as it comes, and its
 # line is closed by the next token; the last run of text ends at the end of the page; a tag brings the text in front of it.
 LINES = 'start 1 "p"\ntext "a'
-# A page whose encoding is to be found tells nothing where its first bytes can't be read.
+# A page whose encoding is to be found tells nothing where its first bytes can't be read: of these that is the whole page,
+# and its end, which is read again once they are told.
 PAGES = [
-    (["text"], b"a<p>bc", "abc", [(0, ""), (4, "")]),
+    (["text"], b"a<p>bc", "abc", [(0, ""), (7, "a")]),
     (["tokens", "--fatal"], b"<p>a", LINES + '"\neof 1\n', [(0, ""), (3, 'start 1 "p"\n'), (4, LINES)]),
     (["links", "--fatal"], b"<a href=x>y<a href=z>", "1 x\n1 z\n", [(0, ""), (10, "1 x\n"), (21, "1 x\n1 z\n")]),
     (["text", "--fatal"], b"a<p>bc", "abc", [(0, ""), (4, "a")]),
-    (["text", "--encoding", "latin1"], b"a<p>b\xe9", "ab\u00e9", [(0, ""), (4, "")]),
+    (["text", "--encoding", "latin1"], b"a<p>b\xe9", "ab\u00e9", [(0, ""), (7, "a")]),
     (["clean", "--fatal"], b"<p>a<b x>c", "<p>a<b>c</b></p>", [(0, ""), (3, "<p>"), (9, "<p>a<b>")]),
 ]
 
@@ -197,7 +205,7 @@ def failing_reads():
     """Where a read fails."""
     for command, given, printed, after in PAGES:
         failing = tuple(Failing(reads, text, said("-", WHY_FAILED), 1) for reads, text in after)
-        yield Row(["firnuubal", *command], given, printed, failing=failing)
+        yield Row(["firnuubal", *command], given, printed, failing=failing, at_end=1 if "--fatal" in command else 2)
     yield Row(["firnuubal", "links", "--wrong"], b"a", "", said("--wrong", "no such option; try --help"), 2)
     for words, given, lines in [(PLAIN, MIXED, MIXED_LINES), (["html5tok"], META, META_LINES)]:
         yield Row(words, given, lines, failing=(Failing(0, "", UNREAD, 6),))
