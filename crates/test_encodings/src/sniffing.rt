@@ -1,117 +1,162 @@
 //! Which encoding a page is in, by its first bytes.
-use html5encodings::Encoding;
+use html5encodings::{Encoding, SingleByte};
 use html5sniffing::sniff;
 use markup5ever::data::NamedReferences;
 use testing_alloc::Refusing;
 
+// What is said of a page, or its fallback.
+const NONE: Option<Encoding> = None;
+
+const KOI8_R: Option<Encoding> = Some(Encoding::SingleByte(SingleByte::Koi8R));
+
+const WINDOWS_1251: Option<Encoding> = Some(Encoding::SingleByte(SingleByte::Windows1251));
+
+const UTF_8: Option<Encoding> = Some(Encoding::Utf8);
+
+const GBK: Option<Encoding> = Some(Encoding::Gbk);
+
+const BIG5: Option<Encoding> = Some(Encoding::Big5);
+
+const UTF_16: Option<Encoding> = Some(Encoding::Utf16Le);
+
 // A page, what is said of it, the fallback, and the name of its encoding.
-const PAGES: [(&[u8], &str, &str, &str); 38] = [
-    (b"", "", "", "UTF-8"),
-    (b"plain", "", "", "UTF-8"),
-    (b"caf\xc3\xa9", "", "", "UTF-8"),
-    (b"caf\xe9", "", "", "windows-1252"),
-    (b"caf\xe9", "koi8-r", "", "KOI8-R"),
-    (b"caf\xe9", "", "windows-1251", "windows-1251"),
-    (b"plain", "", "windows-1251", "windows-1251"),
+const PAGES: [(&[u8], Option<Encoding>, Option<Encoding>, &str); 38] = [
+    (b"", NONE, NONE, "UTF-8"),
+    (b"plain", NONE, NONE, "UTF-8"),
+    (b"caf\xc3\xa9", NONE, NONE, "UTF-8"),
+    (b"caf\xe9", NONE, NONE, "windows-1252"),
+    (b"caf\xe9", KOI8_R, NONE, "KOI8-R"),
+    (b"caf\xe9", NONE, WINDOWS_1251, "windows-1251"),
+    (b"plain", NONE, WINDOWS_1251, "windows-1251"),
     // Hints.
-    (b"<meta charset=iso-8859-2>caf\xe9", "", "", "ISO-8859-2"),
-    (b"caf\xe9<meta charset=iso-8859-2>", "", "", "ISO-8859-2"),
     (
-        b"<meta charset=iso-8859-2>",
-        "",
-        "windows-1251",
+        b"<meta charset=iso-8859-2>caf\xe9",
+        NONE,
+        NONE,
         "ISO-8859-2",
     ),
-    (b"<meta charset=iso-8859-2>", "utf-8", "", "UTF-8"),
-    (b"<META CHARSET='\t Shift_JIS \n'>", "", "", "Shift_JIS"),
-    (b"<meta charset=no-such><meta charset=gbk>", "", "", "GBK"),
-    (b"<meta charset=koi8-r><meta charset=gbk>", "", "", "KOI8-R"),
-    (b"<meta charset=koi8-r", "", "", "UTF-8"),
+    (
+        b"caf\xe9<meta charset=iso-8859-2>",
+        NONE,
+        NONE,
+        "ISO-8859-2",
+    ),
+    (
+        b"<meta charset=iso-8859-2>",
+        NONE,
+        WINDOWS_1251,
+        "ISO-8859-2",
+    ),
+    (b"<meta charset=iso-8859-2>", UTF_8, NONE, "UTF-8"),
+    (b"<META CHARSET='\t Shift_JIS \n'>", NONE, NONE, "Shift_JIS"),
+    (
+        b"<meta charset=no-such><meta charset=gbk>",
+        NONE,
+        NONE,
+        "GBK",
+    ),
+    (
+        b"<meta charset=koi8-r><meta charset=gbk>",
+        NONE,
+        NONE,
+        "KOI8-R",
+    ),
+    (b"<meta charset=koi8-r", NONE, NONE, "UTF-8"),
     (
         b"</meta charset=koi8-r><metal charset=gbk>",
-        "",
-        "",
+        NONE,
+        NONE,
         "UTF-8",
     ),
-    (b"<meta charset=utf-16>", "", "windows-1251", "UTF-8"),
-    (b"<meta charset=utf-16be>caf\xe9", "", "", "UTF-8"),
-    (b"<meta charset=x-user-defined>", "", "", "windows-1252"),
-    (b"<!-- <meta charset=koi8-r> --><p>", "", "", "UTF-8"),
-    (b"<script><meta charset=koi8-r></script>", "", "", "UTF-8"),
-    (b"<title><meta charset=koi8-r></title>", "", "", "UTF-8"),
-    (b"<title>x</title><meta charset=koi8-r>", "", "", "KOI8-R"),
+    (b"<meta charset=utf-16>", NONE, WINDOWS_1251, "UTF-8"),
+    (b"<meta charset=utf-16be>caf\xe9", NONE, NONE, "UTF-8"),
+    (b"<meta charset=x-user-defined>", NONE, NONE, "windows-1252"),
+    (b"<!-- <meta charset=koi8-r> --><p>", NONE, NONE, "UTF-8"),
+    (
+        b"<script><meta charset=koi8-r></script>",
+        NONE,
+        NONE,
+        "UTF-8",
+    ),
+    (b"<title><meta charset=koi8-r></title>", NONE, NONE, "UTF-8"),
+    (
+        b"<title>x</title><meta charset=koi8-r>",
+        NONE,
+        NONE,
+        "KOI8-R",
+    ),
     // Hints in `content`.
     (
         b"<meta http-equiv=content-type content='text/html; charset=euc-kr'>",
-        "",
-        "",
+        NONE,
+        NONE,
         "EUC-KR",
     ),
     (
         b"<meta content='a;CharSet =\n\"big5\"x' http-equiv=Content-Type>",
-        "",
-        "",
+        NONE,
+        NONE,
         "Big5",
     ),
     (
         b"<meta http-equiv=content-type content='charset=gbk;x'>",
-        "",
-        "",
+        NONE,
+        NONE,
         "GBK",
     ),
     (
         b"<meta http-equiv=content-type content='charset charset= gbk x'>",
-        "",
-        "",
+        NONE,
+        NONE,
         "GBK",
     ),
     (
         b"<meta http-equiv=content-type content='charsetcharset=gbk'>",
-        "",
-        "",
+        NONE,
+        NONE,
         "GBK",
     ),
     (
         b"<meta http-equiv=content-type content='charset=\"gbk'>",
-        "",
-        "",
+        NONE,
+        NONE,
         "UTF-8",
     ),
     (
         b"<meta http-equiv=content-type content='charset='>",
-        "",
-        "",
+        NONE,
+        NONE,
         "UTF-8",
     ),
     (
         b"<meta http-equiv=content-type content='chars\xe9t=gbk'>",
-        "",
-        "utf-8",
+        NONE,
+        UTF_8,
         "UTF-8",
     ),
     (
         b"<meta http-equiv=content-type content='charset=\xc3\xa9'>",
-        "",
-        "",
+        NONE,
+        NONE,
         "UTF-8",
     ),
     (
         b"<meta http-equiv=refresh content='charset=gbk'>",
-        "",
-        "",
+        NONE,
+        NONE,
         "UTF-8",
     ),
     (
         b"<meta charset=no-such http-equiv=content-type content='charset=gbk'>",
-        "",
-        "",
+        NONE,
+        NONE,
         "GBK",
     ),
     // Byte order marks, and UTF-16 without one.
-    (b"\xef\xbb\xbf<meta charset=koi8-r>", "gbk", "big5", "UTF-8"),
-    (b"\xfe\xff\0<", "gbk", "", "UTF-16BE"),
-    (b"\xff\xfe<\0", "gbk", "", "UTF-16LE"),
-    (b"<meta charset=koi8-r>", "", "utf-16", "UTF-16LE"),
+    (b"\xef\xbb\xbf<meta charset=koi8-r>", GBK, BIG5, "UTF-8"),
+    (b"\xfe\xff\0<", GBK, NONE, "UTF-16BE"),
+    (b"\xff\xfe<\0", GBK, NONE, "UTF-16LE"),
+    (b"<meta charset=koi8-r>", NONE, UTF_16, "UTF-16LE"),
 ];
 
 // The encoding of a label, or none of an empty one.
@@ -124,7 +169,7 @@ fn encodings_of_pages(rt: HostRuntime) {
     let alloc = rt.alloc();
     let references = NamedReferences::check(alloc, Vec::new(alloc)).expect(&rt, "a table");
     for (page, said, fallback, name) in PAGES {
-        let encoding = sniff(alloc, &references, page, named(said), named(fallback));
+        let encoding = sniff(alloc, &references, page, said, fallback);
         assert_eq!(rt; encoding.expect(&rt, "memory").name(), name, "{page:?}");
     }
 }
