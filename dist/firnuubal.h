@@ -8,10 +8,10 @@
 #define FIRNUUBAL_H
 
 /* The version of the library, of this header and of the readers. */
-#define FIRNUUBAL_VERSION "0.5.0"
+#define FIRNUUBAL_VERSION "0.6.0"
 
 /* The same as a number, its three numbers a byte each. `html5_version` says it of the library that is linked. */
-#define FIRNUUBAL_VERSION_NUMBER 0x000500
+#define FIRNUUBAL_VERSION_NUMBER 0x000600
 
 #include <stdbool.h>
 #include <stddef.h>
@@ -139,10 +139,10 @@ html5_status html5_set_foreign(html5_handle *handle, bool foreign);
 
 /*
  * Sets how many bytes the handle may hold, of a tokenizer or of a cleaner: what was fed since all was read and no tag or
- * other item was open, and what waits to be taken. Before it is set there is no limit. A piece that goes past it is not
- * taken: a feed or an insert answers HTML5_LIMIT, just then, and nothing changes. What else is held is some multiple of that
- * and of what the last piece made. A cleaner also holds the text that no tag has ended yet, and the names of the elements
- * that are open, by a policy with the rule `tree` or `balance`: these are not counted.
+ * other item was open, and what waits to be taken; of a cleaner also the text that no tag has ended yet. Before it is set
+ * there is no limit. A piece that goes past it is not taken: a feed or an insert answers HTML5_LIMIT, just then, and
+ * nothing changes. What else is held is some multiple of that and of what the last piece made. By a policy with the rule
+ * `tree` or `balance` a cleaner also holds the names of the elements that are open, which are not counted.
  */
 html5_status html5_set_limit(html5_handle *handle, uint64_t limit);
 
