@@ -118,8 +118,9 @@ pub fn tree_of_cleaned_page<S: TokenSink<Token<A>>, A: Allocator>()
 }
 
 /// Such a page that is put into a host, wherever it is read in Data (`cleaned_part` says what it tells there): where it
-/// suits the host (`suits`), it is built in place, as its pieces are nested (`in_place`), and leaves the host as it
-/// was (`back`). Each page suits a flow host, such as a `div` or a cell (`html5tree::laws::flow_hosts`).
+/// suits the host (`suits`), it is built in place, as its pieces are nested (`in_place`), and leaves the host's open
+/// elements, insertion mode, form element pointer and foster parenting as they were (`back`). Each page suits a flow
+/// host, such as a `div` or a cell (`html5tree::laws::flow_hosts`).
 pub fn cleaned_page_in_host()
     ensures in_place { (policy : PolicyOf) (references : List NamedReference) (text : List ℕ) (exact : Bool) (input : Input)
         (fresh : Bool) (p : Parser) (path : Path) → policy.tree ≡ true → IsHost p path
@@ -137,10 +138,11 @@ pub fn cleaned_page_in_host()
 }
 
 /// What the rule `tree` leaves out of what the same policy keeps without it, and what it adds (`Keeps`, of html5tree): all
-/// text is kept, and each start tag with its attributes, in their order, but for parts of tables that stand in no table
-/// and forms in forms or among parts; end tags come and go, and implied parents are added. That is so where nowhere
-/// more elements would be open than the policy's depth, if any number could be, such as eight for each piece (`all`).
-/// Of any page a start tag may be left out, too, and of its text what is no white space (`some`).
+/// text is kept, and each start tag with its attributes, in their order, but for parts of tables and forms, which may be
+/// left out (`html5tree::laws::normal_item` says where); end tags come and go, and start tags of `tbody`, `tr`,
+/// `colgroup`, `td`, `p` and `br` are added, without attributes. That is so where nowhere more elements would be open than
+/// the policy's depth, if any number could be, such as eight for each piece (`all`). Of any page a start tag may be left
+/// out, too, and of its text what is no white space (`some`).
 pub fn kept_in_tree()
     ensures all { (policy : PolicyOf) (references : List NamedReference) (text : List ℕ) (more : ℕ) → policy.tree ≡ true
         → policy.depth ≤ more → 8 * length (items_of (kept_of_page (without_tree policy) references text)) ≤ more

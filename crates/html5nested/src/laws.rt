@@ -45,8 +45,8 @@ pub fn tree_of_written_page<S: TokenSink<Token<A>>, A: Allocator>()
 
 /// The same of a part of a page, wherever it is put in Data (`html5write::laws::all_pieces` says what it tells
 /// there), and whatever is open there: in a host (`IsHost`) its items are built in place, if they fit above the
-/// open elements and close all that they open, and nothing else (`in_place`). The host is afterwards what it was
-/// (`back`).
+/// open elements and close all that they open, and nothing else (`in_place`). Its open elements, insertion mode, form
+/// element pointer and foster parenting are afterwards what they were (`back`).
 pub fn tree_of_written_part()
     ensures items { (exact : Bool) (input : Input) (pieces : List pieces.Piece)
         → whole_texts (items_told (proper (pieces_messages exact input pieces))) ≡ whole_texts (items_of pieces) }

@@ -9,6 +9,7 @@ pub mod Built
 pub mod Normalising
 pub mod Bounds
 pub mod Keeping
+pub mod Placing
 pub mod Room
 pub mod CodePlans
 pub mod Moved

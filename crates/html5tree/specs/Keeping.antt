@@ -1,12 +1,14 @@
 -- What the normaliser keeps of items, and what it adds: their texts, and their start tags with all attributes. End tags come and go.
-use Rattle.std.specs.Prelude.{◌≡◌, ℕ, Bool, true, false, not, List, [], ◌∷◌, ◌&&◌, ◌||◌, codes, flat_map}
+use Rattle.std.specs.Prelude.{◌≡◌, ℕ, Bool, true, false, not, List, [], ◌∷◌, ◌++◌, ◌&&◌, ◌||◌, codes, flat_map, if◌then◌else◌}
 use Rattle.std.specs.List.{list_any}
 use Rattle.html5tree.specs.declared.kinds.Kind.{Kind}
 use Rattle.html5tree.specs.declared.kinds.Kind.TheVariants.{Form, Unknown}
-use Rattle.html5tree.specs.Fitting.{is_space}
+use Rattle.html5tree.specs.Fitting.{holds_parts, is_space}
 use Rattle.html5tree.specs.Items.{Attribute, Item}
-use Rattle.html5tree.specs.Items.Item.{StartTag, EndTag, Text}
-use Rattle.html5tree.specs.Names.{is_part, kind_of, named}
+use Rattle.html5tree.specs.Items.Item.{StartTag, Text}
+use Rattle.html5tree.specs.Names.{is_form, is_part, kind_of, named, no_kind, of_kind}
+use Rattle.html5tree.specs.Normal.{is_context}
+use Rattle.html5tree.specs.Scopes.{kind_on_top, near}
 
 -- the second list is the first without some of its elements, all of which may be left out
 pub data IsWithout {X : Type 0} (may : X → Bool) : List X → List X → Type 0 where
@@ -49,14 +51,25 @@ may_be_added other = false
 
 -- ---- what is left out
 
--- A part of a table stands in a table alone, and a form in no other form and in no place for parts; elements of other names than the 94
--- stand nowhere.
+-- Whether a start tag has a place above these open elements. A part of a table has one where an element is open that holds it, or does so by
+-- implied parents; a form where no form is open, but not straight among parts; a tag of another name than the 94 nowhere.
+abbrev pub has_place : Kind → List (List ℕ) → Bool
+has_place Unknown stack = false
+has_place Form stack = not (holds_parts (kind_on_top stack)) && not (near (of_kind is_form) no_kind stack)
+has_place kind stack = if is_part kind then near (of_kind (is_context kind)) no_kind stack else true
+
+-- the last of some items
+pub record EndsWith (items : List Item) (last : Item) : Type 0 where
+  pub before : List Item
+  pub whole : items ≡ before ++ last ∷ []
+
+-- the kinds that have no place somewhere
 abbrev pub wants_place : Kind → Bool
 wants_place Form = true
 wants_place Unknown = true
 wants_place kind = is_part kind
 
--- where enough elements may be open, a start tag is left out for this alone; else also where its element would be too deep
+-- where enough elements may be open, a start tag of these kinds alone may be left out; else also one whose element would be too deep
 abbrev pub may_leave_out : Bool → Item → Bool
 may_leave_out enough (StartTag name attributes) = not enough || wants_place (kind_of name)
 may_leave_out enough other = false

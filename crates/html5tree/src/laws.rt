@@ -7,7 +7,7 @@ ghost use Rattle.html5tree.specs.Items.{Attribute, Item, balanced, keeps_newline
 ghost use Rattle.html5tree.specs.declared.kinds.Kind.{Kind};
 ghost use Rattle.html5tree.specs.declared.kinds.Kind.TheVariants.{Anchor, ListItem, Paragraph, Unknown};
 ghost use Rattle.html5tree.specs.Items.Item.{EndTag, StartTag};
-ghost use Rattle.html5tree.specs.Keeping.{Keeps};
+ghost use Rattle.html5tree.specs.Keeping.{EndsWith, Keeps, has_place};
 ghost use Rattle.html5tree.specs.Names.{has_marker, is_anchor, is_form, is_list_item, kind_of, no_kind};
 ghost use Rattle.html5tree.specs.Normal.{IsReady, fitted, normal, open_after_fitted, stays_within};
 ghost use Rattle.html5tree.specs.Page.{names};
@@ -116,11 +116,11 @@ pub fn normal_items()
 {}
 
 /// What the normaliser keeps of items, and what it adds (`Keeps`, specs/Keeping). All text is kept, and each start tag
-/// with its attributes, in their order; end tags come and go. Left out are the parts of a table that stand in no
-/// table, a form in a form or among parts, and tags of other names than the 94. Added are the start tags of implied
-/// parents and of the cell for what is no part, `<p>` for `</p>` alone and `<br>` for `</br>`. That is so where eight
-/// elements may be open for each item (`all`). Where more elements would be open than the limit, a start tag may be
-/// left out, too, and of a text what is no white space, where a table would have to make a cell for it (`some`).
+/// with its attributes, in their order; end tags come and go. Parts of tables, forms and tags of other names than the 94
+/// may be left out: `normal_item` says where they are. Added are start tags of `tbody`, `tr`, `colgroup`, `td`, `p` and
+/// `br` alone, without attributes. That is so where eight elements may be open for each item (`all`). By any limit a
+/// start tag may be left out, too, and of a text what is no white space (`some`). Where no more elements would be open
+/// than the limit, a greater one changes nothing (`not_reached`).
 pub fn kept_items()
     ensures some { (limit : ℕ) (items : List Item) → Keeps false items (normal limit items) }
     ensures all { (limit : ℕ) (items : List Item) → 8 * length items ≤ limit → Keeps true items (normal limit items) }
@@ -132,8 +132,10 @@ pub fn kept_items()
 /// no more elements open than the limit (`within`), and leaves these open (`after`). An item that fits is written
 /// as it is (`unchanged`). What is written, and the end tags of what is open then, are at most eight items more
 /// than the end tags before (`bound`). Of a tag of another name than the 94 nothing is written (`unknown_start`,
-/// `unknown_end`). Open elements that each fit where they stand, no more than the limit, are so
-/// afterwards (`ready`), and at first (`first`).
+/// `unknown_end`). Of a start tag that has no place there (`has_place`, specs/Keeping) nothing is written, and no element
+/// is closed (`no_place`); one that has a place is written as it is, as the last item, where eight elements more may be
+/// open (`place`). Open elements that each fit where they stand, no more than the limit, are so afterwards (`ready`), and
+/// at first (`first`).
 pub fn normal_item()
     ensures first { (limit : ℕ) → IsReady limit [] }
     ensures ready { (limit : ℕ) (stack : List (List ℕ)) (item : Item) → IsReady limit stack
@@ -152,4 +154,9 @@ pub fn normal_item()
         → kind_of name ≡ Unknown → fitted limit stack (StartTag name attributes) ≡ [] }
     ensures unknown_end { (limit : ℕ) (stack : List (List ℕ)) (name : List ℕ) → IsReady limit stack
         → kind_of name ≡ Unknown → fitted limit stack (EndTag name) ≡ [] }
+    ensures no_place { (limit : ℕ) (stack : List (List ℕ)) (name : List ℕ) (attributes : List Attribute)
+        → has_place (kind_of name) stack ≡ false → fitted limit stack (StartTag name attributes) ≡ [] }
+    ensures place { (limit : ℕ) (stack : List (List ℕ)) (name : List ℕ) (attributes : List Attribute)
+        → has_place (kind_of name) stack ≡ true → 8 + length stack ≤ limit
+        → EndsWith (fitted limit stack (StartTag name attributes)) (StartTag name attributes) }
 {}

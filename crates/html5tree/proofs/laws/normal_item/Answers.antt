@@ -1,5 +1,6 @@
 use Rattle.html5tree.proofs.Bounds.{item-cost}
 use Rattle.html5tree.proofs.Normalising.{item-after, item-fits, item-unchanged, item-within, none-ready, ready-after, unknown-end, unknown-start}
+use Rattle.html5tree.proofs.Placing.{not-written, written-last}
 use Rattle.html5tree.proofs.laws.normal_item.Goals as goal
 
 pub returns-clause-first : goal.returns-clause-first
@@ -28,3 +29,9 @@ returns-clause-unknown_end c = unknown-end
 
 pub returns-clause-bound : goal.returns-clause-bound
 returns-clause-bound c = item-cost
+
+pub returns-clause-no_place : goal.returns-clause-no_place
+returns-clause-no_place c = not-written
+
+pub returns-clause-place : goal.returns-clause-place
+returns-clause-place c = written-last
