@@ -6,6 +6,7 @@ ghost use Rattle.html5reading.specs.EndOfInput.{tokens_at_end};
 ghost use Rattle.html5reading.specs.Start.{start_of, nothing_open};
 ghost use Rattle.html5reading.specs.Start.Mode.{Data, Plain};
 ghost use Rattle.html5reading.specs.Start.Open.{Between};
+ghost use Rattle.html5feed.specs.Beginning.{is_after_less_than};
 ghost use Rattle.html5feed.specs.Feed.{reply_in};
 ghost use Rattle.html5states.specs.Telling.{faults_of};
 ghost use Rattle.html5feed.specs.Starting.{CanStart};
@@ -212,6 +213,13 @@ impl<'t, Sink: TokenSink<Token<A>>, A: Allocator + Copy> Tokenizer<'t, Sink, A> 
             return false;
         }
         self.position.nothing_open()
+    }
+
+    /// Whether the last character is a `<` that may begin a tag or other markup.
+    pub fn is_after_less_than(&self) -> bool
+        ensures { result ≡ is_after_less_than self.now.position.opened }
+    {
+        self.position.is_after_less_than()
     }
 
     /// Reads the rest of the stream as plain text, where nothing is pending.

@@ -15,6 +15,7 @@ ghost use Rattle.html5reading.specs.Start.Open.{Between};
 ghost use Rattle.html5partial.specs.CurrentTag.{is_between, opened_of, last_name_of};
 ghost use Rattle.std.specs.Str.{chars};
 ghost use Rattle.html5states.specs.Telling.{Emits, Tells, IsRefusal, faults_of};
+ghost use Rattle.html5feed.specs.Beginning.{is_after_less_than};
 ghost use Rattle.html5feed.specs.Starting.{CanStart, in_state};
 ghost use Rattle.html5feed.specs.Undecided.{rules_with};
 
@@ -177,6 +178,13 @@ impl<A: Allocator + Copy> Position<A> {
         !self.in_reference && is_between(self.opened.state, &self.opened.comment)
     }
 
+    /// Whether the last character is a `<` that may begin a tag or other markup.
+    pub fn is_after_less_than(&self) -> bool
+        ensures { result ≡ is_after_less_than self.now.opened }
+    {
+        !self.in_reference && is_after_less_than(&self.opened)
+    }
+
     /// Reads plain text from here on.
     pub fn set_plaintext(&mut self)
         ensures opened { self.new.opened ≡ Between Plain }
@@ -254,6 +262,13 @@ fn is_between(state: State, held: &str) -> bool
         State::CdataSection => held.is_empty(),
         _ => false,
     }
+}
+
+// Whether the state is that after a `<` that may begin markup, where no reference is open.
+fn is_after_less_than<A: Allocator>(opened: &Opened<A>) -> bool
+    ensures { result ≡ is_after_less_than (opened_of opened.now) }
+{
+    matches!(opened.state, State::TagOpen | State::RawLessThanSign(_))
 }
 
 // Keeps the name of a start tag as that of the last one.

@@ -1,0 +1,6 @@
+pub mod SameReplies
+pub mod Stepping
+pub mod OneCharacter
+pub mod ManyCharacters
+pub mod HandingOn
+pub mod TextLoop

@@ -1,0 +1,5 @@
+//! Worked cases of where tokens stand.
+#![tactic(auto)]
+
+#[cfg(test)]
+mod placed;
