@@ -4,3 +4,4 @@ pub mod OneCharacter
 pub mod ManyCharacters
 pub mod HandingOn
 pub mod TextLoop
+pub mod Following

@@ -3,10 +3,10 @@
 -- The text is read from a start, and the standard's elements choose how the text after a tag is read. What a character tells stands at that
 -- character: a tag at its `>`, an error at the character that is wrong or that decides it. The token begins where its `<` stands. All that
 -- is told as text between two tokens is one run; it stands from where the first token ends up to where the second begins, as it is written.
-use Rattle.std.specs.Prelude.{ℕ, ◌+◌, Bool, true, false, List, [], ◌∷◌, ◌++◌, length, encode_utf8}
+use Rattle.std.specs.Prelude.{ℕ, ◌+◌, ◌&&◌, Bool, true, false, List, [], ◌∷◌, ◌++◌, length, ◌==◌, encode_utf8, if◌then◌else◌}
 use Rattle.html5ever_interface.specs.Sink.{Means, Message}
 use Rattle.html5ever_interface.specs.Token.{Told}
-use Rattle.html5ever_interface.specs.Token.Told.{Text}
+use Rattle.html5ever_interface.specs.Token.Told.{Error, Text}
 use Rattle.html5feed.specs.Beginning.{is_after_less_than}
 use Rattle.html5feed.specs.Feed.{told_beyond, told_at_end}
 use Rattle.html5reading.specs.Reading.{start_after}
@@ -80,3 +80,14 @@ module _ (rules : Rules) (K : Start) where
 unfoldable pub handed_on : {S : Type 0} → (S → Placed → S) → S → List Placed → S
 handed_on step s [] = s
 handed_on step s (p ∷ placed) = handed_on step (step s p) placed
+
+-- ---- how places lie
+
+abbrev pub is_error : Told → Bool
+is_error (Error message) = true
+is_error other = false
+
+-- whether the run before each token but an error begins where the last such token ended, and that before the first one at this byte
+unfoldable pub follow : ℕ → List Placed → Bool
+follow from [] = true
+follow from (p ∷ placed) = if is_error p.token then follow from placed else ((p.places.text == from) && follow p.places.end placed)
