@@ -178,7 +178,7 @@ def without_permission(folder):
 def of_many_files(folder):
     """200 files, of which three can't be read."""
     names = [f"{number}.html" for number in range(200)]
-    bad = {"7.html": MISSING, "100.html": FOLDER, "199.html": "the bytes from place 0 on are no UTF-8"}
+    bad = {"7.html": MISSING, "100.html": FOLDER, "199.html": "line 1: the bytes from place 0 on are no UTF-8"}
     for name in names:
         if name not in bad:
             (folder / name).write_bytes(f"<a href={name}>".encode())

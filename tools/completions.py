@@ -3,14 +3,18 @@
 
     python3 tools/completions.py [--check]
 
-The commands and their options are those of the pages that tools/man.py makes. There is a file for bash and one for
-fish. With --check nothing is written. Then bash is asked what it completes by its file, and the status is 1 where that
-is something else than it should be, or where a file differs from what would be made.
+The commands and their options are those of the pages that tools/man.py makes. There is a file for bash, one for fish
+and one for zsh. With --check nothing is written. Then bash, and zsh where it is there, are asked what they complete by
+their files, and the status is 1 where that is something else than it should be, or where a file differs from what would
+be made.
 """
 
 import pathlib
+import re
+import shutil
 import subprocess
 import sys
+import tempfile
 
 import man
 
@@ -20,7 +24,7 @@ HEAD = "# What a shell completes after firnuubal. Made by tools/completions.py.\
 # What stands after an option, by the word that its help has for it: one of these words, or any text. FILE is a file.
 WORDS = {"FORMAT": ["lines", "json"], "LABEL": [], "URL": []}
 
-# Words that were typed, the last not to its end, and what bash completes.
+# Words that were typed, the last not to its end, and what bash and zsh complete.
 CASES = [
     (["li"], ["links"]),
     (["--"], ["--help", "--version"]),
@@ -68,6 +72,35 @@ def names_of(text):
     return " ".join(name for name, _, _ in options_of(text))
 
 
+ZSH = """\
+#compdef firnuubal
+{head}
+_firnuubal() {{
+    local -a words_of
+    if ((CURRENT == 2)); then
+        words_of=(
+{first}
+        )
+        [[ $words[CURRENT] == -* ]] && words_of=(
+{asking}
+        )
+        _describe word words_of
+        return
+    fi
+    shift words
+    ((CURRENT--))
+    case $words[1] in
+{options}
+    esac
+}}
+if [[ $funcstack[1] == _firnuubal ]]; then
+    _firnuubal "$@"
+else
+    compdef _firnuubal firnuubal
+fi
+"""
+
+
 def commands():
     """The name of each command, what it prints, and the text of its help."""
     texts = man.texts()
@@ -101,6 +134,32 @@ def fish():
     return HEAD + "\n".join(lines) + "\n"
 
 
+def zsh():
+    """The function that zsh calls."""
+    first = [zsh_quoted(f"{command}:{what}") for command, what, _ in commands()]
+    asking = [zsh_quoted(f"{name}:{what}") for name, _, what in options_of(man.texts()["help"])]
+    options = []
+    for command, _, text in commands():
+        options += [f"    {command})", "        _arguments -S \\"]
+        for name, word, what in options_of(text):
+            after = f":{word}:{zsh_words(word)}" if word else ""
+            options.append("            " + zsh_quoted(f"{name}[{what}]{after}") + " \\")
+        options += ["            '*:FILE:_files'", "        ;;"]
+    rows = ["\n".join(" " * 12 + word for word in words) for words in (first, asking)]
+    return ZSH.format(head=HEAD.rstrip("\n"), first=rows[0], asking=rows[1], options="\n".join(options))
+
+
+def zsh_words(word):
+    """What stands after an option, as zsh says it, by the word that its help has for it."""
+    known = WORDS.get(word)
+    return "_files" if known is None else f"({' '.join(known)})" if known else " "
+
+
+def zsh_quoted(text):
+    """A text within single quotes, as zsh reads it."""
+    return "'" + text.replace("'", "'\\''") + "'"
+
+
 def quoted(text):
     """A text within single quotes, as fish reads it."""
     return "'" + text.replace("\\", "\\\\").replace("'", "\\'") + "'"
@@ -113,23 +172,69 @@ def completed(words):
     return subprocess.run(given, capture_output=True, text=True, check=True).stdout.split()
 
 
+# What zsh is told, which has a terminal of its own: to print each word that it would add, and to end then.
+ZSH_ASKED = """\
+zmodload zsh/zpty
+zpty asked zsh -f -i
+zpty -w asked "source $1"
+zpty -r asked line '*READY*'
+zpty -w -n asked "firnuubal ${(j: :)@[2,-1]}"$'\\t'
+zpty -r asked line $'*\\x02*'
+print -r -- "$line"
+"""
+ZSH_TOLD = """\
+PROMPT=
+fpath=({folder} $fpath)
+autoload -Uz compinit
+compinit -u -D
+zstyle ':completion:*' insert-tab false
+bindkey '^I' complete-word
+compadd() {{
+    [[ ${{@[1,(i)(-|--)]}} == *-(O|A|D)* ]] && {{ builtin compadd "$@"; return; }}
+    local -a found
+    builtin compadd -A found "$@"
+    local word
+    for word in $found; do print -r -- $'\\x01'$word; done
+    builtin compadd "$@"
+}}
+ended() {{ print -r -- $'\\x02'; exit }}
+comppostfuncs=(ended)
+print READY
+"""
+
+
+def zsh_completed(words):
+    """What zsh completes of words by its file."""
+    with tempfile.TemporaryDirectory() as folder:
+        told = pathlib.Path(folder) / "told"
+        told.write_text(ZSH_TOLD.format(folder=FILES), encoding="utf-8")
+        empty = pathlib.Path(folder) / "empty"
+        empty.mkdir()
+        given = ["zsh", "-f", "-c", ZSH_ASKED, "zsh", told, *words]
+        answer = subprocess.run(given, capture_output=True, text=True, check=True, timeout=60, cwd=empty).stdout
+    return list(dict.fromkeys(re.findall(r"\x01(\S+)", answer)))
+
+
 def main():
     check = sys.argv[1:] == ["--check"]
     wrong = 0
     FILES.mkdir(exist_ok=True)
-    for name, text in {"firnuubal.bash": bash(), "firnuubal.fish": fish()}.items():
+    files = {"firnuubal.bash": bash(), "firnuubal.fish": fish(), "_firnuubal": zsh()}
+    for name, text in files.items():
         path = FILES / name
         if not check:
             path.write_text(text, encoding="utf-8")
         elif not path.is_file() or path.read_text(encoding="utf-8") != text:
             wrong += 1
             print(f"tools/completions.py: docs/completions/{name} is not what the help says; run python3 tools/completions.py")
-    for words, wanted in CASES:
-        found = completed(words)
-        if found != wanted:
-            wrong += 1
-            print(f"tools/completions.py: of {words} bash completes {found}, and not {wanted}")
-    print(f"tools/completions.py: 2 files, {len(CASES)} cases, {wrong} otherwise")
+    shells = {"bash": completed} | ({"zsh": zsh_completed} if shutil.which("zsh") else {})
+    for shell, completes in shells.items():
+        for words, wanted in CASES:
+            found = completes(words)
+            if sorted(found) != sorted(wanted):
+                wrong += 1
+                print(f"tools/completions.py: of {words} {shell} completes {found}, and not {wanted}")
+    print(f"tools/completions.py: {len(files)} files, {len(CASES)} cases by {' and '.join(shells)}, {wrong} otherwise")
     return min(wrong, 1)
 
 

@@ -76,13 +76,9 @@ NO_SETTINGS = End(said("settings"), 2)
 UNPRINTED = said("output", "can't be printed")
 
 
-# A decoder that wants for memory is a source of which a read fails.
-UNDECODED = "a read failed"
-
-
 def of_page(whole):
-    """How it ends for want of memory for a page, for decoding it, or for what is printed of it."""
-    return (End(said("-"), 1, whole), End(said("-", UNDECODED), 1, whole), End(UNPRINTED, 1, whole))
+    """How it ends for want of memory for a page, or for what is printed of it."""
+    return (End(said("-"), 1, whole), End(UNPRINTED, 1, whole))
 
 
 def of_policy(name, *lines):
@@ -115,6 +111,7 @@ def filters():
     yield by_own(["text"], b"a&own;<p>b<script>c</script>d", text, *of_page(text))
     text = "a\u65e5b"
     yield by_own(["text", "--encoding", "shift_jis"], b"a\x93\xfa<p>b", text, *of_page(text))
+    yield by_own(["text", "--fatal", "--encoding", "shift_jis"], b"a\x93\xfa<p>b", text, *of_page(text))
     kept = '<p title="\u2603">a &#60; b<a href="x">c</a></p>'
     page = b'<p title="&own;" onclick=x>a < b<a href=x>c</a><script>d'
     yield by_own(["clean"], page, kept, NO_SETTINGS, *of_page(kept))
@@ -133,13 +130,12 @@ def messages():
     """Files of which one is missing, and words that ask for no page."""
     first, second = "1\u26032", "4"
     ends = [End(UNPRINTED, 1, first + second)]
-    for why in ("out of memory", UNDECODED):
-        ends += [End(said("first", why), 1, first, after=second), End(said("second", why), 1, second, before=first)]
+    ends += [End(said("first"), 1, first, after=second), End(said("second"), 1, second, before=first)]
     yield by_own(["text", "first", "second"], b"", first + second, *ends)
     missing = said("missing", MISSING)
     line = "-:1 x\n"
     ends = [End("", 1, before=line), End(said("missing"), 1, before=line)]
-    ends += [End(missing + why, 1, line) for why in (said("-"), said("-", UNDECODED), UNPRINTED)]
+    ends += [End(missing + why, 1, line) for why in (said("-"), UNPRINTED)]
     yield by_own(["links", "missing", "-"], b"<a href=x>", line, *ends)._replace(said=missing, status=1)
     like = said("--entites", "no such option; did you mean --entities?")
     ends = (NO_WORDS, End(said("--entites", "no such option; try --help"), 2), End("", 2))

@@ -3,8 +3,8 @@
 
     python3 tools/man.py [--check]
 
-The texts are the constants of crates/html5commands/src/help.rt: the first is that of the program, each other that of
-the command of its name. A page has the text's usage, its sentences and its options. With --check nothing is written,
+The texts are the constants of crates/html5commands/src/help.rt, with what its macros write: the first is that of the
+program, each other that of the command of its name. A page has the text's usage, its sentences and its options. With --check nothing is written,
 and the status is 1 where a page differs from what would be.
 """
 
@@ -15,14 +15,38 @@ import sys
 TOP = pathlib.Path(__file__).resolve().parent.parent
 SOURCE = TOP / "crates/html5commands/src/help.rt"
 PAGES = TOP / "docs/man"
-TEXT = re.compile(r'^pub const (\w+): &str = "(.*?)";$', re.MULTILINE | re.DOTALL)
+TEXT = re.compile(r"^pub const (\w+): &str = (.*?);$", re.MULTILINE | re.DOTALL)
+MACRO = re.compile(r"^macro_rules! (\w+) \{\n    \((.*?)\) => \{(.*?)\n    \};\n\}$", re.MULTILINE | re.DOTALL)
+CALL = re.compile(r"\s*(\w+)!\((.*)\)\s*", re.DOTALL)
+WORD = re.compile(r'"((?:[^"\\]|\\.)*)"|\$\(?\$?(\w+)', re.DOTALL)
 COMMAND = re.compile(r"^  (\w+) +(\S.*)$", re.MULTILINE)
 OPTION = re.compile(r"^  ((?:-\w, )?--[\w-]+(?: [A-Z]+)?)(?: +(\S.*))?$")
 
 
 def texts():
     """The name of each page, in small letters, and its text."""
-    return {name.lower(): text.replace('\\"', '"') for name, text in TEXT.findall(SOURCE.read_text(encoding="utf-8"))}
+    source = SOURCE.read_text(encoding="utf-8")
+    macros = {name: (re.findall(r"\$(\w+):", given), body) for name, given, body in MACRO.findall(source)}
+    return {name.lower(): text_of(written, macros, {}) for name, written in TEXT.findall(source)}
+
+
+def text_of(written, macros, known):
+    """The text that a constant is written as: texts in quotes, what is known by a name, or a call of a macro."""
+    call = CALL.fullmatch(written)
+    if call and call[1] in macros:
+        names, body = macros[call[1]]
+        given = [text_of(part, macros, known) for part in arguments(call[2])]
+        return text_of(body, macros, dict(zip(names, given)))
+    return "".join(known[name] if name else text.replace('\\"', '"') for text, name in WORD.findall(written))
+
+
+def arguments(written):
+    """What stands between the commas of a call, but for commas in quotes and brackets."""
+    parts, depth = [""], 0
+    for token in re.findall(r'"(?:[^"\\]|\\.)*"|.', written, re.DOTALL):
+        depth += {"[": 1, "]": -1}.get(token, 0)
+        parts = [*parts, ""] if token == "," and depth == 0 else [*parts[:-1], parts[-1] + token]
+    return [part for part in parts if part.strip()]
 
 
 def escaped(line):

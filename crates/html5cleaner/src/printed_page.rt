@@ -16,7 +16,7 @@ use devices::{Printer, Source, Target};
 use html5programs::Filter;
 use html5stream::{StreamError, read_tokens};
 use markup5ever::data::NamedReferences;
-use std::alloc::{AllocError, Allocator, Global};
+use std::alloc::{Allocator, Global};
 
 /// The pieces that are kept of any messages, as those of a page or of a beginning of it, are clean, where a policy
 /// with the rule `tree` is sound, as each that is made is: so `laws::cleaned_page` says how what is printed of a page
@@ -102,7 +102,7 @@ impl<W: Target + Drop> Filter<W> for CleanPrinter<W> {
         CleanPrinter::new(alloc, printer, settings.policy)
     }
 
-    fn name_file(&mut self, _alloc: Global, _file: &str) -> Result<(), AllocError> {
+    fn name_file(&mut self, _alloc: Global, _file: &str) -> Result<(), StreamError> {
         Ok(())
     }
 

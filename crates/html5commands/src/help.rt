@@ -20,114 +20,134 @@ not be read or printed, and each such file is named; 2 where words, the label of
 name of a format, the URL of pages, or a file that they name for entities or a policy, are wrong.
 ";
 
-/// How `tokens` is used.
-pub const TOKENS: &str = "usage: firnuubal tokens [OPTION...] [FILE...]
-Prints the tokens of HTML pages as they arrive, a line each: what it is, the number of the line
-that the tokenizer has reached, and what it holds. Parse errors have lines of their own.
-  Example: firnuubal tokens page.html
-
+// How a command is used that reads pages: what it does, its own options that stand first, those of each command, and
+// its other ones.
+macro_rules! reading_help {
+    ($command:literal, $about:literal, [$($first:literal)*], [$($more:literal)*]) => {
+        concat!(
+            $about,
+            "
 Without a FILE, or where it is -, standard input is read. After -- all words are files.
-  --encoding LABEL the encoding that is said of the pages, as by a server: a label of the
+",
+            $($first,)*
+            "  --encoding LABEL the encoding that is said of the pages, as by a server: a label of the
                    Encoding Standard, as windows-1252, shift_jis or utf-16le. A byte order mark
                    decides before it. Where it isn't given, a <meta charset=..> in a page's first
                    1,024 bytes decides, or else whether these are UTF-8; pages that are not are
                    windows-1252. Bytes that are none of a page's encoding are read as U+FFFD.
                    What is printed is UTF-8
-                   Example: firnuubal tokens --encoding shift_jis page.html
-  --fatal          pages are UTF-8, whatever else is said, and end where their bytes are none
-                   Example: firnuubal tokens --fatal page.html
+                   Example: firnuubal ",
+            $command,
+            " --encoding shift_jis page.html
+  --fatal          pages end at the first bytes that are none of their encoding: of that which
+                   --encoding says, or a byte order mark before it; without --encoding of UTF-8,
+                   whatever a page says
+                   Example: firnuubal ",
+            $command,
+            " --fatal page.html
   --entities FILE  the named character references, in place of the standard's 2,231: an entry
                    a line, or joined by commas, each NAME=HEX or NAME=HEX+HEX
-                   Example: firnuubal tokens --entities names.txt page.html
-  --format FORMAT  lines, as where it isn't given, or json: an object of JSON on each line
-                   Example: firnuubal tokens --format json page.html
+                   Example: firnuubal ",
+            $command,
+            " --entities names.txt page.html
+",
+            $($more,)*
+            "  --help           this text
+                   Example: firnuubal ",
+            $command,
+            " --help
+  --version        the program's name and its version
+                   Example: firnuubal ",
+            $command,
+            " --version
+"
+        )
+    };
+}
+
+// How a command is used that prints in a format, with names in front: what it does, and its own options.
+macro_rules! formatting_help {
+    ($command:literal, $about:literal, [$($more:literal)*]) => {
+        reading_help!(
+            $command,
+            $about,
+            [],
+            [
+                "  --format FORMAT  lines, as where it isn't given, or json: an object of JSON on each line
+                   Example: firnuubal "
+                $command
+                " --format json page.html
   -H, --with-filename
                    the name of its file in front of each line: it and a colon, or by json a member
                    \"file\". So it is where more than one FILE is given. Standard input is named -
-                   Example: firnuubal tokens -H page.html
+                   Example: firnuubal "
+                $command
+                " -H page.html
   -h, --no-filename
                    no names, however many files there are. Of both the last one counts
-                   Example: firnuubal tokens -h a.html b.html
-  --help           this text
-                   Example: firnuubal tokens --help
-  --version        the program's name and its version
-                   Example: firnuubal tokens --version
-";
+                   Example: firnuubal "
+                $command
+                " -h a.html b.html
+"
+                $($more)*
+            ]
+        )
+    };
+}
+
+/// How `tokens` is used.
+pub const TOKENS: &str = formatting_help!(
+    "tokens",
+    "usage: firnuubal tokens [OPTION...] [FILE...]
+Prints the tokens of HTML pages as they arrive, a line each: what it is, the number of the line
+that the tokenizer has reached, and what it holds. Parse errors have lines of their own.
+  Example: firnuubal tokens page.html
+",
+    []
+);
 
 /// How `links` is used.
-pub const LINKS: &str = "usage: firnuubal links [OPTION...] [FILE...]
+pub const LINKS: &str = formatting_help!(
+    "links",
+    "usage: firnuubal links [OPTION...] [FILE...]
 Prints the links of HTML pages as they arrive, a line each: the number of the line on which the
 tag ends, a space, and the link. Links are the href of a, area and link, and the src of img,
 script and iframe, as they are written, or by --base where they lead.
   Example: firnuubal links page.html
-
-Without a FILE, or where it is -, standard input is read. After -- all words are files.
-  --encoding LABEL the encoding that is said of the pages, as by a server: a label of the
-                   Encoding Standard, as windows-1252, shift_jis or utf-16le. A byte order mark
-                   decides before it. Where it isn't given, a <meta charset=..> in a page's first
-                   1,024 bytes decides, or else whether these are UTF-8; pages that are not are
-                   windows-1252. Bytes that are none of a page's encoding are read as U+FFFD.
-                   What is printed is UTF-8
-                   Example: firnuubal links --encoding shift_jis page.html
-  --fatal          pages are UTF-8, whatever else is said, and end where their bytes are none
-                   Example: firnuubal links --fatal page.html
-  --entities FILE  the named character references, in place of the standard's 2,231: an entry
-                   a line, or joined by commas, each NAME=HEX or NAME=HEX+HEX
-                   Example: firnuubal links --entities names.txt page.html
-  --format FORMAT  lines, as where it isn't given, or json: an object of JSON on each line
-                   Example: firnuubal links --format json page.html
-  -H, --with-filename
-                   the name of its file in front of each line: it and a colon, or by json a member
-                   \"file\". So it is where more than one FILE is given. Standard input is named -
-                   Example: firnuubal links -H page.html
-  -h, --no-filename
-                   no names, however many files there are. Of both the last one counts
-                   Example: firnuubal links -h a.html b.html
-  --base URL       the URL of the pages: each link is printed as the URL that it leads to from
+",
+    [
+        "  --base URL       the URL of the pages: each link is printed as the URL that it leads to from
                    there, or from the first <base href> of the page, once that was read. A
                    link that leads to none is printed as it is written
                    Example: firnuubal links --base https://a.example/b/ page.html
-  --help           this text
-                   Example: firnuubal links --help
-  --version        the program's name and its version
-                   Example: firnuubal links --version
-";
+"
+    ]
+);
 
 /// How `text` is used.
-pub const TEXT: &str = "usage: firnuubal text [OPTION...] [FILE...]
+pub const TEXT: &str = reading_help!(
+    "text",
+    "usage: firnuubal text [OPTION...] [FILE...]
 Prints what stands between the tags of HTML pages as it arrives, references decoded, without
 scripts and styles.
   Example: firnuubal text page.html
-
-Without a FILE, or where it is -, standard input is read. After -- all words are files.
-  --encoding LABEL the encoding that is said of the pages, as by a server: a label of the
-                   Encoding Standard, as windows-1252, shift_jis or utf-16le. A byte order mark
-                   decides before it. Where it isn't given, a <meta charset=..> in a page's first
-                   1,024 bytes decides, or else whether these are UTF-8; pages that are not are
-                   windows-1252. Bytes that are none of a page's encoding are read as U+FFFD.
-                   What is printed is UTF-8
-                   Example: firnuubal text --encoding shift_jis page.html
-  --fatal          pages are UTF-8, whatever else is said, and end where their bytes are none
-                   Example: firnuubal text --fatal page.html
-  --entities FILE  the named character references, in place of the standard's 2,231: an entry
-                   a line, or joined by commas, each NAME=HEX or NAME=HEX+HEX
-                   Example: firnuubal text --entities names.txt page.html
-  --help           this text
-                   Example: firnuubal text --help
-  --version        the program's name and its version
-                   Example: firnuubal text --version
-";
+",
+    [],
+    []
+);
 
 /// How `clean` is used.
-pub const CLEAN: &str = "usage: firnuubal clean [OPTION...] [FILE...]
+pub const CLEAN: &str = reading_help!(
+    "clean",
+    "usage: firnuubal clean [OPTION...] [FILE...]
 Prints HTML pages with only allowed elements and attributes in them, and addresses that are
 relative or of allowed schemes. The text is kept, but for that of scripts, styles and their
 like; comments are not. A page is printed as it arrives, by the standard policy so that a
 browser builds it as it is nested.
   Example: firnuubal clean page.html
-
-Without a FILE, or where it is -, standard input is read. After -- all words are files.
-  --policy FILE    what is allowed, in place of the standard policy: a rule a line, of
+",
+    [
+        "  --policy FILE    what is allowed, in place of the standard policy: a rule a line, of
                      allow ELEMENT [ATTRIBUTE..]   an element, and attributes of it
                      everywhere ATTRIBUTE..        attributes of each element
                      schemes SCHEME..              schemes of addresses
@@ -140,20 +160,7 @@ Without a FILE, or where it is -, standard input is read. After -- all words are
                    Example: firnuubal clean --policy policy.txt page.html
   --print-policy   the standard policy, to begin one's own from
                    Example: firnuubal clean --print-policy > policy.txt
-  --encoding LABEL the encoding that is said of the pages, as by a server: a label of the
-                   Encoding Standard, as windows-1252, shift_jis or utf-16le. A byte order mark
-                   decides before it. Where it isn't given, a <meta charset=..> in a page's first
-                   1,024 bytes decides, or else whether these are UTF-8; pages that are not are
-                   windows-1252. Bytes that are none of a page's encoding are read as U+FFFD.
-                   What is printed is UTF-8
-                   Example: firnuubal clean --encoding shift_jis page.html
-  --fatal          pages are UTF-8, whatever else is said, and end where their bytes are none
-                   Example: firnuubal clean --fatal page.html
-  --entities FILE  the named character references, in place of the standard's 2,231: an entry
-                   a line, or joined by commas, each NAME=HEX or NAME=HEX+HEX
-                   Example: firnuubal clean --entities names.txt page.html
-  --help           this text
-                   Example: firnuubal clean --help
-  --version        the program's name and its version
-                   Example: firnuubal clean --version
-";
+"
+    ],
+    []
+);

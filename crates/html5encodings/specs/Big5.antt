@@ -1,5 +1,5 @@
 -- "Big5 decoder"
-use Rattle.std.specs.Prelude.{ℕ, ◌+◌, ◌-◌, ◌*◌, ◌==◌, ◌||◌, nat_lt, List, [], ◌∷◌, Option, Some, None, if◌then◌else◌}
+use Rattle.std.specs.Prelude.{ℕ, ◌+◌, ◌-◌, ◌*◌, ◌==◌, ◌||◌, nat_lt, Bool, true, false, not, is_none, List, [], ◌∷◌, Option, Some, None, if◌then◌else◌}
 use Rattle.std.specs.Int.{is_in_range}
 use Rattle.html5encodings.specs.IndexBig5.{index_big5}
 use Rattle.html5encodings.specs.Steps.{code_point_at, code_point_or_restored}
@@ -31,3 +31,13 @@ alone byte = if nat_lt byte 0x80 then (byte ∷ [], None)
 abbrev pub handled : Option ℕ → ℕ → Handled
 handled None byte = alone byte
 handled (Some lead) byte = (pointed (pointer_of lead byte) byte, None)
+
+-- whether a byte is an error: after no lead, and after a lead where the pointer gives nothing
+abbrev pub points_nowhere : Option ℕ → Bool
+points_nowhere None = true
+points_nowhere (Some pointer) = if pointer == 1133 || pointer == 1135 || pointer == 1164 || pointer == 1166
+    then false else (is_none (code_point_at index_big5 pointer))
+
+abbrev pub returns_error : Option ℕ → ℕ → Bool
+returns_error None byte = not (nat_lt byte 0x80 || is_in_range 0x81 0xFE byte)
+returns_error (Some lead) byte = points_nowhere (pointer_of lead byte)

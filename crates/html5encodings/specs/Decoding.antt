@@ -1,5 +1,5 @@
 -- "Decode", without a byte order mark: the handlers of the decoders, byte by byte, and the end.
-use Rattle.std.specs.Prelude.{◌≡◌, ◌<◌, ◌≤◌, ℕ, Bool, true, false, is_some, is_none, List, [], ◌∷◌, ◌++◌, length, drop, flat_map, encode_utf8_all, IsUtf8, None, IfSome}
+use Rattle.std.specs.Prelude.{◌≡◌, ◌<◌, ◌≤◌, ℕ, suc, Bool, true, false, not, is_some, is_none, List, [], ◌∷◌, ◌++◌, length, drop, flat_map, encode_utf8_all, IsUtf8, None, IfSome, if◌then◌else◌}
 use Rattle.std.specs.Borrow.{Bor}
 use Rattle.html5encodings.specs.declared.encoding.Encoding.{Encoding}
 use Rattle.html5encodings.specs.declared.encoding.Encoding.TheVariants as encoding
@@ -75,9 +75,64 @@ at_end (state.Replacement returned) = []
 at_end (state.Utf16 now) = error_if (utf16.is_begun now)
 at_end state.UserDefined = []
 
+-- ---- error mode "fatal"
+
+-- whether the handler returns an error at a byte
+unfoldable pub returns_error : State → ℕ → Bool
+returns_error (state.Utf8 part) byte = utf8.returns_error part byte
+returns_error (state.SingleByte single) byte = single_byte.returns_error single byte
+returns_error (state.Gb18030 lead) byte = gb18030.returns_error lead byte
+returns_error (state.Big5 lead) byte = big5.returns_error lead byte
+returns_error (state.EucJp lead) byte = euc_jp.returns_error lead byte
+returns_error (state.Iso2022Jp now) byte = iso_2022_jp.returns_error now byte
+returns_error (state.ShiftJis lead) byte = shift_jis.returns_error lead byte
+returns_error (state.EucKr lead) byte = euc_kr.returns_error lead byte
+returns_error (state.Replacement returned) byte = not returned
+returns_error (state.Utf16 now) byte = utf16.returns_error now byte
+returns_error state.UserDefined byte = false
+
+-- whether nothing is begun, so that the end is no error
+unfoldable pub is_whole : State → Bool
+is_whole (state.Utf8 part) = is_none part
+is_whole (state.SingleByte single) = true
+is_whole (state.Gb18030 lead) = is_none lead
+is_whole (state.Big5 lead) = is_none lead
+is_whole (state.EucJp lead) = is_none lead
+is_whole (state.Iso2022Jp now) = iso_2022_jp.is_nothing now.begun
+is_whole (state.ShiftJis lead) = is_none lead
+is_whole (state.EucKr lead) = is_none lead
+is_whole (state.Replacement returned) = true
+is_whole (state.Utf16 now) = not (utf16.is_begun now)
+is_whole state.UserDefined = true
+
+-- no handler returns an error at any of the bytes, nor at their end
+abbrev pub HasNoError : State → List ℕ → Type 0
+HasNoError now [] = is_whole now ≡ true
+HasNoError now (byte ∷ bytes) = (returns_error now byte ≡ false) × HasNoError (handled now byte).1 bytes
+
+-- what comes before the first error: the code points, where they leave the decoder, and how many bytes they are of
+abbrev pub given_before_error : State → List ℕ → List ℕ
+given_before_error now [] = []
+given_before_error now (byte ∷ bytes) =
+    if returns_error now byte then [] else ((handled now byte).0 ++ given_before_error (handled now byte).1 bytes)
+
+abbrev pub state_before_error : State → List ℕ → State
+state_before_error now [] = now
+state_before_error now (byte ∷ bytes) = if returns_error now byte then now else (state_before_error (handled now byte).1 bytes)
+
+abbrev pub len_before_error : State → List ℕ → ℕ
+len_before_error now [] = 0
+len_before_error now (byte ∷ bytes) = if returns_error now byte then 0 else (suc (len_before_error (handled now byte).1 bytes))
+
+-- ----
+
 -- the code points of all bytes
 abbrev pub decoded : Encoding → List ℕ → List ℕ
 decoded by bytes = given (start by) bytes ++ at_end (state_after (start by) bytes)
+
+-- bytes are all of an encoding: its decoder returns no error
+abbrev pub IsIn : Encoding → List ℕ → Type 0
+IsIn by bytes = HasNoError (start by) bytes
 
 -- the bytes of pieces, one after the other
 abbrev pub bytes_of : List (Bor (List ℕ)) → List ℕ

@@ -1,5 +1,5 @@
 -- "EUC-JP decoder"
-use Rattle.std.specs.Prelude.{ℕ, ◌+◌, ◌-◌, ◌*◌, ◌==◌, ◌&&◌, ◌||◌, nat_lt, List, [], ◌∷◌, Option, Some, None, if◌then◌else◌}
+use Rattle.std.specs.Prelude.{ℕ, ◌+◌, ◌-◌, ◌*◌, ◌==◌, ◌&&◌, ◌||◌, nat_lt, Bool, false, not, is_none, List, [], ◌∷◌, Option, Some, None, if◌then◌else◌}
 use Rattle.std.specs.Int.{is_in_range}
 use Rattle.html5encodings.specs.declared.euc_jp.Lead.{Lead}
 use Rattle.html5encodings.specs.declared.euc_jp.Lead.TheVariants.{First, Jis0212}
@@ -31,3 +31,14 @@ abbrev pub handled : Option Lead → ℕ → Handled
 handled None byte = alone byte
 handled (Some (First lead)) byte = after_first lead byte
 handled (Some (Jis0212 lead)) byte = (code_point_or_restored (code_point_of index_jis0212 lead byte) byte, None)
+
+-- whether a byte is an error
+abbrev pub is_error_after_first : ℕ → ℕ → Bool
+is_error_after_first lead byte = if lead == 0x8E && is_in_range 0xA1 0xDF byte then false
+    else (if lead == 0x8F && is_in_range 0xA1 0xFE byte then false
+    else (is_none (code_point_of index_jis0208 lead byte)))
+
+abbrev pub returns_error : Option Lead → ℕ → Bool
+returns_error None byte = not (nat_lt byte 0x80 || byte == 0x8E || byte == 0x8F || is_in_range 0xA1 0xFE byte)
+returns_error (Some (First lead)) byte = is_error_after_first lead byte
+returns_error (Some (Jis0212 lead)) byte = is_none (code_point_of index_jis0212 lead byte)

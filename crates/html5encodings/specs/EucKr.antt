@@ -1,5 +1,5 @@
 -- "EUC-KR decoder"
-use Rattle.std.specs.Prelude.{ℕ, ◌+◌, ◌-◌, ◌*◌, nat_lt, List, [], ◌∷◌, Option, Some, None, if◌then◌else◌}
+use Rattle.std.specs.Prelude.{ℕ, ◌+◌, ◌-◌, ◌*◌, ◌||◌, nat_lt, Bool, not, is_none, List, [], ◌∷◌, Option, Some, None, if◌then◌else◌}
 use Rattle.std.specs.Int.{is_in_range}
 use Rattle.html5encodings.specs.IndexEucKr.{index_euc_kr}
 use Rattle.html5encodings.specs.Steps.{code_point_at, code_point_or_restored}
@@ -20,3 +20,8 @@ alone byte = if nat_lt byte 0x80 then (byte ∷ [], None)
 abbrev pub handled : Option ℕ → ℕ → Handled
 handled None byte = alone byte
 handled (Some lead) byte = (code_point_or_restored (code_point_of lead byte) byte, None)
+
+-- whether a byte is an error
+abbrev pub returns_error : Option ℕ → ℕ → Bool
+returns_error None byte = not (nat_lt byte 0x80 || is_in_range 0x81 0xFE byte)
+returns_error (Some lead) byte = is_none (code_point_of lead byte)

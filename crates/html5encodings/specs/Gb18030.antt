@@ -1,5 +1,5 @@
 -- "gb18030 decoder", which is the "GBK decoder" too
-use Rattle.std.specs.Prelude.{ℕ, ◌+◌, ◌-◌, ◌*◌, ◌==◌, ◌&&◌, ◌||◌, nat_lt, List, [], ◌∷◌, Option, Some, None, if◌then◌else◌}
+use Rattle.std.specs.Prelude.{ℕ, ◌+◌, ◌-◌, ◌*◌, ◌==◌, ◌&&◌, ◌||◌, nat_lt, Bool, true, false, not, is_none, List, [], ◌∷◌, Option, Some, None, if◌then◌else◌}
 use Rattle.std.specs.Int.{is_in_range}
 use Rattle.html5encodings.specs.declared.gb18030.Lead.{Lead}
 use Rattle.html5encodings.specs.declared.gb18030.Lead.TheVariants.{First, Second, Third}
@@ -57,3 +57,11 @@ handled (Some (Second first second)) byte = if is_in_range 0x81 0xFE byte then (
 handled (Some (Third first second third)) byte = if is_in_range 0x30 0x39 byte
     then (code_point_or_error (ranges_code_point (four_pointer first second third byte)), None)
     else (0xFFFD ∷ second ∷ (after_first third byte).0, (after_first third byte).1)
+
+-- whether a byte is an error
+abbrev pub returns_error : Option Lead → ℕ → Bool
+returns_error None byte = byte == 0xFF
+returns_error (Some (First first)) byte = if is_in_range 0x30 0x39 byte then false else (is_none (two_code_point first byte))
+returns_error (Some (Second first second)) byte = not (is_in_range 0x81 0xFE byte)
+returns_error (Some (Third first second third)) byte = if is_in_range 0x30 0x39 byte
+    then (is_none (ranges_code_point (four_pointer first second third byte))) else true

@@ -1,6 +1,6 @@
 -- "ISO-2022-JP decoder". Its output state is a character set. Its state is the one of that name, unless something is begun:
 -- the trail byte state has a lead, the escape start state has an escape, and the escape state has one of two bytes after it.
-use Rattle.std.specs.Prelude.{ℕ, ◌+◌, ◌-◌, ◌*◌, ◌==◌, Bool, true, false, ◌||◌, nat_lt, List, [], ◌∷◌, ◌++◌, Option, Some, None, if◌then◌else◌, not, ◌&&◌}
+use Rattle.std.specs.Prelude.{ℕ, ◌+◌, ◌-◌, ◌*◌, ◌==◌, Bool, true, false, ◌||◌, nat_lt, List, [], ◌∷◌, ◌++◌, Option, Some, None, is_none, if◌then◌else◌, not, ◌&&◌}
 use Rattle.std.specs.Int.{is_in_range}
 use Rattle.html5encodings.specs.declared.iso_2022_jp.Begun.{Begun}
 use Rattle.html5encodings.specs.declared.iso_2022_jp.Begun.TheVariants.{Nothing, Lead, Escape, EscapeDollar, EscapeParenthesis}
@@ -128,3 +128,29 @@ at_end_after EscapeParenthesis charset = 0xFFFD ∷ restored_at_end charset 0x28
 
 abbrev pub at_end : Iso2022Jp → List ℕ
 at_end state = at_end_after state.begun state.charset
+
+-- whether a byte that is no escape is an error, in the ASCII, Roman, katakana and lead byte states
+abbrev pub is_shown_error : Charset → ℕ → Bool
+is_shown_error Ascii byte = is_none (ascii_code_point byte)
+is_shown_error Roman byte = is_none (roman_code_point byte)
+is_shown_error Katakana byte = is_none (katakana_code_point byte)
+is_shown_error Jis0208 byte = not (is_in_range 0x21 0x7E byte)
+
+-- whether a byte is an error
+abbrev pub is_error_after : Begun → Charset → Bool → ℕ → Bool
+is_error_after Nothing charset escaped byte = if byte == 0x1B then false else (is_shown_error charset byte)
+is_error_after (Lead lead) charset escaped byte = if is_in_range 0x21 0x7E byte then (is_none (pair_code_point lead byte)) else true
+is_error_after Escape charset escaped byte = not (byte == 0x24 || byte == 0x28)
+is_error_after EscapeDollar charset escaped byte = if byte == 0x40 || byte == 0x42 then escaped else true
+is_error_after EscapeParenthesis charset escaped byte = if byte == 0x42 || byte == 0x4A || byte == 0x49 then escaped else true
+
+abbrev pub returns_error : Iso2022Jp → ℕ → Bool
+returns_error state byte = is_error_after state.begun state.charset state.escaped byte
+
+-- whether nothing is begun
+abbrev pub is_nothing : Begun → Bool
+is_nothing Nothing = true
+is_nothing (Lead lead) = false
+is_nothing Escape = false
+is_nothing EscapeDollar = false
+is_nothing EscapeParenthesis = false

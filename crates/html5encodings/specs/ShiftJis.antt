@@ -1,5 +1,5 @@
 -- "Shift_JIS decoder"
-use Rattle.std.specs.Prelude.{ℕ, ◌+◌, ◌-◌, ◌*◌, ◌||◌, nat_lt, List, [], ◌∷◌, Option, Some, None, if◌then◌else◌}
+use Rattle.std.specs.Prelude.{ℕ, ◌+◌, ◌-◌, ◌*◌, ◌||◌, nat_lt, Bool, not, is_none, List, [], ◌∷◌, Option, Some, None, if◌then◌else◌}
 use Rattle.std.specs.Int.{is_in_range}
 use Rattle.html5encodings.specs.IndexJis0208.{index_jis0208}
 use Rattle.html5encodings.specs.Steps.{code_point_at, code_point_or_restored}
@@ -28,3 +28,8 @@ alone byte = if nat_lt byte 0x81 then (byte ∷ [], None)
 abbrev pub handled : Option ℕ → ℕ → Handled
 handled None byte = alone byte
 handled (Some lead) byte = (code_point_or_restored (code_point_of (pointer_of lead byte)) byte, None)
+
+-- whether a byte is an error
+abbrev pub returns_error : Option ℕ → ℕ → Bool
+returns_error None byte = not (nat_lt byte 0xA0 || is_in_range 0xA1 0xFC byte)
+returns_error (Some lead) byte = is_none (code_point_of (pointer_of lead byte))

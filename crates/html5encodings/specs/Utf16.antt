@@ -1,5 +1,5 @@
 -- "shared UTF-16 decoder"
-use Rattle.std.specs.Prelude.{◌≤◌, ℕ, ◌+◌, ◌-◌, ◌*◌, Bool, true, false, ◌||◌, is_some, List, [], ◌∷◌, Option, Some, None, if◌then◌else◌}
+use Rattle.std.specs.Prelude.{◌≤◌, ℕ, ◌+◌, ◌-◌, ◌*◌, Bool, true, false, not, ◌||◌, is_some, List, [], ◌∷◌, Option, Some, None, if◌then◌else◌}
 use Rattle.std.specs.Int.{is_in_range}
 use Rattle.html5encodings.specs.declared.utf16.SharedUtf16.{SharedUtf16}
 
@@ -44,3 +44,16 @@ is_begun u = is_some u.lead_byte || is_some u.lead_surrogate
 pub record IsLeadSurrogate (unit : ℕ) : Type 0 where
   pub from : 0xD800 ≤ unit
   pub to : unit ≤ 0xDBFF
+
+-- whether a code unit is an error: a trail surrogate after no lead, and another unit after a lead
+abbrev pub is_unit_error : Option ℕ → ℕ → Bool
+is_unit_error None unit = is_in_range 0xDC00 0xDFFF unit
+is_unit_error (Some lead) unit = not (is_in_range 0xDC00 0xDFFF unit)
+
+-- whether a byte is an error
+abbrev pub is_error_after : Option ℕ → SharedUtf16 → ℕ → Bool
+is_error_after None u byte = false
+is_error_after (Some lead) u byte = is_unit_error u.lead_surrogate (code_unit u.big_endian lead byte)
+
+abbrev pub returns_error : SharedUtf16 → ℕ → Bool
+returns_error u byte = is_error_after u.lead_byte u byte

@@ -1,5 +1,5 @@
 -- "UTF-8 decoder"
-use Rattle.std.specs.Prelude.{◌≡◌, ◌<◌, ◌≤◌, ◌⊎◌, ℕ, ◌+◌, ◌-◌, ◌*◌, ◌==◌, nat_lt, List, [], ◌∷◌, Option, Some, None, if◌then◌else◌}
+use Rattle.std.specs.Prelude.{◌≡◌, ◌<◌, ◌≤◌, ◌⊎◌, ℕ, ◌+◌, ◌-◌, ◌*◌, ◌==◌, ◌||◌, nat_lt, Bool, not, List, [], ◌∷◌, Option, Some, None, if◌then◌else◌}
 use Rattle.std.specs.Int.{is_in_range}
 use Rattle.html5encodings.specs.declared.utf8.Partial.{Partial}
 
@@ -57,3 +57,8 @@ pub record IsPartial (p : Partial) : Type 0 where
   pub three : p.needed ≡ 3 → (p.code_point ≤ 4) × (p.code_point ≡ 0 → 0x90 ≤ p.lower) × (p.code_point ≡ 4 → p.upper ≤ 0x8F)
   pub two : p.needed ≡ 2 → (p.code_point ≤ 0x10F) × (p.code_point ≡ 0xD → p.upper ≤ 0x9F)
   pub one : p.needed ≡ 1 → (p.code_point ≤ 0x43FF) × ((p.code_point < 0x360) ⊎ (0x37F < p.code_point))
+
+-- whether a byte is an error
+abbrev pub returns_error : Option Partial → ℕ → Bool
+returns_error None byte = not (nat_lt byte 0x80 || is_in_range 0xC2 0xF4 byte)
+returns_error (Some p) byte = not (is_in_range p.lower p.upper byte)

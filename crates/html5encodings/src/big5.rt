@@ -1,6 +1,6 @@
 //! The Big5 decoder.
 ghost use Rattle.std.specs.Prelude.{◌≡◌, ◌∷◌, [], IfOk, OnOk};
-ghost use Rattle.html5encodings.specs.Big5.{handled, pointed, pointer_of};
+ghost use Rattle.html5encodings.specs.Big5.{handled, pointed, pointer_of, points_nowhere, returns_error};
 ghost use Rattle.html5encodings.specs.Steps.{Adds};
 
 use crate::pointers::in_big5;
@@ -67,4 +67,25 @@ fn append_two<A: Allocator>(
 {
     text.push(first)?;
     text.push(second)
+}
+
+// Whether a byte is an error after a lead or none.
+pub(crate) fn returns_error(lead: Option<u8>, byte: u8) -> bool
+    ensures { result ≡ returns_error lead byte }
+{
+    match lead {
+        Some(lead) => points_nowhere(pointer_of(lead, byte)),
+        None => !matches!(byte, 0..=0x7F | 0x81..=0xFE),
+    }
+}
+
+// Whether a pointer gives nothing.
+fn points_nowhere(pointer: Option<usize>) -> bool
+    ensures { result ≡ points_nowhere pointer }
+{
+    match pointer {
+        None => true,
+        Some(1133 | 1135 | 1164 | 1166) => false,
+        Some(pointer) => in_big5(pointer).is_none(),
+    }
 }

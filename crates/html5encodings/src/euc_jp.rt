@@ -1,6 +1,6 @@
 //! The EUC-JP decoder.
 ghost use Rattle.std.specs.Prelude.{◌≡◌, IfOk, OnOk};
-ghost use Rattle.html5encodings.specs.EucJp.{after_first, alone, code_point_of, handled};
+ghost use Rattle.html5encodings.specs.EucJp.{after_first, alone, code_point_of, handled, is_error_after_first, returns_error};
 ghost use Rattle.html5encodings.specs.IndexJis0208.{index_jis0208};
 ghost use Rattle.html5encodings.specs.IndexJis0212.{index_jis0212};
 ghost use Rattle.html5encodings.specs.Steps.{Adds};
@@ -89,4 +89,28 @@ fn jis0212_character(lead: u8, byte: u8) -> Option<char>
     } else {
         None
     }
+}
+
+// Whether a byte is an error after a lead or none.
+pub(crate) fn returns_error(lead: Option<Lead>, byte: u8) -> bool
+    ensures { result ≡ returns_error lead byte }
+{
+    match lead {
+        None => !matches!(byte, 0..=0x7F | 0x8E | 0x8F | 0xA1..=0xFE),
+        Some(Lead::First(lead)) => is_error_after_first(lead, byte),
+        Some(Lead::Jis0212(lead)) => jis0212_character(lead, byte).is_none(),
+    }
+}
+
+// Whether a byte is an error after a lead.
+fn is_error_after_first(lead: u8, byte: u8) -> bool
+    ensures { result ≡ is_error_after_first lead byte }
+{
+    if lead == 0x8E && byte >= 0xA1 && byte <= 0xDF {
+        return false;
+    }
+    if lead == 0x8F && byte >= 0xA1 && byte <= 0xFE {
+        return false;
+    }
+    jis0208_character(lead, byte).is_none()
 }

@@ -1,6 +1,6 @@
 //! The EUC-KR decoder.
 ghost use Rattle.std.specs.Prelude.{◌≡◌, IfOk, OnOk};
-ghost use Rattle.html5encodings.specs.EucKr.{code_point_of, handled};
+ghost use Rattle.html5encodings.specs.EucKr.{code_point_of, handled, returns_error};
 ghost use Rattle.html5encodings.specs.Steps.{Adds};
 
 use crate::pointers::in_euc_kr;
@@ -35,5 +35,15 @@ fn character_of(lead: u8, byte: u8) -> Option<char>
         in_euc_kr((lead as usize).saturating_sub(0x81) * 190 + (byte as usize - 0x41))
     } else {
         None
+    }
+}
+
+// Whether a byte is an error after a lead or none.
+pub(crate) fn returns_error(lead: Option<u8>, byte: u8) -> bool
+    ensures { result ≡ returns_error lead byte }
+{
+    match lead {
+        Some(lead) => character_of(lead, byte).is_none(),
+        None => !matches!(byte, 0..=0x7F | 0x81..=0xFE),
     }
 }

@@ -1,6 +1,6 @@
 //! The gb18030 decoder, which is GBK's too.
 ghost use Rattle.std.specs.Prelude.{◌≡◌, ◌+◌, ◌-◌, ◌*◌, IfOk, OnOk};
-ghost use Rattle.html5encodings.specs.Gb18030.{after_first, alone, four_pointer, handled, last_range, ranges_code_point, two_code_point};
+ghost use Rattle.html5encodings.specs.Gb18030.{after_first, alone, four_pointer, handled, last_range, ranges_code_point, returns_error, two_code_point};
 ghost use Rattle.html5encodings.specs.IndexGb18030Ranges.{index_gb18030_ranges};
 ghost use Rattle.html5encodings.specs.Steps.{Adds};
 
@@ -134,4 +134,24 @@ fn last_range(ranges: &[(u32, u32)], pointer: u32) -> (u32, u32)
         found = *range;
     }
     found
+}
+
+// Whether a byte is an error after a lead or none.
+pub(crate) fn returns_error(lead: Option<Lead>, byte: u8) -> bool
+    ensures { result ≡ returns_error lead byte }
+{
+    match lead {
+        None => byte == 0xFF,
+        Some(Lead::First(first)) => {
+            !(byte >= 0x30 && byte <= 0x39) && two_character(first, byte).is_none()
+        }
+        Some(Lead::Second(_, _)) => !(byte >= 0x81 && byte <= 0xFE),
+        Some(Lead::Third(first, second, third)) => {
+            if byte >= 0x30 && byte <= 0x39 {
+                ranges_character(four_pointer(first, second, third, byte)).is_none()
+            } else {
+                true
+            }
+        }
+    }
 }

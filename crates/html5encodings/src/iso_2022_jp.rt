@@ -1,6 +1,6 @@
 //! The ISO-2022-JP decoder.
-ghost use Rattle.std.specs.Prelude.{◌≡◌, ◌+◌, ◌-◌, ◌≤◌, IfOk, OnOk, encode_utf8_all, false};
-ghost use Rattle.html5encodings.specs.Iso2022Jp.{after_dollar, after_escape, after_lead, after_parenthesis, alone, ascii_code_point, at_end, at_end_after, both, escaped_to, handled, in_a_row, katakana_code_point, not_escaped, pair_code_point, reads_plain, roman_code_point, shown, standing};
+ghost use Rattle.std.specs.Prelude.{◌≡◌, ◌+◌, ◌-◌, ◌≤◌, IfOk, OnOk, encode_utf8_all, false, true, if◌then◌else◌};
+ghost use Rattle.html5encodings.specs.Iso2022Jp.{after_dollar, after_escape, after_lead, after_parenthesis, alone, ascii_code_point, at_end, at_end_after, both, escaped_to, handled, in_a_row, is_error_after, is_nothing, is_shown_error, katakana_code_point, not_escaped, pair_code_point, reads_plain, returns_error, roman_code_point, shown, standing};
 ghost use Rattle.html5encodings.specs.Steps.{Adds};
 
 use crate::pointers::in_jis0208;
@@ -373,5 +373,65 @@ fn parenthesis_at_end(charset: Charset) -> &'static str
         Charset::Roman => "\u{FFFD}(",
         Charset::Katakana => "\u{FFFD}\u{FF68}",
         Charset::Jis0208 => "\u{FFFD}\u{FFFD}",
+    }
+}
+
+// Whether a byte is an error.
+pub(crate) fn returns_error(before: Iso2022Jp, byte: u8) -> bool
+    ensures { result ≡ returns_error before byte }
+{
+    match before.begun {
+        Begun::Nothing => byte != 0x1B && is_shown_error(before.charset, byte),
+        Begun::Lead(lead) => is_trail_error(lead, byte),
+        Begun::Escape => !(byte == 0x24 || byte == 0x28),
+        Begun::EscapeDollar => is_escape_error(byte == 0x40 || byte == 0x42, before.escaped),
+        Begun::EscapeParenthesis => is_escape_error(
+            byte == 0x42 || byte == 0x4A || byte == 0x49,
+            before.escaped,
+        ),
+    }
+}
+
+// Whether a byte that is no escape is an error, where nothing is begun.
+fn is_shown_error(charset: Charset, byte: u8) -> bool
+    ensures { result ≡ is_shown_error charset byte }
+{
+    match charset {
+        Charset::Ascii => ascii_character(byte).is_none(),
+        Charset::Roman => roman_character(byte).is_none(),
+        Charset::Katakana => katakana_character(byte).is_none(),
+        Charset::Jis0208 => !(byte >= 0x21 && byte <= 0x7E),
+    }
+}
+
+// Whether a byte is an error in the trail byte state.
+fn is_trail_error(lead: u8, byte: u8) -> bool
+    ensures { result ≡ is_error_after (Begun.Lead lead) Charset.Ascii false byte }
+{
+    if byte >= 0x21 && byte <= 0x7E {
+        pair_character(lead, byte).is_none()
+    } else {
+        true
+    }
+}
+
+// Whether the last byte of an escape sequence is an error: none that ends it, or an end with nothing between it and
+// the escape sequence before it.
+fn is_escape_error(ends: bool, escaped: bool) -> bool
+    ensures { result ≡ (if ends then escaped else true) }
+{
+    !ends || escaped
+}
+
+// Whether nothing is begun.
+pub(crate) fn is_whole(before: Iso2022Jp) -> bool
+    ensures { result ≡ is_nothing before.begun }
+{
+    match before.begun {
+        Begun::Nothing => true,
+        Begun::Lead(_) => false,
+        Begun::Escape => false,
+        Begun::EscapeDollar => false,
+        Begun::EscapeParenthesis => false,
     }
 }

@@ -1,5 +1,5 @@
 //! The encodings of the Encoding Standard: their names and labels, and decoders for bytes that arrive in
-//! pieces, cut anywhere. Bytes that are none of an encoding give U+FFFD, as the Standard says.
+//! pieces, cut anywhere. Bytes that are none of an encoding give U+FFFD, or are fatal, as the Standard says.
 #![tactic(auto)]
 
 mod big5;
@@ -28,6 +28,6 @@ mod steps;
 mod utf16;
 mod utf8;
 
-pub use crate::decoder::{Decoder, decode_all};
+pub use crate::decoder::{Decoded, Decoder, decode_all};
 pub use crate::encoding::{Encoding, SingleByte};
 pub use crate::laws::{any_cutting, at_most_one_character_a_byte, names_are_labels, text_is_kept};

@@ -1,6 +1,6 @@
 //! The Shift_JIS decoder.
 ghost use Rattle.std.specs.Prelude.{◌≡◌, ◌+◌, ◌-◌, ◌≤◌, IfOk, OnOk};
-ghost use Rattle.html5encodings.specs.ShiftJis.{code_point_of, handled, pointer_of};
+ghost use Rattle.html5encodings.specs.ShiftJis.{code_point_of, handled, pointer_of, returns_error};
 ghost use Rattle.html5encodings.specs.Steps.{Adds};
 
 use crate::pointers::in_jis0208;
@@ -64,4 +64,14 @@ pub(crate) fn half_width(byte: u8) -> char
     ensures { result ≡ 0xFF61 + (byte - 0xA1) }
 {
     unsafe { char::from_u32_unchecked(0xFF61 + (byte as u32 - 0xA1)) }
+}
+
+// Whether a byte is an error after a lead or none.
+pub(crate) fn returns_error(lead: Option<u8>, byte: u8) -> bool
+    ensures { result ≡ returns_error lead byte }
+{
+    match lead {
+        Some(lead) => character_of(pointer_of(lead, byte)).is_none(),
+        None => !matches!(byte, 0..=0x9F | 0xA1..=0xFC),
+    }
 }

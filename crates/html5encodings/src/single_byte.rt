@@ -1,7 +1,7 @@
 //! The single-byte encodings.
 ghost use Rattle.std.specs.Prelude.{◌≡◌, OnOk};
 ghost use Rattle.html5encodings.specs.IndexSingleByte.{index_of};
-ghost use Rattle.html5encodings.specs.SingleByte.{handled};
+ghost use Rattle.html5encodings.specs.SingleByte.{handled, returns_error};
 ghost use Rattle.html5encodings.specs.Steps.{Adds};
 
 use crate::encoding::SingleByte;
@@ -58,5 +58,16 @@ pub(crate) fn append_byte<A: Allocator>(
         text.push(byte as char)
     } else {
         append_or_error(character_at(index_of(single), byte as usize - 0x80), text)
+    }
+}
+
+// Whether a byte is an error.
+pub(crate) fn returns_error(single: SingleByte, byte: u8) -> bool
+    ensures { result ≡ returns_error single byte }
+{
+    if byte < 0x80 {
+        false
+    } else {
+        character_at(index_of(single), byte as usize - 0x80).is_none()
     }
 }

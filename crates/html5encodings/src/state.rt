@@ -1,6 +1,6 @@
 //! The decoders, byte by byte.
-ghost use Rattle.std.specs.Prelude.{◌≡◌, ◌<◌, ◌≤◌, IfOk, OnOk, encode_utf8_all, length, string_bytes, take};
-ghost use Rattle.html5encodings.specs.Decoding.{Continues, IsState, StandsForItself, at_end, given, handled, reads_ascii, reads_plain, reads_text, start, state_after};
+ghost use Rattle.std.specs.Prelude.{◌≡◌, ◌+◌, ◌^◌, ◌<◌, ◌≤◌, IfOk, IfSome, OnOk, encode_utf8_all, length, string_bytes, take};
+ghost use Rattle.html5encodings.specs.Decoding.{Continues, IsState, StandsForItself, at_end, given, given_before_error, handled, is_whole, len_before_error, reads_ascii, reads_plain, reads_text, returns_error, start, state_after, state_before_error};
 ghost use Rattle.html5encodings.specs.Steps.{Adds};
 
 use crate::encoding::{Encoding, SingleByte};
@@ -219,5 +219,96 @@ pub(crate) fn at_end(state: State) -> &'static str
         State::Iso2022Jp(before) => iso_2022_jp::at_end(before),
         State::Utf16(before) => error_if(utf16::is_begun(before)),
         State::SingleByte(_) | State::Replacement(_) | State::UserDefined => "",
+    }
+}
+
+// What comes before the first error: where it leaves the decoder, how many bytes it is of, and how many of them
+// the last whole character ends after, if one does.
+#[derive(Clone, Copy)]
+pub(crate) struct BeforeError {
+    pub(crate) left: State,
+    pub(crate) len: usize,
+    pub(crate) whole: Option<usize>,
+}
+
+// Appends the text of bytes before the first error.
+#[tactic(auto, unfolding(crate::specs::Decoding::handled, crate::specs::Decoding::returns_error))]
+pub(crate) fn append_before_error<A: Allocator>(
+    state: State,
+    bytes: &[u8],
+    text: &mut String<A>,
+) -> Result<BeforeError, AllocError>
+    requires { IsState state }
+    ensures text { OnOk result (Adds text.old text.new (given_before_error state bytes.now)) }
+    ensures leaves { IfOk result (λ before. before.left ≡ state_before_error state bytes.now) }
+    ensures len { IfOk result (λ before. before.len ≡ len_before_error state bytes.now) }
+    ensures whole { IfOk result (λ before. IfSome before.whole (λ whole. whole ≤ before.len)) }
+    ensures valid { IfOk result (λ before. IsState before.left) }
+{
+    let mut before = BeforeError {
+        left: state,
+        len: 0,
+        whole: None,
+    };
+    for byte in bytes {
+        if returns_error(before.left, *byte) {
+            return Ok(before);
+        }
+        before = longer(before, append_byte(before.left, *byte, text)?);
+    }
+    Ok(before)
+}
+
+// The same with one byte more, which leaves the decoder there.
+fn longer(before: BeforeError, left: State) -> BeforeError
+    requires { before.len + 1 < 2 ^ 64 }
+    ensures left { result.left ≡ left }
+    ensures len { result.len ≡ before.len + 1 }
+    ensures whole { IfSome before.whole (λ whole. whole ≤ before.len) → IfSome result.whole (λ whole. whole ≤ result.len) }
+{
+    let len = before.len + 1;
+    let whole = if is_whole(left) {
+        Some(len)
+    } else {
+        before.whole
+    };
+    BeforeError { left, len, whole }
+}
+
+// Whether a byte is an error.
+#[tactic(auto, unfolding(crate::specs::Decoding::returns_error))]
+fn returns_error(state: State, byte: u8) -> bool
+    ensures { result ≡ returns_error state byte }
+{
+    match state {
+        State::Utf8(part) => utf8::returns_error(part, byte),
+        State::SingleByte(single) => single_byte::returns_error(single, byte),
+        State::Gb18030(lead) => gb18030::returns_error(lead, byte),
+        State::Big5(lead) => big5::returns_error(lead, byte),
+        State::EucJp(lead) => euc_jp::returns_error(lead, byte),
+        State::Iso2022Jp(before) => iso_2022_jp::returns_error(before, byte),
+        State::ShiftJis(lead) => shift_jis::returns_error(lead, byte),
+        State::EucKr(lead) => euc_kr::returns_error(lead, byte),
+        State::Replacement(returned) => !returned,
+        State::Utf16(before) => utf16::returns_error(before, byte),
+        State::UserDefined => false,
+    }
+}
+
+// Whether nothing is begun.
+#[tactic(auto, unfolding(crate::specs::Decoding::is_whole))]
+pub(crate) fn is_whole(state: State) -> bool
+    ensures { result ≡ is_whole state }
+{
+    match state {
+        State::Utf8(part) => part.is_none(),
+        State::Gb18030(lead) => lead.is_none(),
+        State::Big5(lead) => lead.is_none(),
+        State::EucJp(lead) => lead.is_none(),
+        State::ShiftJis(lead) => lead.is_none(),
+        State::EucKr(lead) => lead.is_none(),
+        State::Iso2022Jp(before) => iso_2022_jp::is_whole(before),
+        State::Utf16(before) => !utf16::is_begun(before),
+        State::SingleByte(_) | State::Replacement(_) | State::UserDefined => true,
     }
 }

@@ -1,6 +1,6 @@
 //! The decoders of UTF-16.
 ghost use Rattle.std.specs.Prelude.{◌≡◌, ◌≤◌, ◌+◌, ◌*◌, ◌-◌, IfOk, IfSome, OnOk};
-ghost use Rattle.html5encodings.specs.Utf16.{IsLeadSurrogate, alone, code_unit, handled, handled_unit, is_begun};
+ghost use Rattle.html5encodings.specs.Utf16.{IsLeadSurrogate, alone, code_unit, handled, handled_unit, is_begun, is_unit_error, returns_error};
 ghost use Rattle.html5encodings.specs.Steps.{Adds};
 
 use std::alloc::{AllocError, Allocator};
@@ -108,4 +108,27 @@ fn pair(lead: u16, trail: u16) -> char
 {
     let high = (lead as u32 - 0xD800) * 0x400;
     unsafe { char::from_u32_unchecked(0x10000 + high + (trail as u32 - 0xDC00)) }
+}
+
+// Whether a byte is an error.
+pub(crate) fn returns_error(before: SharedUtf16, byte: u8) -> bool
+    ensures { result ≡ returns_error before byte }
+{
+    match before.lead_byte {
+        None => false,
+        Some(lead) => is_unit_error(
+            before.lead_surrogate,
+            code_unit(before.big_endian, lead, byte),
+        ),
+    }
+}
+
+// Whether a code unit is an error after a lead surrogate or none.
+fn is_unit_error(lead: Option<u16>, unit: u16) -> bool
+    ensures { result ≡ is_unit_error lead unit }
+{
+    match lead {
+        None => (0xDC00..=0xDFFF).contains(&unit),
+        Some(_) => !(0xDC00..=0xDFFF).contains(&unit),
+    }
 }

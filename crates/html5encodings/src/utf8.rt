@@ -1,6 +1,6 @@
 //! The UTF-8 decoder.
 ghost use Rattle.std.specs.Prelude.{◌≡◌, ◌≤◌, ◌<◌, ◌+◌, ◌*◌, ◌-◌, IfOk, IfSome, OnOk};
-ghost use Rattle.html5encodings.specs.Utf8.{IsPartial, alone, handled, joined, of_four, of_three, of_two};
+ghost use Rattle.html5encodings.specs.Utf8.{IsPartial, alone, handled, joined, of_four, of_three, of_two, returns_error};
 ghost use Rattle.html5encodings.specs.Steps.{Adds};
 
 use std::alloc::{AllocError, Allocator};
@@ -157,4 +157,14 @@ fn completed(partial: Partial, byte: u8) -> char
     ensures { result ≡ joined partial byte }
 {
     unsafe { char::from_u32_unchecked(joined(partial, byte)) }
+}
+
+// Whether a byte is an error after a part of a character or none.
+pub(crate) fn returns_error(part: Option<Partial>, byte: u8) -> bool
+    ensures { result ≡ returns_error part byte }
+{
+    match part {
+        None => !matches!(byte, 0..=0x7F | 0xC2..=0xF4),
+        Some(partial) => !(partial.lower <= byte && byte <= partial.upper),
+    }
 }

@@ -11,7 +11,7 @@ use Rattle.markup5ever.specs.NamedReferences.{NamedReference}
 use Rattle.html5ever_interface.specs.Token.{Told, is_text}
 use Rattle.html5programs.specs.Fronts.{front_named, in_front}
 use Rattle.html5sinks.specs.Pausing.{pausing_reply}
-use Rattle.token_printer.specs.Output.{Output, added_by, open_after}
+use Rattle.token_printer.specs.Output.{Output, added_by, open_after, text_closing}
 
 -- the printer, whether a text is open in its last line, the name in front of lines, and how many tokens could not be printed
 pub record LinePrinter (W : Type 0) : Type 0 where
@@ -38,9 +38,13 @@ lines_started printer front = record { printer = printer; in_text = false; front
 abbrev pub lines_of : {W : Type 0} → LinePrinter W → TokenReading
 lines_of p = record { lines = p.printer.printed; in_text = p.in_text; front = p.front }
 
--- where a file of this name is next
+-- where a text that was open has ended
+abbrev pub tokens_closed : TokenReading → TokenReading
+tokens_closed s = record s { lines = s.lines ++ text_closing s.in_text; in_text = false }
+
+-- where a file of this name is next: a text that the file before it left open ends
 abbrev pub tokens_named : List ℕ → TokenReading → TokenReading
-tokens_named file s = record s { front = front_named file s.front }
+tokens_named file s = record (tokens_closed s) { front = front_named file s.front }
 
 -- ---- what a token adds to the lines, with what stands in front of a line
 

@@ -10,7 +10,7 @@ use devices::{Printer, Source, Target};
 use html5programs::{Filter, Front};
 use html5stream::{StreamError, read_tags};
 use markup5ever::data::NamedReferences;
-use std::alloc::{AllocError, Allocator, Global};
+use std::alloc::{Allocator, Global};
 
 /// Reads a page, and prints its links as it arrives, in the order in which they stand there, each where it
 /// leads from the page's URL, or from the base that the tags before it name.
@@ -63,7 +63,7 @@ impl<W: Target + Drop> Filter<W> for Links<W> {
         }
     }
 
-    fn name_file(&mut self, alloc: Global, file: &str) -> Result<(), AllocError> {
+    fn name_file(&mut self, alloc: Global, file: &str) -> Result<(), StreamError> {
         self.front.name_file(alloc, file)
     }
 

@@ -9,7 +9,7 @@ use devices::{Printer, Source, Target};
 use html5programs::Filter;
 use html5stream::{StreamError, read_tokens};
 use markup5ever::data::NamedReferences;
-use std::alloc::{AllocError, Allocator, Global};
+use std::alloc::{Allocator, Global};
 
 /// Reads a page, and prints its text as it arrives, without scripts and styles.
 pub fn read_text<R: Source, W: Target, A: Allocator + Copy>(
@@ -53,7 +53,7 @@ impl<W: Target + Drop> Filter<W> for PageText<W> {
         PageText::new(printer)
     }
 
-    fn name_file(&mut self, _alloc: Global, _file: &str) -> Result<(), AllocError> {
+    fn name_file(&mut self, _alloc: Global, _file: &str) -> Result<(), StreamError> {
         Ok(())
     }
 

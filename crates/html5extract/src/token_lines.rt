@@ -2,8 +2,8 @@
 ghost use Rattle.std.specs.Prelude.{◌≡◌, ◌++◌, [], false, true, string_bytes, IfOk, OnOk, OnErr};
 ghost use Rattle.html5ever_interface.specs.Token.{is_text, told_by, reply_of};
 ghost use Rattle.html5ever_interface.specs.Token.Told.{Text};
-ghost use Rattle.html5extract.specs.TokenLines.{byte_added, line_output, lines_added, lines_started, token_added, token_named};
-ghost use Rattle.html5programs.specs.Fronts.{front_named, in_front};
+ghost use Rattle.html5extract.specs.TokenLines.{byte_added, line_output, lines_added, lines_of, lines_started, token_added, token_named, tokens_closed, tokens_named};
+ghost use Rattle.html5programs.specs.Fronts.{in_front};
 ghost use Rattle.html5sinks.specs.Pausing.{pausing_reply};
 ghost use Rattle.token_printer.specs.Output.{open_after};
 
@@ -12,6 +12,7 @@ use ghost_counts::Count;
 use html5ever_interface::interface::sink::TokenSink;
 use html5ever_interface::interface::token::{SinkFault, Token, TokenSinkResult};
 use html5programs::Front;
+use html5stream::StreamError;
 use std::alloc::{AllocError, Allocator, Global};
 use std::marker::Model;
 use token_printer::print_sink::PrintSink;
@@ -219,12 +220,33 @@ impl<W: Target, A: Allocator> TokenLines<W, A> {
 }
 
 impl<W: Target> TokenLines<W> {
-    /// Takes note of the name of the file that is read next.
-    pub fn name_file(&mut self, alloc: Global, file: &str) -> Result<(), AllocError>
-        ensures ok { OnOk result (self.new ≡ record self.old { front = front_named file.now self.old.front }) }
-        ensures err { OnErr result (self.new ≡ self.old) }
+    /// Takes note of the name of the file that is read next. A text that the file before it left open ends.
+    pub fn name_file(&mut self, alloc: Global, file: &str) -> Result<(), StreamError>
+        ensures ok { OnOk result (lines_of self.new ≡ tokens_named file.now (lines_of self.old)) }
+        ensures err { OnErr result (lines_of self.new ≡ lines_of self.old) }
     {
-        self.front.name_file(alloc, file)
+        let mut front = Front::new(alloc, self.front.is_shown());
+        front.name_file(alloc, file)?;
+        self.close_text()?;
+        self.front = front;
+        Ok(())
+    }
+
+    // Ends the line of a text that is open.
+    fn close_text(&mut self) -> Result<(), StreamError>
+        ensures ok { OnOk result (lines_of self.new ≡ tokens_closed (lines_of self.old)) }
+        ensures err { OnErr result (lines_of self.new ≡ lines_of self.old) }
+    {
+        if !self.in_text {
+            return Ok(());
+        }
+        match print_all(&mut self.printer, b"\"\n") {
+            Ok(()) => {
+                self.in_text = false;
+                Ok(())
+            }
+            Err(SinkFault) => Err(StreamError::Sink),
+        }
     }
 }
 

@@ -11,7 +11,7 @@ use html5ever_interface::options::TokenizerOpts;
 use html5programs::{Filter, Front};
 use html5stream::{StreamError, read_source};
 use markup5ever::data::NamedReferences;
-use std::alloc::{AllocError, Allocator, Global};
+use std::alloc::{Allocator, Global};
 
 /// Reads a page, and prints its tokens as it arrives, a line each, with errors and pauses.
 pub fn read_lines<R: Source, W: Target, A: Allocator + Copy>(
@@ -56,7 +56,7 @@ impl<W: Target + Drop> Filter<W> for TokenLines<W> {
         TokenLines::new(alloc, printer, Front::new(alloc, settings.shows_names))
     }
 
-    fn name_file(&mut self, alloc: Global, file: &str) -> Result<(), AllocError> {
+    fn name_file(&mut self, alloc: Global, file: &str) -> Result<(), StreamError> {
         TokenLines::name_file(self, alloc, file)
     }
 

@@ -79,7 +79,7 @@ impl<W: Target + Drop> Filter<W> for JsonLinks<W> {
         }
     }
 
-    fn name_file(&mut self, alloc: Global, file: &str) -> Result<(), AllocError> {
+    fn name_file(&mut self, alloc: Global, file: &str) -> Result<(), StreamError> {
         self.front.name_file(alloc, file)
     }
 

@@ -9,7 +9,7 @@ use html5programs::{Filter, Front};
 use html5sinks::text_runs::TokenHandler;
 use html5stream::{StreamError, read_tokens};
 use markup5ever::data::NamedReferences;
-use std::alloc::{AllocError, Allocator, Global};
+use std::alloc::{Allocator, Global};
 
 /// Prints the tokens that it takes, an object of JSON a line, with the name of their file where there is one. A run of text is one object, and a parse error
 /// within it stands before it.
@@ -69,7 +69,7 @@ impl<W: Target + Drop> Filter<W> for JsonTokens<W> {
         }
     }
 
-    fn name_file(&mut self, alloc: Global, file: &str) -> Result<(), AllocError> {
+    fn name_file(&mut self, alloc: Global, file: &str) -> Result<(), StreamError> {
         self.front.name_file(alloc, file)
     }
 

@@ -1,12 +1,13 @@
 -- The encoding of the pages that a program reads.
-use Rattle.std.specs.Prelude.{◌≡◌, List, ℕ, Bool, true, false, Option, None, Some, IfSome}
+use Rattle.std.specs.Prelude.{◌≡◌, List, ℕ, Bool, true, false, Option, None, Some, IfSome, encode_utf8_all, take}
 use Rattle.std.specs.Io.KnownBytes.{Consumes, IsAtEnd}
 use Rattle.html5encodings.specs.Encodings.{encoding_of}
 use Rattle.html5encodings.specs.declared.encoding.Encoding.{Encoding}
-use Rattle.html5sniffing.specs.PageEncoding.{text_of_page}
+use Rattle.html5encodings.specs.Decoding.{IsIn, decoded}
+use Rattle.html5sniffing.specs.PageEncoding.{encoding_of_page, text_of_page}
 use Rattle.markup5ever.specs.NamedReferences.{NamedReference}
 use Rattle.html5programs.specs.declared.encoded.PageDecoding.{PageDecoding}
-use Rattle.html5programs.specs.declared.encoded.PageDecoding.TheVariants.{Utf8Alone, ByPage}
+use Rattle.html5programs.specs.declared.encoded.PageDecoding.TheVariants.{Utf8Alone, Fatal, ByPage}
 
 -- the encoding that a label names, or none where no label is given
 abbrev pub IsEncodingAsked : Option (List ℕ) → Option Encoding → Type 0
@@ -19,13 +20,21 @@ abbrev pub IsUnknownLabel : Option (List ℕ) → Type 0
 IsUnknownLabel None = ⊥
 IsUnknownLabel (Some label) = encoding_of label ≡ None
 
--- how pages are decoded of which this encoding is said, by whether bytes that are no UTF-8 are to be refused
+-- how pages are decoded of which this encoding is said, or none, by whether bytes that are none of it are to be refused
 abbrev pub decoding_of : Bool → Option Encoding → PageDecoding
-decoding_of true said = Utf8Alone
+decoding_of true None = Utf8Alone
+decoding_of true (Some encoding) = Fatal encoding
 decoding_of false said = ByPage said
 
+-- The bytes of a page are all in its encoding, and the text is what they decode to.
+pub record IsTextIn (by : Encoding) (bytes text : List ℕ) : Type 0 where
+  pub no_error : IsIn by bytes
+  pub decoded : text ≡ encode_utf8_all (decoded by bytes)
+
 -- The text of a page that a source gave, by a table of references. As UTF-8 alone it is the bytes that the source had left, up to its
--- end; else it is what all of them decode to by the encoding of the page.
+-- end; else it is what all of them decode to by the encoding of the page, and where errors are fatal there is none in them.
 abbrev pub IsTextOf : List NamedReference → PageDecoding → Option (List ℕ) → Option (List ℕ) → List ℕ → Type 0
 IsTextOf references Utf8Alone unread left text = Consumes unread left text × IsAtEnd left
+IsTextOf references (Fatal said) unread left text =
+    IfSome unread (λ bytes. IsTextIn (encoding_of_page references (Some said) None (take 1024 bytes)) bytes text)
 IsTextOf references (ByPage said) unread left text = IfSome unread (λ bytes. text ≡ text_of_page references said None bytes)

@@ -1,5 +1,6 @@
 pub mod Words
 pub mod References
+pub mod Lines
 pub mod Messages
 pub mod Filtering
 pub mod Ending

@@ -3,7 +3,7 @@ ghost use Rattle.std.specs.Prelude.{◌≡◌, ◌≢◌, true, IsOk, OnOk, map}
 ghost use Rattle.html5programs.specs.Ending.{PrintsFiles};
 ghost use Rattle.html5programs.specs.Filtering.{ReadsFile, ReadsFiles};
 
-use crate::encoded::{PageDecoding, read_page};
+use crate::encoded::{PageDecoding, PageError, read_page};
 use crate::ending::Ending;
 use crate::filter::Filter;
 use crate::input::Input;
@@ -26,6 +26,13 @@ enum FileError {
     System(io::Error),
     #[error("{0}")]
     Stream(StreamError),
+    // The bytes from this place on, which is on this line, are none of the encoding of this name.
+    #[error("line {line}: the bytes from place {place} on are no {name}")]
+    Bytes {
+        name: &'static str,
+        place: u64,
+        line: u64,
+    },
 }
 
 // How reading the files ends.
@@ -40,15 +47,27 @@ enum Outcome {
 }
 
 // Why a file was not read to its end, where the system said this of a read.
-fn file_error(error: StreamError, fault: Option<io::Error>) -> FileError {
+fn file_error(error: PageError, fault: Option<io::Error>) -> FileError {
     match (error, fault) {
-        (StreamError::Read, Some(fault)) => FileError::System(fault),
-        _ => FileError::Stream(error),
+        (PageError::Stream(StreamError::Read), Some(fault)) => FileError::System(fault),
+        (PageError::Stream(error), _) => FileError::Stream(error),
+        (
+            PageError::Bytes {
+                encoding,
+                place,
+                line,
+            },
+            _,
+        ) => FileError::Bytes {
+            name: encoding.name(),
+            place,
+            line,
+        },
     }
 }
 
 // The same answer in words of files.
-fn read_or_error(read: Result<(), StreamError>, fault: Option<io::Error>) -> Result<(), FileError>
+fn read_or_error(read: Result<(), PageError>, fault: Option<io::Error>) -> Result<(), FileError>
     ensures { OnOk result (IsOk read) }
 {
     match read {
@@ -71,8 +90,8 @@ fn read_file<F: Filter<W>, W: Target + Drop, R: Files + Alloc<A = Global>, I: Re
     ensures read { OnOk result.1 (decoding ≡ PageDecoding.Utf8Alone → stdin.new.failures ≡ stdin.old.failures) }
 {
     let mut filter = filter;
-    if filter.name_file(rt.alloc(), file).is_err() {
-        return (filter, Err(FileError::Stream(StreamError::Memory)));
+    if let Err(error) = filter.name_file(rt.alloc(), file) {
+        return (filter, Err(FileError::Stream(error)));
     }
     if file == "-" {
         let (filter, read) = read_page(rt.alloc(), filter, references, decoding, stdin);

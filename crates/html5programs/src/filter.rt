@@ -3,7 +3,7 @@ use crate::settings::Settings;
 use devices::{Printer, Source, Target};
 use html5stream::StreamError;
 use markup5ever::data::NamedReferences;
-use std::alloc::{AllocError, Global};
+use std::alloc::Global;
 
 /// What a program makes of the pages that it reads: what it prints.
 pub trait Filter<W: Target + Drop>: Drop {
@@ -27,7 +27,7 @@ pub trait Filter<W: Target + Drop>: Drop {
         ensures { state result ≡ means.started settings printer.printed };
 
     /// Takes note of the name of the file that is read next.
-    fn name_file(&mut self, alloc: Global, file: &str) -> Result<(), AllocError>
+    fn name_file(&mut self, alloc: Global, file: &str) -> Result<(), StreamError>
         ensures named { OnOk result (state self.new ≡ means.named file.now (state self.old)) }
         ensures err { OnErr result (state self.new ≡ state self.old) };
 

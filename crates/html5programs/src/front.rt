@@ -1,7 +1,8 @@
 //! The name of a file in front of what is printed of it.
-ghost use Rattle.std.specs.Prelude.{◌≡◌, ◌++◌, OnErr, OnOk, is_some, option_map};
+ghost use Rattle.std.specs.Prelude.{◌≡◌, ◌++◌, IfErr, OnErr, OnOk, is_some, option_map};
 ghost use Rattle.html5programs.specs.Fronts.{front_at_start, front_named, in_front};
 
+use html5stream::StreamError;
 use std::alloc::{AllocError, Allocator, Global};
 use std::marker::Model;
 
@@ -33,12 +34,15 @@ impl Front {
     }
 
     /// Where a file begins.
-    pub fn name_file(&mut self, alloc: Global, file: &str) -> Result<(), AllocError>
+    pub fn name_file(&mut self, alloc: Global, file: &str) -> Result<(), StreamError>
         ensures ok { OnOk result (self.new ≡ front_named file.now self.old) }
+        ensures memory { IfErr result (λ error. error ≡ StreamError.Memory) }
         ensures err { OnErr result (self.new ≡ self.old) }
     {
         if self.name.is_some() {
-            let name = String::from_str(alloc, file)?;
+            let Ok(name) = String::from_str(alloc, file) else {
+                return Err(StreamError::Memory);
+            };
             self.name = Some(name);
         }
         Ok(())

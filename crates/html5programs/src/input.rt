@@ -1,16 +1,18 @@
 //! What a program reads from.
 ghost use Rattle.std.specs.Prelude.{◌≡◌};
 
+use crate::lines::{CHUNK, Lines};
 use devices::{ReadSource, Source};
 use std::io;
 use std::io::Read;
 use std::marker::Model;
 
-/// A reader as a source, which knows why a read failed.
+/// A reader as a source, which knows why a read failed, and where that is asked for the lines of what it gave.
 #[derive(Drop)]
 pub struct Input<R> {
     source: ReadSource<R>,
     fault: Option<io::Error>,
+    lines: Option<Lines>,
 }
 
 impl<R> Model for Input<R> {
@@ -29,6 +31,22 @@ impl<R> Input<R> {
         Input {
             source: ReadSource::new(inner),
             fault: None,
+            lines: None,
+        }
+    }
+
+    /// Begins with the lines of what it gives from here on.
+    pub fn begin_lines(&mut self)
+        ensures { self.new ≡ self.old }
+    {
+        self.lines = Some(Lines::new());
+    }
+
+    /// The line that a place is on, by what was given since the lines were begun.
+    pub fn line_at(&self, place: u64) -> u64 {
+        match &self.lines {
+            Some(lines) => lines.line_at(place),
+            None => 1,
         }
     }
 
@@ -44,8 +62,14 @@ impl<R: Read> Source for Input<R> {
     ghost failures = { λ i. i.failures };
 
     fn read(&mut self, buf: &mut [u8]) -> io::Result<usize> {
-        match self.source.read(buf) {
-            Ok(n) => Ok(n),
+        let room = buf.len().min(CHUNK);
+        match self.source.read(&mut buf[..room]) {
+            Ok(n) => {
+                if let Some(lines) = &mut self.lines {
+                    lines.add(&buf[..n]);
+                }
+                Ok(n)
+            }
             Err(e) => {
                 self.fault = Some(e);
                 Err(e)

@@ -8,6 +8,7 @@ mod files;
 mod filter;
 mod front;
 mod input;
+mod lines;
 mod messages;
 mod output;
 mod program;
