@@ -33,9 +33,9 @@ Without a FILE, or where it is -, standard input is read. After -- all words are
             "  --encoding LABEL the encoding that is said of the pages, as by a server: a label of the
                    Encoding Standard, as windows-1252, shift_jis or utf-16le. A byte order mark
                    decides before it. Where it isn't given, a <meta charset=..> in a page's first
-                   1,024 bytes decides, or else whether these are UTF-8; pages that are not are
-                   windows-1252. Bytes that are none of a page's encoding are read as U+FFFD.
-                   What is printed is UTF-8
+                   1,024 bytes decides, or in the ASCII that it begins with, or else whether these
+                   bytes are UTF-8; pages that are not are windows-1252. Bytes that are none of a
+                   page's encoding are read as U+FFFD. What is printed is UTF-8
                    Example: firnuubal ",
             $command,
             " --encoding shift_jis page.html
