@@ -1,4 +1,5 @@
 pub mod Fronts
 pub mod Meta
+pub mod PageDecoding
 pub mod PageEncoding
 pub mod Pages

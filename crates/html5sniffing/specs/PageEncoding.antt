@@ -62,6 +62,14 @@ hinted references fallback front = let tentative : Encoding = default_of fallbac
 unfoldable pub encoding_of_page : List NamedReference → Option Encoding → Option Encoding → List ℕ → Encoding
 encoding_of_page references said fallback front = unwrap_or (option_or (marked front) said) (hinted references fallback front)
 
+-- the front of a page: as many of its bytes as are looked at
+abbrev pub front_of : List ℕ → List ℕ
+front_of bytes = take 1024 bytes
+
+-- the encoding of a page with these bytes
+abbrev pub encoding_by : List NamedReference → Option Encoding → Option Encoding → List ℕ → Encoding
+encoding_by references said fallback bytes = encoding_of_page references said fallback (front_of bytes)
+
 -- the text of a page: all its bytes, decoded by the encoding of the page
 abbrev pub text_of_page : List NamedReference → Option Encoding → Option Encoding → List ℕ → List ℕ
-text_of_page references said fallback bytes = encode_utf8_all (decoded (encoding_of_page references said fallback (take 1024 bytes)) bytes)
+text_of_page references said fallback bytes = encode_utf8_all (decoded (encoding_by references said fallback bytes) bytes)

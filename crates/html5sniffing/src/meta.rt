@@ -139,8 +139,8 @@ fn label_in(content: &[u8]) -> Option<&[u8]>
     label_at(after_first_charset_equals(content)?)
 }
 
-// The encoding that a label names. One that is no text names none.
-fn encoding_of(label: &[u8]) -> Option<Encoding>
+/// The encoding that the bytes of a label name. A label that is no text names none.
+pub fn encoding_of(label: &[u8]) -> Option<Encoding>
     ensures { result ≡ encoding_of label.now }
 {
     match str::from_utf8(label) {

@@ -1,10 +1,10 @@
 //! A page whose encoding is known, and its text.
-ghost use Rattle.std.specs.Prelude.{◌≡◌, ◌+◌, ◌++◌, option_map, take, encode_utf8_all, IfErr, IfOk, IfSome, OnOk};
+ghost use Rattle.std.specs.Prelude.{◌≡◌, ◌+◌, ◌++◌, option_map, encode_utf8_all, IfErr, IfOk, IfSome, OnOk};
 ghost use Rattle.std.specs.Io.KnownBytes.{Consumes, prepend_known};
 ghost use Rattle.decoded_source.specs.Texts.{text_from};
 ghost use Rattle.html5encodings.specs.Decoding.{decoded};
 ghost use Rattle.html5stream.specs.Streams.{failed_reads};
-ghost use Rattle.html5sniffing.specs.PageEncoding.{encoding_of_page};
+ghost use Rattle.html5sniffing.specs.PageEncoding.{encoding_by};
 ghost use Rattle.html5sniffing.specs.Pages.{IsOpeningError};
 
 use crate::front::Front;
@@ -35,7 +35,7 @@ pub fn open_page<R: Source, A: Allocator + Copy>(
     ensures given { IfOk result (λ opening.
         Consumes (R.remaining source.old) (R.remaining source.new) opening.front) }
     ensures encoding { IfOk result (λ opening. IfSome (R.remaining source.old) (λ bytes.
-        opening.encoding ≡ encoding_of_page references.now said fallback (take 1024 bytes))) }
+        opening.encoding ≡ encoding_by references.now said fallback bytes)) }
     ensures err { IfErr result IsOpeningError }
     ensures read { R.failures source.new ≡ R.failures source.old + failed_reads result }
 {

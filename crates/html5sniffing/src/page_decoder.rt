@@ -1,0 +1,236 @@
+//! The text of a page whose bytes are pushed.
+ghost use Rattle.std.specs.Prelude.{◌≡◌, ◌↔◌, ◌⊎◌, [], encode_utf8_all, length, option_map, string_bytes, take, IfOk, IsTrue, OnErr, OnOk, None};
+ghost use Rattle.html5encodings.specs.Decoding.{given, start, state_after};
+ghost use Rattle.html5sniffing.specs.PageDecoding.{GoesOn, IsUnbegun, anew, page_start, text_with};
+ghost use Rattle.html5sniffing.specs.PageEncoding.{encoding_by};
+
+use crate::front::FRONT_LEN;
+use crate::page_encoding::sniff;
+use html5encodings::{Decoder, Encoding};
+use markup5ever::data::NamedReferences;
+use std::alloc::{AllocError, Allocator, Global};
+use std::marker::Model;
+use std::mem;
+
+/// The encoding of a page, and its decoder.
+#[derive(Drop)]
+pub struct Known {
+    pub encoding: Encoding,
+    pub decoder: Decoder,
+}
+
+/// Makes a text of the bytes of a page that are pushed, cut anywhere. Its first bytes are held until they tell which
+/// encoding it is in, as `sniff` does. Bytes that are none of it give U+FFFD.
+#[derive(Drop)]
+pub struct PageDecoder<A: Allocator = Global> {
+    alloc: A,
+    said: Option<Encoding>,
+    fallback: Option<Encoding>,
+    held: Vec<u8, A>,
+    known: Option<Known>,
+    ended: bool,
+}
+
+impl<A: Allocator> Model for PageDecoder<A> {
+    ghost use Rattle.html5sniffing.specs.PageDecoding.{HoldsFront, PageDecoding};
+
+    ghost Value = { PageDecoding };
+
+    ghost view = { λ d. record {
+      said = d.said;
+      fallback = d.fallback;
+      held = d.held.items;
+      known = d.known;
+      ended = d.ended;
+    } };
+
+    ghost invariant = { λ d. HoldsFront d.known d.held.items };
+}
+
+// What the bytes of a page make: its encoding with the decoder after them, and their text.
+#[derive(Drop)]
+struct Opened<A: Allocator> {
+    known: Known,
+    text: String<A>,
+}
+
+// The bytes that are looked at of those at the start of a page.
+fn front_of(bytes: &[u8]) -> &[u8]
+    ensures { result.now ≡ take 1024 bytes.now }
+{
+    &bytes[..FRONT_LEN.min(bytes.len())]
+}
+
+// Decodes bytes that are the front of a page and what follows, or all of it.
+fn open_bytes<A: Allocator + Copy>(
+    alloc: A,
+    references: &NamedReferences<A>,
+    bytes: &[u8],
+    said: Option<Encoding>,
+    fallback: Option<Encoding>,
+) -> Result<Opened<A>, AllocError>
+    ensures encoding { IfOk result (λ opened.
+        opened.known.encoding ≡ encoding_by references.now said fallback bytes.now) }
+    ensures decoder { IfOk result (λ opened.
+        opened.known.decoder ≡ state_after (start opened.known.encoding) bytes.now) }
+    ensures text { IfOk result (λ opened.
+        string_bytes opened.text ≡ encode_utf8_all (given (start opened.known.encoding) bytes.now)) }
+{
+    let encoding = sniff(alloc, references, front_of(bytes), said, fallback)?;
+    let mut decoder = Decoder::new(encoding);
+    let text = decoder.decode(alloc, bytes)?;
+    Ok(Opened {
+        known: Known { encoding, decoder },
+        text,
+    })
+}
+
+// A decoder of this encoding that begins anew.
+fn known_anew(encoding: Encoding) -> Known
+    ensures encoding { result.encoding ≡ encoding }
+    ensures decoder { result.decoder ≡ start encoding }
+{
+    Known {
+        encoding,
+        decoder: Decoder::new(encoding),
+    }
+}
+
+impl<A: Allocator> PageDecoder<A> {
+    /// The encoding of the page, once it is known.
+    pub fn encoding(&self) -> Option<Encoding>
+        ensures { result ≡ option_map (λ known. known.encoding) self.now.known }
+    {
+        match &self.known {
+            Some(known) => Some(known.encoding),
+            None => None,
+        }
+    }
+
+    /// How many bytes are held, since the encoding isn't known yet.
+    pub fn held_len(&self) -> usize
+        ensures { result ≡ length self.now.held }
+    {
+        self.held.len()
+    }
+
+    /// Whether the bytes were ended (`finish`), and none came after that.
+    pub fn is_ended(&self) -> bool
+        ensures { result ≡ self.now.ended }
+    {
+        self.ended
+    }
+
+    /// Whether no byte was pushed.
+    pub fn is_unbegun(&self) -> bool
+        ensures { IsTrue result ↔ IsUnbegun self.now }
+    {
+        self.held.is_empty() && self.known.is_none()
+    }
+}
+
+impl<A: Allocator + Copy> PageDecoder<A> {
+    /// The decoder of a page of which this encoding is said, as by a header of the transport, and which is in the
+    /// other where nothing tells.
+    pub fn new(alloc: A, said: Option<Encoding>, fallback: Option<Encoding>) -> PageDecoder<A>
+        ensures { result ≡ page_start said fallback }
+    {
+        PageDecoder {
+            alloc,
+            said,
+            fallback,
+            held: Vec::new(alloc),
+            known: None,
+            ended: false,
+        }
+    }
+
+    /// The decoder of another page of which the same is said.
+    pub fn restarted(&self) -> PageDecoder<A>
+        ensures { result ≡ page_start self.now.said self.now.fallback }
+    {
+        PageDecoder::new(self.alloc, self.said, self.fallback)
+    }
+
+    // Pushes bytes while the encoding isn't known.
+    fn push_front(
+        &mut self,
+        references: &NamedReferences<A>,
+        bytes: &[u8],
+    ) -> Result<String<A>, AllocError>
+        requires { self.old.known ≡ None }
+        ensures goes_on { IfOk result (λ text. GoesOn references.now self.old self.new bytes.now (string_bytes text)) }
+        ensures err { OnErr result (self.new ≡ self.old) }
+    {
+        let before = self.held.len();
+        self.held.extend_from_slice(bytes)?;
+        if self.held.len() < FRONT_LEN {
+            return Ok(String::new(self.alloc));
+        }
+        match open_bytes(self.alloc, references, &self.held, self.said, self.fallback) {
+            Ok(opened) => {
+                self.known = Some(opened.known);
+                self.held = Vec::new(self.alloc);
+                Ok(opened.text)
+            }
+            Err(error) => {
+                self.held.truncate(before);
+                Err(error)
+            }
+        }
+    }
+
+    /// The text of a piece, as far as it is decided: none while the encoding isn't known. After a refused growth the
+    /// decoder stands as before, so the piece can be pushed again.
+    pub fn push(
+        &mut self,
+        references: &NamedReferences<A>,
+        bytes: &[u8],
+    ) -> Result<String<A>, AllocError>
+        ensures goes_on { IfOk result (λ text. GoesOn references.now self.old self.new bytes.now (string_bytes text)) }
+        ensures nothing { bytes.now ≡ [] → self.new ≡ self.old }
+        ensures err { OnErr result (self.new ≡ self.old) }
+    {
+        if bytes.is_empty() {
+            return Ok(String::new(self.alloc));
+        }
+        let Some(known) = &mut self.known else {
+            return self.push_front(references, bytes);
+        };
+        let text = known.decoder.decode(self.alloc, bytes)?;
+        self.ended = false;
+        Ok(text)
+    }
+
+    // Ends the bytes where the encoding isn't known: what is held is the page.
+    fn finish_front(&mut self, references: &NamedReferences<A>) -> Result<String<A>, AllocError>
+        requires { self.old.known ≡ None }
+        ensures text { IfOk result (λ text. string_bytes text ≡ text_with references.now self.old []) }
+        ensures ok { OnOk result (self.new ≡ anew references.now self.old) }
+        ensures err { OnErr result (self.new ≡ self.old) }
+    {
+        let Opened { known, mut text } =
+            open_bytes(self.alloc, references, &self.held, self.said, self.fallback)?;
+        text.push_str(known.decoder.finish())?;
+        self.known = Some(known_anew(known.encoding));
+        self.held = Vec::new(self.alloc);
+        self.ended = true;
+        Ok(text)
+    }
+
+    /// Ends the bytes, and gives the rest of the text. What is pushed after that is decoded anew, in the same encoding.
+    /// After a refused growth the decoder is as it was, or the rest of the text is lost.
+    pub fn finish(&mut self, references: &NamedReferences<A>) -> Result<String<A>, AllocError>
+        ensures text { IfOk result (λ text. string_bytes text ≡ text_with references.now self.old []) }
+        ensures ok { OnOk result (self.new ≡ anew references.now self.old) }
+        ensures err { OnErr result ((self.new ≡ self.old) ⊎ (self.new ≡ anew references.now self.old)) }
+    {
+        let Some(known) = &mut self.known else {
+            return self.finish_front(references);
+        };
+        let next = Decoder::new(known.encoding);
+        let last = mem::replace(&mut known.decoder, next).finish();
+        self.ended = true;
+        String::from_str(self.alloc, last)
+    }
+}
