@@ -1,7 +1,9 @@
 """Tests of pages in any encoding: those that are said, those that pages tell, pieces, what is refused."""
 
 import io
+import pathlib
 import random
+import subprocess
 import unittest
 
 import firnuubal
@@ -26,6 +28,29 @@ PAGES = [
     (b"caf\xff!", "utf-8", "UTF-8", "caf\ufffd!"),
     (b"", "auto", "UTF-8", ""),
 ]
+
+
+PROGRAM = pathlib.Path(__file__).resolve().parents[3] / "crates/firnuubal/out/firnuubal"
+PARTS = [
+    b"<meta charset=shift_jis>", b"<meta charset='euc-kr'>", b"<META http-equiv=content-type content='x;charset=gbk'>", b"<meta charset=utf-16>",
+    b"<script>", b"</script>", b"<!--", b"-->", b"<p>", b"</p", b"\xef\xbb\xbf", b"\xff\xfe", b"\xfe\xff", b"\x1b$B", b"\x0e",
+    "日本".encode("shift_jis"), "한글".encode("euc_kr"), "é–€".encode("cp1252"), "é日".encode(), b" text \r\n" * 20,
+]
+
+
+def random_page(choose):
+    """A page of hints, marks and characters of any encoding, and of any bytes."""
+    parts = choose.choices(PARTS + [bytes(choose.choices(range(256), k=5))], k=choose.randrange(25))
+    return b"".join(choose.choices(PARTS, k=choose.randrange(3)) + [b"a" * choose.choice((0, 0, 500, 1000, 1500))] + parts)
+
+
+def random_pieces(choose, page):
+    pieces = []
+    while page:
+        size = choose.choice((1, 2, 3, 50, 1024, 5000))
+        pieces.append(page[:size])
+        page = page[size:]
+    return pieces
 
 
 def read_in_pieces(page, piece, encoding):
@@ -73,6 +98,18 @@ class Encodings(unittest.TestCase):
                     pieces.append(page[at : at + size])
                     at += size
                 self.assertEqual(list(tokens(pieces, encoding=label)), list(tokens(content)))
+
+    @unittest.skipUnless(PROGRAM.exists(), "there is no program to compare with")
+    def test_random_pages_as_the_program_reads_them(self):
+        choose = random.Random(2)
+        for _ in range(150):
+            page = random_page(choose)
+            label = choose.choice([None, None, "latin1", "shift_jis", "utf-8", "gb18030", "iso-2022-jp", "utf-16le"])
+            words = ["--encoding", label] if label else []
+            for command, call in (("text", text), ("clean", clean)):
+                said = subprocess.run([PROGRAM, command, *words], input=page, stdout=subprocess.PIPE, check=True)
+                found = call(random_pieces(choose, page), encoding=label or "auto")
+                self.assertEqual(found, said.stdout.decode(), (command, label, page))
 
     def test_a_cleaner_keeps_what_was_said(self):
         with Cleaner(encoding="shift_jis") as cleaner:

@@ -282,11 +282,7 @@ impl<A: Allocator + Copy> Intake<A> {
     }
 
     // Takes a piece of a page that is decoded.
-    fn take_page(
-        &mut self,
-        references: &NamedReferences<A>,
-        bytes: &[u8],
-    ) -> Result<(), AllocError>
+    fn take_page(&mut self, references: &NamedReferences<A>, bytes: &[u8]) -> Result<(), AllocError>
         requires { is_decoding self.old ≡ true }
         ensures takes { OnOk result (TakesPiece references.now self.old self.new (Bytes bytes.now)) }
         ensures refused { OnErr result (PieceRefused self.old self.new) }

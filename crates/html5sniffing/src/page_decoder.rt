@@ -209,8 +209,13 @@ impl<A: Allocator + Copy> PageDecoder<A> {
         ensures ok { OnOk result (self.new ≡ anew references.now self.old) }
         ensures err { OnErr result (self.new ≡ self.old) }
     {
-        let Opened { known, mut text } =
-            open_bytes(self.alloc, references, &self.held, self.said, self.fallback)?;
+        let Opened { known, mut text } = open_bytes(
+            self.alloc,
+            references,
+            &self.held,
+            self.said,
+            self.fallback,
+        )?;
         text.push_str(known.decoder.finish())?;
         self.known = Some(known_anew(known.encoding));
         self.held = Vec::new(self.alloc);
