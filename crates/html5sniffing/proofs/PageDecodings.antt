@@ -1,7 +1,6 @@
 -- What is still to come of a page, before bytes are pushed and after that.
-use Rattle.std.proofs.Common.{◌≡◌, ℕ, ◌≤◌, Bool, true, false, List, [], ◌++◌, length, take, Option, None, Some, refl, sym, ap, ◌∙◌, subst, append_assoc, append-nil}
+use Rattle.std.proofs.Common.{◌≡◌, ℕ, Bool, true, false, List, [], ◌++◌, Option, None, Some, refl, sym, ap, ◌∙◌, subst, append_assoc, append-nil}
 use Rattle.std.specs.Prelude.{encode_utf8_all}
-use Rattle.std.proofs.lemmas.List.{take-append-le}
 use Rattle.std.proofs.lemmas.Str.{encodes-append}
 use Rattle.decoded_source.specs.Texts.{text_of}
 use Rattle.decoded_source.proofs.Pieces.{text_of-piece}
@@ -9,7 +8,8 @@ use Rattle.html5encodings.specs.Decoding.{at_end, decoded, given, start, state_a
 use Rattle.html5encodings.specs.declared.encoding.Encoding.{Encoding}
 use Rattle.html5encodings.specs.declared.state.State.{State}
 use Rattle.html5sniffing.specs.PageDecoding.{GoesOn, PageDecoding, anew, encoding_or, encoding_with, text_or, text_with}
-use Rattle.html5sniffing.specs.PageEncoding.{encoding_by, encoding_of_page, text_of_page}
+use Rattle.html5sniffing.specs.PageEncoding.{IsWhole, encoding_by, text_of_page}
+use Rattle.html5sniffing.proofs.FrontLemmas.{by-whole}
 use Rattle.html5sniffing.specs.declared.page_decoder.Known.{Known}
 use Rattle.markup5ever.specs.NamedReferences.{NamedReference}
 
@@ -42,10 +42,6 @@ module _ (references : List NamedReference) (d : PageDecoding) where
   encoding-known : (k : Known) → d.known ≡ Some k → (rest : List ℕ) → encoding_with references d rest ≡ k.encoding
   encoding-known k known rest = ap (λ (m : Option Known). encoding_or m (by (d.held ++ rest))) known
 
-  -- the front is whole, so what follows changes nothing
-  by-front : (all rest : List ℕ) → 1024 ≤ length all → by (all ++ rest) ≡ by all
-  by-front all rest whole = ap (encoding_of_page references d.said d.fallback) (take-append-le 1024 all rest whole)
-
   -- the bytes are held
   goes_on-held : (bytes : List ℕ) → d.known ≡ None → GoesOn references d (record d { held = d.held ++ bytes }) bytes []
   goes_on-held bytes unknown = record {
@@ -58,15 +54,15 @@ module _ (references : List NamedReference) (d : PageDecoding) where
   }
 
   -- they tell the encoding
-  goes_on-opened : (bytes : List ℕ) (e : Encoding) → d.known ≡ None → 1024 ≤ length (d.held ++ bytes) → e ≡ by (d.held ++ bytes)
+  goes_on-opened : (bytes : List ℕ) (e : Encoding) → d.known ≡ None → IsWhole references d.said d.fallback (d.held ++ bytes) → e ≡ by (d.held ++ bytes)
       → GoesOn references d (record d { held = []; known = Some (record { encoding = e; decoder = state_after (start e) (d.held ++ bytes) }) }) bytes
       (encode_utf8_all (given (start e) (d.held ++ bytes)))
   goes_on-opened bytes e unknown whole is =
       let all : List ℕ = d.held ++ bytes in record {
         texts = λ rest. text-unknown unknown (bytes ++ rest) ∙ ap page (sym (append_assoc d.held bytes rest))
-            ∙ ap (λ b. encode_utf8_all (decoded b (all ++ rest))) (by-front all rest whole ∙ sym is)
+            ∙ ap (λ b. encode_utf8_all (decoded b (all ++ rest))) (by-whole references d.said d.fallback all rest whole ∙ sym is)
             ∙ text_of-piece (start e) all rest;
-        encodings = λ rest. encoding-unknown unknown (bytes ++ rest) ∙ ap by (sym (append_assoc d.held bytes rest)) ∙ by-front all rest whole ∙ sym is;
+        encodings = λ rest. encoding-unknown unknown (bytes ++ rest) ∙ ap by (sym (append_assoc d.held bytes rest)) ∙ by-whole references d.said d.fallback all rest whole ∙ sym is;
         said = refl;
         fallback = refl;
       }
@@ -99,7 +95,7 @@ held references s t h bytes same unknown is =
     (goes_on-held references t bytes unknown)
 
 pub opened : (references : List NamedReference) (s t : PageDecoding) (k : Known) (h bytes none text : List ℕ) → s ≡ t → t.known ≡ None → h ≡ s.held ++ bytes
-    → none ≡ [] → 1024 ≤ length h → k.encoding ≡ encoding_by references s.said s.fallback h → k.decoder ≡ state_after (start k.encoding) h
+    → none ≡ [] → IsWhole references s.said s.fallback h → k.encoding ≡ encoding_by references s.said s.fallback h → k.decoder ≡ state_after (start k.encoding) h
     → text ≡ encode_utf8_all (given (start k.encoding) h)
     → GoesOn references t (record s { held = none; known = Some k }) bytes text
 opened references s t k h bytes none text same unknown is empty whole encoding decoder text_is =
@@ -114,7 +110,7 @@ opened references s t k h bytes none text same unknown is empty whole encoding d
     ∙ ap (λ (d : PageDecoding). record d { held = []; known = Some (record { encoding = k.encoding; decoder = state_after (start k.encoding) (t.held ++ bytes) }) }) same in
     subst (λ (d : PageDecoding). GoesOn references t d bytes text) (sym new)
     (subst (λ (l : List ℕ). GoesOn references t now bytes l) (sym (text_is ∙ ap (λ l. encode_utf8_all (given (start k.encoding) l)) all))
-    (goes_on-opened references t bytes k.encoding unknown (subst (λ (l : List ℕ). 1024 ≤ length l) all whole) by))
+    (goes_on-opened references t bytes k.encoding unknown (subst (λ (l : List ℕ). IsWhole references t.said t.fallback l) all (subst (λ (d : PageDecoding). IsWhole references d.said d.fallback h) same whole)) by))
 
 pub known : (references : List NamedReference) (s t : PageDecoding) (k : Known) (m : State) (bytes text : List ℕ) → s ≡ t → s.known ≡ Some k
     → m ≡ state_after k.decoder bytes → text ≡ encode_utf8_all (given k.decoder bytes)

@@ -28,7 +28,7 @@ pub record IsUnbegun (d : PageDecoding) : Type 0 where
 
 -- what is held while the encoding isn't known is less than the front
 abbrev pub HoldsFront : Option Known → List ℕ → Type 0
-HoldsFront None held = length held < 1024
+HoldsFront None held = length held < 65536
 HoldsFront (Some known) held = held ≡ []
 
 -- the encoding that is known, or else this one

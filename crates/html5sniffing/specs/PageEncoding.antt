@@ -1,5 +1,6 @@
 -- "Determining the character encoding": which encoding a page is in.
-use Rattle.std.specs.Prelude.{ℕ, ◌==◌, ◌||◌, ◌&&◌, Bool, is_none, List, [], ◌∷◌, length, take, drop, Option, None, Some, option_map, unwrap_or, encode_utf8_all, if◌then◌else◌}
+use Rattle.std.specs.Prelude.{◌≡◌, ◌≤◌, ◌⊎◌, ℕ, ◌==◌, ◌||◌, ◌&&◌, Bool, true, false, is_none, List, [], ◌∷◌, length, min, take, drop, Option, None, Some, option_map, unwrap_or, encode_utf8_all, if◌then◌else◌}
+use Rattle.std.specs.List.{list_all, prefix_len}
 use Rattle.std.specs.Option.{option_or}
 use Rattle.std.specs.Str.{is_utf8}
 use Rattle.std.specs.Str.Lossy.{utf8_error_len, utf8_valid_len}
@@ -10,6 +11,7 @@ use Rattle.html5ever_interface.specs.Token.Told.{Tag}
 use Rattle.html5stream.specs.Pages.{tags_page}
 use Rattle.html5encodings.specs.Decoding.{decoded}
 use Rattle.html5encodings.specs.Encodings.{bom_of}
+use Rattle.html5encodings.specs.Iso2022Jp.{is_plain}
 use Rattle.html5encodings.specs.declared.encoding.Encoding.{Encoding}
 use Rattle.html5encodings.specs.declared.encoding.Encoding.TheVariants as encoding
 use Rattle.html5encodings.specs.declared.encoding.SingleByte.TheVariants.{Windows1252}
@@ -62,13 +64,26 @@ hinted references fallback front = let tentative : Encoding = default_of fallbac
 unfoldable pub encoding_of_page : List NamedReference → Option Encoding → Option Encoding → List ℕ → Encoding
 encoding_of_page references said fallback front = unwrap_or (option_or (marked front) said) (hinted references fallback front)
 
--- the front of a page: as many of its bytes as are looked at
-abbrev pub front_of : List ℕ → List ℕ
-front_of bytes = take 1024 bytes
+-- Whether more is looked at than these first bytes of a page: they are plain ASCII, which each encoding that has ASCII reads alike, and
+-- no mark, nothing said and no hint in them tells the encoding.
+abbrev pub looks_further : List NamedReference → Option Encoding → Option Encoding → List ℕ → Bool
+looks_further references said fallback first =
+    is_none (option_or (marked first) said) && (list_all is_plain first && is_none (hint_by (default_of fallback first) references first))
+
+-- The front of a page: its first 1,024 bytes; or, where they tell nothing, the plain ASCII that it begins with, as long as that is, but at
+-- most 65,536 bytes.
+unfoldable pub front_of : List NamedReference → Option Encoding → Option Encoding → List ℕ → List ℕ
+front_of references said fallback bytes =
+    if looks_further references said fallback (take 1024 bytes) then take (min (prefix_len is_plain bytes) 65536) bytes else take 1024 bytes
+
+-- these bytes have the front of the page, whatever follows them
+pub record IsWhole (references : List NamedReference) (said fallback : Option Encoding) (bytes : List ℕ) : Type 0 where
+  pub first : 1024 ≤ length bytes
+  pub further : looks_further references said fallback (take 1024 bytes) ≡ true → (65536 ≤ length bytes) ⊎ (list_all is_plain bytes ≡ false)
 
 -- the encoding of a page with these bytes
 abbrev pub encoding_by : List NamedReference → Option Encoding → Option Encoding → List ℕ → Encoding
-encoding_by references said fallback bytes = encoding_of_page references said fallback (front_of bytes)
+encoding_by references said fallback bytes = encoding_of_page references said fallback (front_of references said fallback bytes)
 
 -- the text of a page: all its bytes, decoded by the encoding of the page
 abbrev pub text_of_page : List NamedReference → Option Encoding → Option Encoding → List ℕ → List ℕ

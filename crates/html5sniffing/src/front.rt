@@ -1,94 +1,118 @@
 //! The first bytes of a page.
-ghost use Rattle.std.specs.Prelude.{◌≡◌, ◌+◌, ◌<◌, ◌≤◌, ◌⊎◌, [], length, take, IfOk, IfSome, OnErr, OnOk};
-ghost use Rattle.std.specs.Io.KnownBytes.{Consumes, IsAtEnd};
-ghost use Rattle.devices.specs.Device.{ConsumesBeginning};
-ghost use Rattle.html5sniffing.specs.Fronts.{ReadsMore};
+ghost use Rattle.std.specs.Prelude.{◌≡◌, ◌++◌, ◌<◌, ◌≤◌, [], false, true, length, take, IfOk, OnErr, OnOk};
+ghost use Rattle.html5sniffing.specs.PageEncoding.{IsWhole};
 
-use devices::Source;
-use std::io;
+use crate::page_encoding::looks_further;
+use crate::plain::are_plain;
+use html5encodings::Encoding;
+use markup5ever::data::NamedReferences;
+use std::alloc::{AllocError, Allocator, Global};
 use std::marker::Model;
 
-/// How many bytes of a page are looked at.
+/// How many bytes of a page are looked at: more only where these are plain ASCII, and nothing in them or said tells the
+/// encoding.
 pub const FRONT_LEN: usize = 1024;
 
-/// The first bytes of a page: `FRONT_LEN`, or all where the page has no more.
+/// How many bytes of plain ASCII are looked at then, at the most.
+pub const LONG_FRONT_LEN: usize = 65536;
+
+/// The first bytes of a page, as they come, up to as many as tell its encoding.
 #[derive(Drop)]
-pub struct Front {
-    bytes: [u8; FRONT_LEN],
-    count: usize,
+pub struct Front<A: Allocator = Global> {
+    alloc: A,
+    bytes: Vec<u8, A>,
+    // Whether the first `FRONT_LEN` bytes are there and tell nothing, and all is plain ASCII.
+    is_long: bool,
 }
 
-impl Model for Front {
-    ghost use Rattle.std.specs.Prelude.{ℕ, List, ◌≤◌, take};
+impl<A: Allocator> Model for Front<A> {
+    ghost use Rattle.std.specs.Prelude.{◌≡◌, ◌≤◌, true, length};
+    ghost use Rattle.html5sniffing.specs.Fronts.{FrontOf};
 
-    ghost Value = { List ℕ };
+    ghost Value = { FrontOf };
 
-    ghost view = { λ f. take f.count f.bytes };
+    ghost view = { λ f. record { bytes = f.bytes.items; long = f.is_long } };
 
-    ghost invariant = { λ f. f.count ≤ 1024 };
+    ghost invariant = { λ f. f.is_long ≡ true → 1024 ≤ length f.bytes.items };
 }
 
-impl Front {
-    fn new() -> Front
-        ensures { result ≡ [] }
-    {
-        Front {
-            bytes: [0; FRONT_LEN],
-            count: 0,
-        }
-    }
-
+impl<A: Allocator> Front<A> {
     /// The bytes.
     pub fn bytes(&self) -> &[u8]
-        ensures { result.now ≡ self.now }
+        ensures { result.now ≡ self.now.bytes }
     {
-        &self.bytes[..self.count]
+        &self.bytes
     }
+}
 
-    // One read, and how many bytes it gave.
-    fn read_more<S: Source>(&mut self, source: &mut S) -> io::Result<usize>
-        requires { length self.old < 1024 }
-        ensures more { OnOk result (ReadsMore (S.remaining source.old) (S.remaining source.new) self.old self.new) }
-        ensures count { IfOk result (λ n. length self.new ≡ length self.old + n) }
-        ensures end { IfOk result (λ n. n ≡ 0 → IsAtEnd (S.remaining source.new)) }
-        ensures nothing { OnErr result (Consumes (S.remaining source.old) (S.remaining source.new) []) }
-        ensures kept { OnErr result (self.new ≡ self.old) }
-        ensures no_failure { OnOk result (S.failures source.new ≡ S.failures source.old) }
-        ensures failure { OnErr result (S.failures source.new ≡ S.failures source.old + 1) }
+impl<A: Allocator + Copy> Front<A> {
+    /// No byte came.
+    pub fn new(alloc: A) -> Front<A>
+        ensures { result ≡ record { bytes = []; long = false } }
     {
-        let count = source.read(&mut self.bytes[self.count..])?;
-        self.count += count;
-        Ok(count)
-    }
-
-    // Reads on until all `FRONT_LEN` bytes are there, or the source is at its end.
-    fn fill<S: Source>(&mut self, source: &mut S) -> io::Result<()>
-        requires { self.old ≡ [] }
-        ensures front { OnOk result (Consumes (S.remaining source.old) (S.remaining source.new) self.new) }
-        ensures bound { length self.new ≤ 1024 }
-        ensures whole { OnOk result ((length self.new ≡ 1024) ⊎ IsAtEnd (S.remaining source.new)) }
-        ensures err { OnErr result (ConsumesBeginning (S.remaining source.old) (S.remaining source.new)) }
-        ensures no_failure { OnOk result (S.failures source.new ≡ S.failures source.old) }
-        ensures failure { OnErr result (S.failures source.new ≡ S.failures source.old + 1) }
-    {
-        while self.count < FRONT_LEN {
-            if self.read_more(source)? == 0 {
-                return Ok(());
-            }
+        Front {
+            alloc,
+            bytes: Vec::new(alloc),
+            is_long: false,
         }
-        Ok(())
     }
 
-    /// Reads the first bytes of a page from its source: as many reads as it takes.
-    pub fn read<S: Source>(source: &mut S) -> io::Result<Front>
-        ensures given { IfOk result (λ front. Consumes (S.remaining source.old) (S.remaining source.new) front) }
-        ensures front { IfOk result (λ front. IfSome (S.remaining source.old) (λ bytes. front ≡ take 1024 bytes)) }
-        ensures err { OnErr result (ConsumesBeginning (S.remaining source.old) (S.remaining source.new)) }
-        ensures no_failure { OnOk result (S.failures source.new ≡ S.failures source.old) }
-        ensures failure { OnErr result (S.failures source.new ≡ S.failures source.old + 1) }
+    // Whether the front is whole, where this many bytes were there before.
+    fn is_whole_now(
+        &mut self,
+        references: &NamedReferences<A>,
+        said: Option<Encoding>,
+        fallback: Option<Encoding>,
+        before: usize,
+    ) -> Result<bool, AllocError>
+        requires { before ≤ length self.old.bytes }
+        ensures whole { IfOk result (λ whole. whole ≡ true → IsWhole references.now said fallback self.new.bytes) }
+        ensures waits { IfOk result (λ whole. whole ≡ false → length self.new.bytes < 65536) }
+        ensures kept { self.new.bytes ≡ self.old.bytes }
+        ensures err { OnErr result (self.new ≡ self.old) }
     {
-        let mut front = Front::new();
-        front.fill(source)?;
-        Ok(front)
+        if self.is_long {
+            return Ok(self.bytes.len() >= LONG_FRONT_LEN || !are_plain(&self.bytes[before..]));
+        }
+        if self.bytes.len() < FRONT_LEN {
+            return Ok(false);
+        }
+        if self.bytes.len() < LONG_FRONT_LEN && are_plain(&self.bytes) {
+            let first = &self.bytes[..FRONT_LEN];
+            self.is_long = looks_further(self.alloc, references, first, said, fallback)?;
+        }
+        Ok(!self.is_long)
+    }
+
+    /// Takes the next bytes of a page, and says whether those so far tell its encoding, whatever follows.
+    pub fn push(
+        &mut self,
+        references: &NamedReferences<A>,
+        said: Option<Encoding>,
+        fallback: Option<Encoding>,
+        bytes: &[u8],
+    ) -> Result<bool, AllocError>
+        ensures bytes { OnOk result (self.new.bytes ≡ self.old.bytes ++ bytes.now) }
+        ensures whole { IfOk result (λ whole. whole ≡ true → IsWhole references.now said fallback self.new.bytes) }
+        ensures waits { IfOk result (λ whole. whole ≡ false → length self.new.bytes < 65536) }
+        ensures err { OnErr result (self.new ≡ self.old) }
+    {
+        let before = self.bytes.len();
+        self.bytes.extend_from_slice(bytes)?;
+        let whole = self.is_whole_now(references, said, fallback, before);
+        if whole.is_err() {
+            self.bytes.truncate(before);
+        }
+        whole
+    }
+
+    /// Lets all bytes go but so many.
+    pub fn truncate(&mut self, len: usize)
+        ensures { self.new.bytes ≡ take len self.old.bytes }
+    {
+        self.bytes.truncate(len);
+        if len < FRONT_LEN {
+            self.is_long = false;
+        }
     }
 }

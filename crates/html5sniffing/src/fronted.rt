@@ -3,27 +3,30 @@ ghost use Rattle.std.specs.Prelude.{◌≡◌, ◌<◌, ◌≤◌, ◌++◌, [],
 
 use crate::front::Front;
 use devices::Source;
+use std::alloc::{Allocator, Global};
 use std::io;
 use std::marker::Model;
 
 /// A source whose first bytes were read: it gives these bytes, and then the rest.
 #[derive(Drop)]
-pub struct Fronted<S> {
+pub struct Fronted<S, A: Allocator = Global> {
     inner: S,
-    front: Front,
+    front: Front<A>,
+    // Whether the source was found at its end.
+    is_ended: bool,
     // How many bytes of the front were given.
     given: usize,
 }
 
-impl<S> Model for Fronted<S> {
+impl<S, A: Allocator> Model for Fronted<S, A> {
     ghost use Rattle.std.specs.Prelude.{◌≤◌, drop, length};
     ghost use Rattle.html5sniffing.specs.Fronts.{Fronting};
 
     ghost Value = { Fronting S };
 
-    ghost view = { λ s. record { inner = s.inner; waiting = drop s.given s.front } };
+    ghost view = { λ s. record { inner = s.inner; waiting = drop s.given s.front.bytes; ended = s.is_ended } };
 
-    ghost invariant = { λ s. s.given ≤ length s.front };
+    ghost invariant = { λ s. s.given ≤ length s.front.bytes };
 }
 
 // Copies the front of bytes, as much as there is room for, and answers how many bytes that is.
@@ -37,15 +40,17 @@ fn copy_front(from: &[u8], into: &mut [u8]) -> usize
     count
 }
 
-impl<S> Fronted<S> {
-    /// The source, of which this front was read.
-    pub fn new(front: Front, inner: S) -> Fronted<S>
+impl<S, A: Allocator> Fronted<S, A> {
+    /// The source, of which this front was read, and whether its end was found then.
+    pub fn new(front: Front<A>, is_ended: bool, inner: S) -> Fronted<S, A>
         ensures inner { result.inner ≡ inner }
-        ensures waiting { result.waiting ≡ front }
+        ensures waiting { result.waiting ≡ front.bytes }
+        ensures ended { result.ended ≡ is_ended }
     {
         Fronted {
             inner,
             front,
+            is_ended,
             given: 0,
         }
     }
@@ -56,6 +61,7 @@ impl<S> Fronted<S> {
         ensures taken { self.old.waiting ≡ take result into.new ++ self.new.waiting }
         ensures none { result ≡ 0 → 0 < length into.new → self.new.waiting ≡ [] }
         ensures inner { self.new.inner ≡ self.old.inner }
+        ensures ended { self.new.ended ≡ self.old.ended }
     {
         let count = copy_front(&self.front.bytes()[self.given..], into);
         self.given += count;
@@ -70,16 +76,16 @@ impl<S> Fronted<S> {
     }
 }
 
-impl<S: Source> Source for Fronted<S> {
-    ghost use Rattle.std.specs.Io.KnownBytes.{prepend_known};
+impl<S: Source, A: Allocator> Source for Fronted<S, A> {
+    ghost use Rattle.html5sniffing.specs.Fronts.{still_given};
 
-    ghost remaining = { λ s. prepend_known s.waiting (S.remaining s.inner) };
+    ghost remaining = { λ s. still_given s (S.remaining s.inner) };
 
     ghost failures = { λ s. S.failures s.inner };
 
     fn read(&mut self, buf: &mut [u8]) -> io::Result<usize> {
         let count = self.take(buf);
-        if count > 0 || buf.is_empty() {
+        if count > 0 || buf.is_empty() || self.is_ended {
             return Ok(count);
         }
         self.inner.read(buf)

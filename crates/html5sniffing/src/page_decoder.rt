@@ -4,8 +4,8 @@ ghost use Rattle.html5encodings.specs.Decoding.{given, start, state_after};
 ghost use Rattle.html5sniffing.specs.PageDecoding.{GoesOn, IsUnbegun, anew, page_start, text_with};
 ghost use Rattle.html5sniffing.specs.PageEncoding.{encoding_by};
 
-use crate::front::FRONT_LEN;
-use crate::page_encoding::sniff;
+use crate::front::Front;
+use crate::page_encoding::encoding_by;
 use html5encodings::{Decoder, Encoding};
 use markup5ever::data::NamedReferences;
 use std::alloc::{AllocError, Allocator, Global};
@@ -26,7 +26,7 @@ pub struct PageDecoder<A: Allocator = Global> {
     alloc: A,
     said: Option<Encoding>,
     fallback: Option<Encoding>,
-    held: Vec<u8, A>,
+    front: Front<A>,
     known: Option<Known>,
     ended: bool,
 }
@@ -39,12 +39,12 @@ impl<A: Allocator> Model for PageDecoder<A> {
     ghost view = { λ d. record {
       said = d.said;
       fallback = d.fallback;
-      held = d.held.items;
+      held = d.front.bytes;
       known = d.known;
       ended = d.ended;
     } };
 
-    ghost invariant = { λ d. HoldsFront d.known d.held.items };
+    ghost invariant = { λ d. HoldsFront d.known d.front.bytes };
 }
 
 // What the bytes of a page make: its encoding with the decoder after them, and their text.
@@ -52,13 +52,6 @@ impl<A: Allocator> Model for PageDecoder<A> {
 struct Opened<A: Allocator> {
     known: Known,
     text: String<A>,
-}
-
-// The bytes that are looked at of those at the start of a page.
-fn front_of(bytes: &[u8]) -> &[u8]
-    ensures { result.now ≡ take 1024 bytes.now }
-{
-    &bytes[..FRONT_LEN.min(bytes.len())]
 }
 
 // Decodes bytes that are the front of a page and what follows, or all of it.
@@ -76,7 +69,7 @@ fn open_bytes<A: Allocator + Copy>(
     ensures text { IfOk result (λ opened.
         string_bytes opened.text ≡ encode_utf8_all (given (start opened.known.encoding) bytes.now)) }
 {
-    let encoding = sniff(alloc, references, front_of(bytes), said, fallback)?;
+    let encoding = encoding_by(alloc, references, bytes, said, fallback)?;
     let mut decoder = Decoder::new(encoding);
     let text = decoder.decode(alloc, bytes)?;
     Ok(Opened {
@@ -111,7 +104,7 @@ impl<A: Allocator> PageDecoder<A> {
     pub fn held_len(&self) -> usize
         ensures { result ≡ length self.now.held }
     {
-        self.held.len()
+        self.front.bytes().len()
     }
 
     /// Whether the bytes were ended (`finish`), and none came after that.
@@ -125,7 +118,7 @@ impl<A: Allocator> PageDecoder<A> {
     pub fn is_unbegun(&self) -> bool
         ensures { IsTrue result ↔ IsUnbegun self.now }
     {
-        self.held.is_empty() && self.known.is_none()
+        self.front.bytes().is_empty() && self.known.is_none()
     }
 }
 
@@ -139,7 +132,7 @@ impl<A: Allocator + Copy> PageDecoder<A> {
             alloc,
             said,
             fallback,
-            held: Vec::new(alloc),
+            front: Front::new(alloc),
             known: None,
             ended: false,
         }
@@ -162,19 +155,22 @@ impl<A: Allocator + Copy> PageDecoder<A> {
         ensures goes_on { IfOk result (λ text. GoesOn references.now self.old self.new bytes.now (string_bytes text)) }
         ensures err { OnErr result (self.new ≡ self.old) }
     {
-        let before = self.held.len();
-        self.held.extend_from_slice(bytes)?;
-        if self.held.len() < FRONT_LEN {
+        let before = self.front.bytes().len();
+        if !self
+            .front
+            .push(references, self.said, self.fallback, bytes)?
+        {
             return Ok(String::new(self.alloc));
         }
-        match open_bytes(self.alloc, references, &self.held, self.said, self.fallback) {
+        let bytes = self.front.bytes();
+        match open_bytes(self.alloc, references, bytes, self.said, self.fallback) {
             Ok(opened) => {
                 self.known = Some(opened.known);
-                self.held = Vec::new(self.alloc);
+                self.front = Front::new(self.alloc);
                 Ok(opened.text)
             }
             Err(error) => {
-                self.held.truncate(before);
+                self.front.truncate(before);
                 Err(error)
             }
         }
@@ -212,13 +208,13 @@ impl<A: Allocator + Copy> PageDecoder<A> {
         let Opened { known, mut text } = open_bytes(
             self.alloc,
             references,
-            &self.held,
+            self.front.bytes(),
             self.said,
             self.fallback,
         )?;
         text.push_str(known.decoder.finish())?;
         self.known = Some(known_anew(known.encoding));
-        self.held = Vec::new(self.alloc);
+        self.front = Front::new(self.alloc);
         self.ended = true;
         Ok(text)
     }

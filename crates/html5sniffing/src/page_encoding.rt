@@ -1,9 +1,10 @@
 //! The encoding of a page, by its front.
-ghost use Rattle.std.specs.Prelude.{◌≡◌, ◌==◌, ◌&&◌, is_none, length, IfOk};
-ghost use Rattle.html5sniffing.specs.PageEncoding.{default_of, encoding_of_page, hint_by, hint_of_text, hinted, is_utf8_front, marked};
+ghost use Rattle.std.specs.Prelude.{◌≡◌, ◌≤◌, ◌==◌, ◌&&◌, is_none, length, take, IfOk};
+ghost use Rattle.html5sniffing.specs.PageEncoding.{default_of, encoding_by, encoding_of_page, front_of, hint_by, hint_of_text, hinted, is_utf8_front, looks_further, marked};
 
-use crate::front::FRONT_LEN;
+use crate::front::{FRONT_LEN, LONG_FRONT_LEN};
 use crate::meta::meta_encoding;
+use crate::plain::{are_plain, plain_len};
 use devices::ReadSource;
 use html5encodings::{Encoding, SingleByte, decode_all};
 use html5ever_interface::interface::token::{SinkFault, Tag};
@@ -138,4 +139,61 @@ pub fn sniff<A: Allocator + Copy>(
         Some(encoding) => Ok(encoding),
         None => hinted(alloc, references, front, fallback),
     }
+}
+
+/// Whether more of a page is looked at than these first bytes.
+pub(crate) fn looks_further<A: Allocator + Copy>(
+    alloc: A,
+    references: &NamedReferences<A>,
+    first: &[u8],
+    said: Option<Encoding>,
+    fallback: Option<Encoding>,
+) -> Result<bool, AllocError>
+    ensures { IfOk result (λ further. further ≡ looks_further references.now said fallback first.now) }
+{
+    if marked(first).or(said).is_some() || !are_plain(first) {
+        return Ok(false);
+    }
+    let hint = hint_by(alloc, default_of(fallback, first), references, first)?;
+    Ok(hint.is_none())
+}
+
+// The first bytes of a page, `FRONT_LEN` or all.
+fn first_of(bytes: &[u8]) -> &[u8]
+    ensures { result.now ≡ take 1024 bytes.now }
+{
+    &bytes[..FRONT_LEN.min(bytes.len())]
+}
+
+// The front of a page.
+fn front_of<A: Allocator + Copy>(
+    alloc: A,
+    references: &NamedReferences<A>,
+    bytes: &[u8],
+    said: Option<Encoding>,
+    fallback: Option<Encoding>,
+) -> Result<usize, AllocError>
+    ensures front { IfOk result (λ len. take len bytes.now ≡ front_of references.now said fallback bytes.now) }
+    ensures within { IfOk result (λ len. len ≤ length bytes.now) }
+{
+    let first = first_of(bytes);
+    if looks_further(alloc, references, first, said, fallback)? {
+        Ok(plain_len(bytes).min(LONG_FRONT_LEN))
+    } else {
+        Ok(first.len())
+    }
+}
+
+/// The encoding of a page with these bytes, as `sniff` says it of its front.
+pub fn encoding_by<A: Allocator + Copy>(
+    alloc: A,
+    references: &NamedReferences<A>,
+    bytes: &[u8],
+    said: Option<Encoding>,
+    fallback: Option<Encoding>,
+) -> Result<Encoding, AllocError>
+    ensures { IfOk result (λ encoding. encoding ≡ encoding_by references.now said fallback bytes.now) }
+{
+    let len = front_of(alloc, references, bytes, said, fallback)?;
+    sniff(alloc, references, &bytes[..len], said, fallback)
 }

@@ -111,11 +111,11 @@ fn long_page(rt: &impl Abort, alloc: Global, letters: usize) -> Vec<u8> {
     page
 }
 
-// A hint counts where it ends within 1,024 bytes.
+// A hint after plain ASCII counts where it ends within 65,536 bytes.
 #[test]
 fn a_late_hint(rt: HostRuntime) {
     let alloc = rt.alloc();
-    for (letters, end) in [(997, "a\u{439}"), (998, "a\u{fffd}"), (2000, "a\u{fffd}")] {
+    for (letters, end) in [(998, "a\u{439}"), (65509, "a\u{439}"), (65510, "a\u{fffd}")] {
         let page = long_page(&rt, alloc, letters);
         let (text, read) = text_read(&rt, alloc, &mut PieceSource::new(&page, 100), "");
         assert!(rt; read.is_ok());

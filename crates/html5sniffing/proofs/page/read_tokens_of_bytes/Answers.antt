@@ -1,7 +1,6 @@
-use Rattle.std.proofs.Common.{take}
 use Rattle.std.proofs.lemmas.Result.{on_err_weaker}
 use Rattle.html5stream.specs.Pages.{runs_page, runs_handed}
-use Rattle.html5sniffing.specs.PageEncoding.{encoding_of_page, text_of_page}
+use Rattle.html5sniffing.specs.PageEncoding.{encoding_by, text_of_page}
 use Rattle.html5sniffing.proofs.PageTexts.{runs-none, text-opened, text-stopped, text-unread}
 use Rattle.html5sniffing.proofs.page.read_tokens_of_bytes.Goals as goal
 
@@ -12,8 +11,8 @@ returns-in-Err-clause-beginning g c =
 pub returns-clause-beginning : goal.returns-clause-beginning
 returns-clause-beginning g c =
     let known = g.R.Source.remaining c.args.source.now in
-    let text_is = text-opened known (g.R.Source.remaining c.open_page.new.source) c.in-Ok.opening.front c.in-Ok.opening.encoding
-    (λ bytes. encoding_of_page c.args.references.now c.args.said c.args.fallback (take 1024 bytes)) _ c.in-Ok.ensures.given c.in-Ok.ensures.encoding c.text-text.ensures.text in
+    let text_is = text-opened known (g.R.Source.remaining c.open_page.new.source) c.in-Ok.opening.front.bytes c.in-Ok.opening.encoding
+    (encoding_by c.args.references.now c.args.said c.args.fallback) _ c.in-Ok.ensures.given c.in-Ok.ensures.encoding c.text-text.ensures.text in
     on_err_weaker c.read_tokens.result.1
     (text-stopped (text_of_page c.args.references.now c.args.said c.args.fallback) known _ _ _ _ text_is (runs_page g.H.TokenHandler.step c.args.references.now) (runs_handed g.H.TokenHandler.step))
     c.read_tokens.ensures.beginning
