@@ -1,10 +1,11 @@
 -- The front of a page is known once it is whole, whatever follows it.
-use Rattle.std.proofs.Common.{◌≡◌, ℕ, ◌+◌, ◌≤◌, min, Bool, true, false, List, [], ◌∷◌, ◌++◌, length, take, Option, None, Some, IfSome, refl, sym, ap, ◌∙◌, subst, inl, inr, arith, append-nil}
-use Rattle.std.specs.Prelude.{◌⊎◌, ◌&&◌, if◌then◌else◌}
+use Rattle.std.proofs.Common.{◌≡◌, ℕ, ◌+◌, ◌<◌, ◌≤◌, min, Bool, true, false, List, [], ◌∷◌, ◌++◌, length, length-take, take, drop, take-append-drop, nat_le, ⊎_elim, Option, None, Some, IfSome, refl, sym, ap, ◌∙◌, subst, inl, inr, arith, append-nil}
+use Rattle.std.specs.Prelude.{◌⊎◌, ◌&&◌, ◌||◌, not, if◌then◌else◌}
 use Rattle.std.specs.Io.KnownBytes.{Consumes, IsAtEnd, prepend_known}
 use Rattle.std.specs.List.{list_all, prefix_len}
-use Rattle.std.proofs.lemmas.Bool.{false≢true}
-use Rattle.std.proofs.lemmas.List.{take-append-le}
+use Rattle.std.proofs.lemmas.Bool.{and_parts, cases_lt, false≢true, leb-true}
+use Rattle.std.proofs.lemmas.List.{take-append-le, take_all}
+use Rattle.std.proofs.lemmas.List.Folds.{list_all-append}
 use Rattle.html5encodings.specs.Iso2022Jp.{is_plain}
 use Rattle.html5encodings.specs.declared.encoding.Encoding.{Encoding}
 use Rattle.html5sniffing.specs.PageEncoding.{IsWhole, encoding_by, encoding_of_page, front_of, looks_further}
@@ -98,6 +99,73 @@ module _ (references : List NamedReference) (said fallback : Option Encoding) wh
       is ∙ sym (by-whole front ys whole) ∙ ap (encoding_by references said fallback) (sym given)
   by-read (Some xs) (Some ys) front e given (inr end) is =
       is ∙ ap (encoding_by references said fallback) (sym (given ∙ ap (λ l. front ++ l) end ∙ append-nil front))
+
+-- a front of which more is looked at, with the bytes that came last
+pub long-whole : (references : List NamedReference) (said fallback : Option Encoding) (bytes : List ℕ) (before n : ℕ) (goes_on past : Bool) → 1024 ≤ length bytes
+    → n ≡ length bytes → goes_on ≡ list_all is_plain (drop before bytes) → past ≡ (nat_le 65536 n || not goes_on) → past ≡ true
+    → IsWhole references said fallback bytes
+long-whole references said fallback bytes before n goes_on past first len plain_is is whole = record {
+  first = first;
+  further = λ _. why (nat_le 65536 (length bytes)) (list_all is_plain (drop before bytes)) (list_all is_plain bytes) refl refl refl
+      (sym (is ∙ ap (λ m. nat_le 65536 m || not goes_on) len ∙ ap (λ g. nat_le 65536 (length bytes) || not g) plain_is) ∙ whole);
+} where
+  all-drop : list_all is_plain bytes ≡ true → list_all is_plain (drop before bytes) ≡ true
+  all-drop all = (and_parts (list_all is_plain (take before bytes)) (list_all is_plain (drop before bytes))
+      (sym (list_all-append is_plain (take before bytes) (drop before bytes)) ∙ ap (list_all is_plain) (take-append-drop before bytes) ∙ all)).1
+
+  why : (long rest all : Bool) → nat_le 65536 (length bytes) ≡ long → list_all is_plain (drop before bytes) ≡ rest → list_all is_plain bytes ≡ all
+      → (long || not rest) ≡ true → (65536 ≤ length bytes) ⊎ (list_all is_plain bytes ≡ false)
+  why true rest all l r a is = inl (leb-true 65536 (length bytes) l)
+  why false true all l r a is = absurd (false≢true is)
+  why false false false l r a is = inr a
+  why false false true l r a is = absurd (false≢true (sym r ∙ all-drop a))
+
+-- as many bytes as there are, at most
+pub take-min : (n : ℕ) (xs : List ℕ) → take (min n (length xs)) xs ≡ take n xs
+take-min n xs = ⊎_elim
+    (λ (below : n < length xs). ap (λ m. take m xs) (omega (arith, below)))
+    (λ (beyond : length xs ≤ n). ap (λ m. take m xs) (min-beyond beyond) ∙ take_all (length xs) xs (omega arith) ∙ sym (take_all n xs beyond))
+    (cases_lt n (length xs)) where
+  min-beyond : length xs ≤ n → min n (length xs) ≡ length xs
+  min-beyond beyond = omega (arith, beyond)
+
+abbrev looks : List NamedReference → Option Encoding → Option Encoding → List ℕ → Bool
+looks references said fallback bytes = looks_further references said fallback (take 1024 bytes)
+
+looks-is : (references : List NamedReference) (said fallback : Option Encoding) (bytes first : List ℕ) (b t : Bool) → first ≡ take 1024 bytes
+    → b ≡ looks_further references said fallback first → b ≡ t → looks references said fallback bytes ≡ t
+looks-is references said fallback bytes first b t is by same = sym (ap (looks_further references said fallback) is) ∙ sym by ∙ same
+
+-- the front, by its length
+pub front-further : (references : List NamedReference) (said fallback : Option Encoding) (bytes first : List ℕ) (b : Bool) (p n : ℕ) → first ≡ take 1024 bytes
+    → b ≡ looks_further references said fallback first → b ≡ true → p ≡ plain bytes → n ≡ min p 65536
+    → take n bytes ≡ front_of references said fallback bytes
+unfolding front_of
+front-further references said fallback bytes first b p n is by so counted len =
+    ap (λ m. take m bytes) (len ∙ ap (λ m. min m 65536) counted)
+    ∙ sym (ap (λ t. pick t (long_front bytes) (take 1024 bytes)) (looks-is references said fallback bytes first b true is by so))
+
+pub further-within : (bytes : List ℕ) (p n : ℕ) → p ≡ plain bytes → n ≡ min p 65536 → n ≤ length bytes
+further-within bytes p n counted len =
+    subst (λ m. m ≤ length bytes) (sym (len ∙ ap (λ m. min m 65536) counted)) (min-within (plain bytes) (length bytes) (plain-within bytes))
+
+pub front-first : (references : List NamedReference) (said fallback : Option Encoding) (bytes first : List ℕ) (b : Bool) → first ≡ take 1024 bytes
+    → b ≡ looks_further references said fallback first → b ≡ false → take (length first) bytes ≡ front_of references said fallback bytes
+unfolding front_of
+front-first references said fallback bytes first b is by not_so =
+    ap (λ l. take (length l) bytes) is ∙ ap (λ m. take m bytes) (length-take 1024 bytes) ∙ take-min 1024 bytes
+    ∙ sym (ap (λ t. pick t (long_front bytes) (take 1024 bytes)) (looks-is references said fallback bytes first b false is by not_so))
+
+pub first-within : (bytes first : List ℕ) → first ≡ take 1024 bytes → length first ≤ length bytes
+first-within bytes first is =
+    subst (λ l. length l ≤ length bytes) (sym is) (subst (λ m. m ≤ length bytes) (sym (length-take 1024 bytes)) (omega arith))
+
+-- the front is whole, or the source is at its end
+pub enough : (references : List NamedReference) (said fallback : Option Encoding) (front : List ℕ) (after : Option (List ℕ)) (ended : Bool)
+    → (ended ≡ true → IsAtEnd after) → (ended ≡ false → IsWhole references said fallback front)
+    → IsWhole references said fallback front ⊎ IsAtEnd after
+enough references said fallback front after true end whole = inr (end refl)
+enough references said fallback front after false end whole = inl (whole refl)
 
 -- what is still given where the source isn't asked again at its end
 pub still-known : (ended : Bool) (waiting : List ℕ) (known : Option (List ℕ)) → (ended ≡ true → IsAtEnd known)

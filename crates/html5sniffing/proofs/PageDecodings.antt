@@ -87,6 +87,28 @@ module _ (references : List NamedReference) (d : PageDecoding) where
 
 -- a decoder `s` that is seen as `t`
 
+pub finished : (references : List NamedReference) (s t : PageDecoding) (k : Known) (h text last all : List ℕ) → s ≡ t → t.known ≡ None → h ≡ s.held
+    → k.encoding ≡ encoding_by references s.said s.fallback h → k.decoder ≡ state_after (start k.encoding) h
+    → text ≡ encode_utf8_all (given (start k.encoding) h) → last ≡ encode_utf8_all (at_end k.decoder) → all ≡ text ++ last
+    → all ≡ text_with references t []
+finished references s t k h text last all same unknown is encoding decoder text_is last_is parts =
+    let own : h ≡ t.held = is ∙ ap (λ (d : PageDecoding). d.held) same in
+    let by : k.encoding ≡ encoding_by references t.said t.fallback t.held =
+    encoding ∙ ap (λ (d : PageDecoding). encoding_by references d.said d.fallback h) same ∙ ap (encoding_by references t.said t.fallback) own in
+    parts ∙ ap (λ l. l ++ last) (text_is ∙ ap (λ l. encode_utf8_all (given (start k.encoding) l)) own)
+    ∙ ap (λ l. encode_utf8_all (given (start k.encoding) t.held) ++ l) (last_is ∙ ap (λ m. encode_utf8_all (at_end m)) (decoder ∙ ap (state_after (start k.encoding)) own))
+    ∙ text-held references t k.encoding unknown by
+
+pub begun_anew : (references : List NamedReference) (s t : PageDecoding) (k next : Known) → s ≡ t → s.known ≡ Some k → s.held ≡ []
+    → next.encoding ≡ k.encoding → next.decoder ≡ start k.encoding → record s { known = Some next; ended = true } ≡ anew references t
+begun_anew references s t k next same is none encoding decoder =
+    let known : t.known ≡ Some k = sym (ap (λ (d : PageDecoding). d.known) same) ∙ is in
+    ap (λ (e : Encoding). record s { known = Some (record { encoding = e; decoder = next.decoder }); ended = true }) encoding
+    ∙ ap (λ (m : State). record s { known = Some (record { encoding = k.encoding; decoder = m }); ended = true }) decoder
+    ∙ ap (λ (l : List ℕ). record s { held = l; known = Some (record { encoding = k.encoding; decoder = start k.encoding }); ended = true }) none
+    ∙ ap (λ (d : PageDecoding). record d { held = []; known = Some (record { encoding = k.encoding; decoder = start k.encoding }); ended = true }) same
+    ∙ sym (ap (λ (e : Encoding). record t { held = []; known = Some (record { encoding = e; decoder = start e }); ended = true }) (encoding-known references t k known []))
+
 pub held : (references : List NamedReference) (s t : PageDecoding) (h bytes : List ℕ) → s ≡ t → t.known ≡ None → h ≡ s.held ++ bytes
     → GoesOn references t (record s { held = h }) bytes []
 held references s t h bytes same unknown is =

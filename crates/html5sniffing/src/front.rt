@@ -1,8 +1,8 @@
 //! The first bytes of a page.
-ghost use Rattle.std.specs.Prelude.{◌≡◌, ◌++◌, ◌<◌, ◌≤◌, [], false, true, length, take, IfOk, OnErr, OnOk};
+ghost use Rattle.std.specs.Prelude.{◌≡◌, ◌++◌, ◌<◌, ◌≤◌, ◌||◌, not, nat_le, [], drop, false, true, length, take, IfOk, OnErr, OnOk};
 ghost use Rattle.html5sniffing.specs.PageEncoding.{IsWhole};
 
-use crate::page_encoding::looks_further;
+use crate::page_encoding::{first_of, looks_further};
 use crate::plain::are_plain;
 use html5encodings::Encoding;
 use markup5ever::data::NamedReferences;
@@ -45,6 +45,21 @@ impl<A: Allocator> Front<A> {
     }
 }
 
+// The bytes from this place on.
+fn rest_of(bytes: &[u8], place: usize) -> &[u8]
+    requires { place ≤ length bytes.now }
+    ensures { result.now ≡ drop place bytes.now }
+{
+    &bytes[place..]
+}
+
+// Whether no more is looked at than so many bytes, the last of which are plain or not.
+fn is_past(len: usize, goes_on: bool) -> bool
+    ensures { result ≡ (nat_le 65536 len || not goes_on) }
+{
+    len >= LONG_FRONT_LEN || !goes_on
+}
+
 impl<A: Allocator + Copy> Front<A> {
     /// No byte came.
     pub fn new(alloc: A) -> Front<A>
@@ -72,13 +87,15 @@ impl<A: Allocator + Copy> Front<A> {
         ensures err { OnErr result (self.new ≡ self.old) }
     {
         if self.is_long {
-            return Ok(self.bytes.len() >= LONG_FRONT_LEN || !are_plain(&self.bytes[before..]));
+            let goes_on = are_plain(rest_of(&self.bytes, before));
+            let past = is_past(self.bytes.len(), goes_on);
+            return Ok(past);
         }
         if self.bytes.len() < FRONT_LEN {
             return Ok(false);
         }
         if self.bytes.len() < LONG_FRONT_LEN && are_plain(&self.bytes) {
-            let first = &self.bytes[..FRONT_LEN];
+            let first = first_of(&self.bytes);
             self.is_long = looks_further(self.alloc, references, first, said, fallback)?;
         }
         Ok(!self.is_long)

@@ -10,7 +10,6 @@ use html5encodings::{Decoder, Encoding};
 use markup5ever::data::NamedReferences;
 use std::alloc::{AllocError, Allocator, Global};
 use std::marker::Model;
-use std::mem;
 
 /// The encoding of a page, and its decoder.
 #[derive(Drop)]
@@ -190,10 +189,12 @@ impl<A: Allocator + Copy> PageDecoder<A> {
         if bytes.is_empty() {
             return Ok(String::new(self.alloc));
         }
-        let Some(known) = &mut self.known else {
+        let Some(mut known) = self.known.take() else {
             return self.push_front(references, bytes);
         };
-        let text = known.decoder.decode(self.alloc, bytes)?;
+        let text = known.decoder.decode(self.alloc, bytes);
+        self.known = Some(known);
+        let text = text?;
         self.ended = false;
         Ok(text)
     }
@@ -205,13 +206,14 @@ impl<A: Allocator + Copy> PageDecoder<A> {
         ensures ok { OnOk result (self.new ≡ anew references.now self.old) }
         ensures err { OnErr result (self.new ≡ self.old) }
     {
-        let Opened { known, mut text } = open_bytes(
+        let opened = open_bytes(
             self.alloc,
             references,
             self.front.bytes(),
             self.said,
             self.fallback,
         )?;
+        let Opened { known, mut text } = opened;
         text.push_str(known.decoder.finish())?;
         self.known = Some(known_anew(known.encoding));
         self.front = Front::new(self.alloc);
@@ -226,12 +228,11 @@ impl<A: Allocator + Copy> PageDecoder<A> {
         ensures ok { OnOk result (self.new ≡ anew references.now self.old) }
         ensures err { OnErr result ((self.new ≡ self.old) ⊎ (self.new ≡ anew references.now self.old)) }
     {
-        let Some(known) = &mut self.known else {
+        let Some(known) = self.known.take() else {
             return self.finish_front(references);
         };
-        let next = Decoder::new(known.encoding);
-        let last = mem::replace(&mut known.decoder, next).finish();
+        self.known = Some(known_anew(known.encoding));
         self.ended = true;
-        String::from_str(self.alloc, last)
+        String::from_str(self.alloc, known.decoder.finish())
     }
 }

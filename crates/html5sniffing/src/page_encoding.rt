@@ -158,8 +158,8 @@ pub(crate) fn looks_further<A: Allocator + Copy>(
     Ok(hint.is_none())
 }
 
-// The first bytes of a page, `FRONT_LEN` or all.
-fn first_of(bytes: &[u8]) -> &[u8]
+/// The first bytes of a page, `FRONT_LEN` or all.
+pub(crate) fn first_of(bytes: &[u8]) -> &[u8]
     ensures { result.now ≡ take 1024 bytes.now }
 {
     &bytes[..FRONT_LEN.min(bytes.len())]
