@@ -154,9 +154,9 @@ html5_status html5_set_limit(html5_handle *handle, uint64_t limit);
  * changes. One of no bytes says nothing. The encoding is determined as by a browser: by a byte order mark; else by what is said;
  * else by a `<meta charset=..>` in the first bytes; else it is UTF-8 where these are UTF-8, and windows-1252.
  *
- * Then no bytes are refused: those that are none of the encoding are read as U+FFFD. The first bytes, fewer than 1,024, are held
- * until they tell the encoding, and count for the limit; a byte of the page may be up to three of its text, by which what is
- * held can go past the limit. Texts of `html5_insert` stay UTF-8. `html5_cleaner_restart` keeps what was said.
+ * Then no bytes are refused: those that are none of the encoding are read as U+FFFD. The first bytes are held
+ * until they tell the encoding: fewer than 1,024, or up to 65,536 of plain ASCII that tells nothing. They count for the limit;
+ * a byte of the page may be up to three of its text, by which what is held can go past the limit. Texts of `html5_insert` stay UTF-8. `html5_cleaner_restart` keeps what was said.
  */
 html5_status html5_set_encoding(html5_handle *handle, const uint8_t *label, size_t len);
 #define html5_set_encoding(handle, label, len) html5_set_encoding(handle, html5_bytes_or_none(label), len)

@@ -20,7 +20,7 @@ use Rattle.html5session.specs.Intake.Decoded.{All, UpToFault}
 use Rattle.html5session.specs.Intake.Piece.{Bytes, TheEnd}
 use Rattle.html5session.specs.Intake.TakesBytes.{Whole, Front, Nothing, InPage}
 use Rattle.html5session.specs.Intake.TakesRest.{NoRest, Rest}
-use Rattle.html5session.specs.Session.{AllRead, EndSaysFault, EndsSession, EndsText, FeedsPiece, FeedsText, FeedRefused, IsCutShort, LosesEnd, LosesPiece, SaysFault, SessionOf, SetsState, Settles, StopsPiece, StopsText, StopsTextEnd, TookPiece, intake_after, is_over, keeps_on, nothing_open_in, tokenizer_of, unsettled_after}
+use Rattle.html5session.specs.Session.{AllRead, EndSaysFault, EndsSession, EndsText, FeedsPiece, FeedsText, FeedRefused, IsCutShort, LosesEnd, LosesPiece, SaysFault, SessionOf, SetsState, Settles, StopsText, StopsTextEnd, TookPiece, intake_after, is_over, keeps_on, nothing_open_in, tokenizer_of, unsettled_after}
 use Rattle.html5session.specs.declared.error.SessionError.{SessionError}
 use Rattle.html5session.specs.declared.error.SessionError.TheVariants.{Memory, NotUtf8}
 use Rattle.markup5ever.specs.NamedReferences.{NamedReference}
@@ -74,6 +74,13 @@ takes_lost references old new (Bytes bytes) text (Nothing utf8 fault none is) = 
 takes_lost references old new (Bytes bytes) text (InPage before after was silent on utf8 is) = ap (λ (i : IntakeOf). i.lost) is
 takes_lost references old new TheEnd text (NoRest utf8 none is) = ap (λ (i : IntakeOf). i.lost) is
 takes_lost references old new TheEnd text (Rest before was silent is_rest utf8 is) = ap (λ (i : IntakeOf). i.lost) is
+
+-- so a session that took a piece can read it
+pub took_going : {X : Type 0} (old mid : SessionOf X) (piece : Piece) → TookPiece old mid piece → is_over mid ≡ false
+took_going {X} old mid piece took =
+    ap is_over took.kept
+    ∙ ap (λ (b : Bool). b || (old.detached.failed || old.detached.ended)) (takes_lost old.references old.intake mid.intake piece took.takes.text took.takes.takes)
+    ∙ took.going_on
 
 -- ---- results that are known
 

@@ -1,5 +1,5 @@
 -- What a call of a session makes of the records that its sink wrote: more come after them, and none is taken.
-use Rattle.std.proofs.Common.{◌≡◌, Bool, false, List, ℕ, [], refl, sym, subst}
+use Rattle.std.proofs.Common.{◌≡◌, Bool, false, [], refl, sym, subst}
 use Rattle.std.proofs.lemmas.List.{append-nil}
 use Rattle.html5ever_interface.specs.Token.{Reply}
 use Rattle.html5ever.specs.Tokenizer.{StandsAt}

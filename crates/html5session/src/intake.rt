@@ -287,10 +287,12 @@ impl<A: Allocator + Copy> Intake<A> {
         ensures takes { OnOk result (TakesPiece references.now self.old self.new (Bytes bytes.now)) }
         ensures refused { OnErr result (PieceRefused self.old self.new) }
     {
-        let Some(page) = &mut self.page else {
+        let Some(mut page) = self.page.take() else {
             return Ok(());
         };
-        let text = page.push(references, bytes)?;
+        let text = page.push(references, bytes);
+        self.page = Some(page);
+        let text = text?;
         self.gain(text)
     }
 
@@ -315,10 +317,12 @@ impl<A: Allocator + Copy> Intake<A> {
         ensures takes { OnOk result (TakesPiece references.now self.old self.new TheEnd) }
         ensures refused { OnErr result (PieceRefused self.old self.new) }
     {
-        let Some(page) = &mut self.page else {
+        let Some(mut page) = self.page.take() else {
             return Ok(());
         };
-        let Ok(text) = page.finish(references) else {
+        let text = page.finish(references);
+        self.page = Some(page);
+        let Ok(text) = text else {
             self.lost = true;
             return Err(AllocError);
         };
