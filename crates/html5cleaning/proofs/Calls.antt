@@ -1,6 +1,6 @@
 -- What a call of the session below says of what was fed to the cleaner.
 use Rattle.std.proofs.Common.{◌≡◌, ℕ, Bool, true, false, List, [], ◌++◌, drop, Option, None, Some, Result, Ok, Err, String, string_bytes, refl, sym, ap, ◌∙◌, subst, inl, inr, append_assoc, take-append-drop}
-use Rattle.std.specs.Prelude.{◌-◌, ◌^◌, ◌||◌, IfErr, IfOk, IsOk, OnErr, OnOk, codes, is_some, option_map, if◌then◌else◌}
+use Rattle.std.specs.Prelude.{◌-◌, ◌^◌, ◌||◌, IfErr, IfOk, IsOk, OnOk, codes, is_some, option_map, if◌then◌else◌}
 use Rattle.std.proofs.lemmas.Bool.{false≢true}
 use Rattle.std.proofs.lemmas.List.{append-nil}
 use Rattle.std.specs.Str.{IsUtf8, bytes_eq, chars}
@@ -280,7 +280,7 @@ end_refused old new ItemOpen going strict at_once refused = absurd refused
 end_refused old new Over going strict at_once refused = refused
 
 -- of a page that is decoded: the rest of its text was read, and then its end
-abbrev ReadsRest : CleaningOf → CleaningOf → Type 0
+abbrev pub ReadsRest : CleaningOf → CleaningOf → Type 0
 ReadsRest old mid = session.FeedsPiece buffer_means old mid TheEnd KeepOn
 
 ends_rest : (old mid new : CleaningOf) (text : List ℕ) (before : PageDecoding) → IsUtf8 text → text ≡ text_with old.references before []
@@ -410,6 +410,22 @@ pub reads_rest : {Z : Type 0} (answer : TokenizerResult (Unit {0}) (String Z)) (
     → session.FeedsPiece buffer_means s mid TheEnd (reply_in string_bytes answer) → ReadsRest s mid
 reads_rest answer s mid going feeds =
     subst (λ (r : Reply (Unit {0})). session.FeedsPiece buffer_means s mid TheEnd r) (keeps_on s mid TheEnd (reply_in string_bytes answer) going feeds) feeds
+
+-- an answer that is one, as `done` has it
+pub answer_ok : {T E : Type 0} (result : Result T E) (out : Result (Unit {0}) E) (u : Unit {0}) (P : T → Type 0) (Q : Type 0)
+    → IfErr result (λ error. out ≡ Err error) → out ≡ Ok u → IfOk result P → ((x : T) → P x → Q) → Q
+answer_ok (Ok x) out u P Q refused is holds later = later x holds
+answer_ok (Err error) out u P Q refused is holds later = absurd (no_error out error (subst IsOk (sym is) refl) refused)
+
+-- and one that is an error
+pub answer_err : {T E : Type 0} (result : Result T E) (out : Result (Unit {0}) E) (error : E) (R : E → Type 0) → OnOk result (IsOk out)
+    → IfErr result (λ e. out ≡ Err e) → out ≡ Err error → IfErr result R → R error
+answer_err (Ok x) out error R ok refused is holds = absurd (no_error out error ok is)
+answer_err (Err e) out error R ok refused is holds =
+    let same : e ≡ error = same_err e error (sym refused ∙ is) in
+    subst R same holds where
+  same_err : {E : Type 0} (e f : E) → ◌≡◌ {A = Result (Unit {0}) E} (Err e) (Err f) → e ≡ f
+  same_err e f is = cc is
 
 -- after an end
 pub at_once-end : (result : Result (Unit {0}) SessionError) (s new : CleaningOf) → ReadsAtOnce s.intake

@@ -1,5 +1,5 @@
 -- What a call of a session makes of what its cleaner kept: more comes after it, and none is taken.
-use Rattle.std.proofs.Common.{◌≡◌, ℕ, false, List, [], ◌++◌, refl, ap, ◌∙◌, append_assoc}
+use Rattle.std.proofs.Common.{◌≡◌, false, ◌++◌, ap, ◌∙◌, append_assoc}
 use Rattle.html5ever_interface.specs.Token.{Reply}
 use Rattle.html5sinks.specs.Runs.{Running}
 use Rattle.html5session.specs.Intake.{Piece}

@@ -199,13 +199,11 @@ impl<A: Allocator + Copy> CleaningSession<A> {
     {
         let CleaningSession { alloc, session } = self;
         let (session, answer) = session.end_bytes();
-        match answer {
-            Ok(_) => {
-                let (session, result) = session.end();
-                (CleaningSession { alloc, session }, result)
-            }
-            Err(error) => (CleaningSession { alloc, session }, Err(error)),
+        if let Err(error) = done(&answer) {
+            return (CleaningSession { alloc, session }, Err(error));
         }
+        let (session, result) = session.end();
+        (CleaningSession { alloc, session }, result)
     }
 
     /// Ends the page. The rest of what is kept of it can then be taken.

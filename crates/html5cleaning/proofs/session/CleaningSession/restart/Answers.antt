@@ -8,7 +8,7 @@ use Rattle.html5cleaning.proofs.session.CleaningSession.restart.Goals as goal
 
 pub returns : goal.returns
 returns g c =
-    starts_again c.into_policy.result _ c.into_parts-references.result.0 _ c.limit-limit.result _ _ c.page_decoder_again-page.result c.new-next.result c.set_limit.new.self c.set_page_decoder.new.self
+    starts_again c.into_policy.result _ c.into_parts-references.result.0 _ c.limit-limit.result _ c.args.self.intake c.page_decoder_again-page.result c.new-next.result c.set_limit.new.self c.set_page_decoder.new.self
     (c.into_policy.ensures ∙ ap (λ (b : Buffered). b.policy) c.into_inner.ensures
     ∙ ap (λ (k : RunSink Buffered). k.handler.policy) c.into_parts-references.ensures.sink ∙ ap (λ (s : CleaningOf). (buffer_of s).policy) c.self.view_is)
     (c.into_parts-references.ensures.references ∙ ap (λ (s : CleaningOf). s.references) c.self.view_is)
