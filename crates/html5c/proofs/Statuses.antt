@@ -1,9 +1,9 @@
 -- What a call did, by the status that it answers.
-use Rattle.std.proofs.Common.{◌≡◌, ◌↔◌, ◌⊎◌, ℕ, true, false, List, ◌++◌, length, Option, None, Some, String, string_bytes, refl, sym, ap, subst, ◌∙◌, inl, inr, arith, append_assoc}
-use Rattle.std.specs.Prelude.{is_some}
+use Rattle.std.proofs.Common.{◌≡◌, ◌↔◌, ◌⊎◌, ℕ, true, false, List, ◌++◌, length, Option, None, Some, Result, Ok, Err, String, string_bytes, refl, sym, ap, subst, ◌∙◌, inl, inr, arith, append_assoc}
+use Rattle.std.specs.Prelude.{IfErr, IfOk, is_some}
 use Rattle.std.proofs.lemmas.Bool.{false≢true}
 use Rattle.std.specs.Str.{IsUtf8}
-use Rattle.html5c.proofs.Going.{over_is, refused_going}
+use Rattle.html5c.proofs.Going.{answered_going, over_is, refused_going, refused_over}
 use Rattle.html5c.specs.Calls.{fed_status, error_status, fits_in, open_status, OpenFails, IsStart, NewSays, FeedSays, InsertSays, ReplySays, EndDecodedSays, EndSays}
 use Rattle.html5c.specs.declared.opening.OpenError.{OpenError}
 use Rattle.html5c.specs.declared.opening.OpenError.TheVariants as opening
@@ -529,6 +529,39 @@ end_decoded_says-end old read new status decoding going feeds says = ended says.
   ended (inr (inr (inr (inl is)))) = absurd ((says.cut.0 is).3 (all_read old read decoding feeds).whole)
   ended (inr (inr (inr (inr (inl is))))) = absurd ((says.waiting.0 is).1 (all_read old read decoding feeds).read)
   ended (inr (inr (inr (inr (inr is))))) = absurd (over_is (is_over read) feeds.going_on (says.over.0 is))
+
+-- where that stopped
+pub decoded_stops : {Z : Type 0} (result : Result (TokenizerResult PausedAt (String Z)) SessionError) (old new : RecordSessionOf) (status : ℕ)
+    → is_decoding old.intake ≡ true → IfOk result (λ answer. status ≡ fed_status (reply_in string_bytes answer)) → IfErr result (λ error. status ≡ error_status error)
+    → ((result ≡ Err Over) ↔ (is_over old ≡ true)) → IfOk result (λ answer. FeedsPiece recorded_means old new TheEnd (reply_in string_bytes answer))
+    → IfErr result (λ error. FeedRefused recorded_means old new TheEnd error) → ¬ (status ≡ 0) → EndDecodedSays old new status
+decoded_stops (Ok answer) old new status decoding ok err over feeds refused other =
+    subst (EndDecodedSays old new) (sym ok)
+    (end_decoded_says-answer old new answer (λ done. other (ok ∙ ap (λ a. fed_status (reply_in string_bytes a)) done))
+    (answered_going (Ok answer) answer Over (is_over old) refl over) feeds)
+decoded_stops (Err error) old new status decoding ok err over feeds refused other =
+    subst (EndDecodedSays old new) (sym err)
+    (end_decoded_says-error old new error decoding refused (refused_over (Err error) error Over (is_over old) refl over))
+
+no_status : (error : SessionError) → error_status error ≡ 0 → ⊥
+no_status Memory is = omega (arith, is)
+no_status (NotUtf8 place) is = omega (arith, is)
+no_status Cut is = omega (arith, is)
+no_status Waiting is = omega (arith, is)
+no_status ItemOpen is = omega (arith, is)
+no_status Over is = omega (arith, is)
+
+-- where it did not
+pub decoded_ends : {Z : Type 0} (result : Result (TokenizerResult PausedAt (String Z)) SessionError) (old read new : RecordSessionOf) (status ended : ℕ)
+    → is_decoding old.intake ≡ true → IfOk result (λ answer. status ≡ fed_status (reply_in string_bytes answer)) → IfErr result (λ error. status ≡ error_status error)
+    → ((result ≡ Err Over) ↔ (is_over old ≡ true)) → IfOk result (λ answer. FeedsPiece recorded_means old read TheEnd (reply_in string_bytes answer))
+    → status ≡ 0 → EndSays read new ended → EndDecodedSays old new ended
+decoded_ends (Ok Done) old read new status ended decoding ok err over feeds done says =
+    end_decoded_says-end old read new ended decoding (answered_going (Ok Done) Done Over (is_over old) refl over) feeds says
+decoded_ends (Ok (Script paused.Script)) old read new status ended decoding ok err over feeds done says = absurd (omega (arith, ok, done))
+decoded_ends (Ok (Script paused.Tag)) old read new status ended decoding ok err over feeds done says = absurd (omega (arith, ok, done))
+decoded_ends (Ok (EncodingIndicator text)) old read new status ended decoding ok err over feeds done says = absurd (omega (arith, ok, done))
+decoded_ends (Err error) old read new status ended decoding ok err over feeds done says = absurd (no_status error (sym err ∙ done))
 
 -- the status of `html5_new`
 
