@@ -278,6 +278,101 @@ static void lets_the_caller_reply(void) {
     html5_free(&handle);
 }
 
+static html5_status set_encoding(html5_handle *handle, const char *label) {
+    return html5_set_encoding(handle, label, strlen(label));
+}
+
+/* Whether this is the name of the encoding, as much as there is room for. */
+static bool is_in(html5_handle *handle, size_t room, const char *name) {
+    char out[32];
+    size_t len = html5_encoding(handle, (uint8_t *)out, room);
+    return len == strlen(name) && memcmp(out, name, len) == 0;
+}
+
+/* Bytes are read by what is said of the page, each character whole or cut. */
+static void reads_a_page_in_its_encoding(void) {
+    html5_handle handle = {0};
+    html5_reader reader = {0};
+    html5_options options = {0};
+    CHECK(set_encoding(&handle, "") == HTML5_CLOSED);
+    CHECK(open_after(&handle, "", options) == HTML5_DONE);
+    CHECK(set_encoding(&handle, "no-such") == HTML5_BAD_OPTION);
+    CHECK(set_encoding(&handle, "\xff") == HTML5_BAD_OPTION);
+    CHECK(set_encoding(&handle, "latin1") == HTML5_DONE);
+    CHECK(set_encoding(&handle, " Shift-JIS\n") == HTML5_DONE);
+    CHECK(feed(&handle, "<p>\x93") == HTML5_DONE);
+    CHECK(set_encoding(&handle, "") == HTML5_BEGUN);
+    CHECK(is_in(&handle, 32, ""));
+    CHECK(TAKES(&handle, 8, ""));
+    CHECK(feed(&handle, "\xfa\x96{\xff\x93") == HTML5_DONE);
+    CHECK(html5_end(&handle) == HTML5_DONE);
+    CHECK(is_in(&handle, 32, "Shift_JIS") && is_in(&handle, 5, "Shift"));
+    CHECK(set_encoding(&handle, "") == HTML5_OVER);
+    CHECK(html5_error_at(&handle) == 0);
+    CHECK(is_next(&reader, &handle, HTML5_START_TAG, "p"));
+    CHECK(is_next(&reader, &handle, HTML5_TEXT, "\xe6\x97\xa5\xe6\x9c\xac\xef\xbf\xbd\xef\xbf\xbd"));
+    CHECK(is_next(&reader, &handle, HTML5_END, ""));
+    html5_reader_free(&reader);
+    html5_free(&handle);
+}
+
+/* Nothing is said: a mark, a hint, or neither. */
+static void determines_the_encoding(void) {
+    static const struct {
+        const char *page, *name, *text;
+    } pages[] = {
+        {"\xef\xbb\xbf\xc3\xa9\xff", "UTF-8", "\xc3\xa9\xef\xbf\xbd"},
+        {"\xff\xfe\xe9\x01", "UTF-16LE", "\xc7\xa9"},
+        {"<meta charset=koi8-r>\xc1", "KOI8-R", "\xd0\xb0"},
+        {"caf\xe9", "windows-1252", "caf\xc3\xa9"},
+        {"caf\xc3\xa9", "UTF-8", "caf\xc3\xa9"},
+    };
+    for (size_t at = 0; at < sizeof pages / sizeof *pages; at++) {
+        html5_handle handle = {0};
+        html5_reader reader = {0};
+        html5_options options = {0};
+        CHECK(open_after(&handle, "", options) == HTML5_DONE);
+        CHECK(html5_set_encoding(&handle, NULL, 0) == HTML5_DONE);
+        for (const char *byte = pages[at].page; *byte; byte++) CHECK(html5_feed(&handle, byte, 1) == HTML5_DONE);
+        CHECK(html5_end(&handle) == HTML5_DONE);
+        CHECK(is_in(&handle, 32, pages[at].name));
+        if (strchr(pages[at].page, '>')) CHECK(is_next(&reader, &handle, HTML5_START_TAG, "meta"));
+        CHECK(is_next(&reader, &handle, HTML5_TEXT, pages[at].text));
+        html5_reader_free(&reader);
+        html5_free(&handle);
+    }
+}
+
+/* What was held may pause at the end. */
+static void pauses_at_the_end_of_what_was_held(void) {
+    html5_handle handle = {0};
+    html5_options options = {.replies = HTML5_PAUSING_REPLIES};
+    CHECK(open_after(&handle, "", options) == HTML5_DONE);
+    CHECK(html5_set_encoding(&handle, NULL, 0) == HTML5_DONE);
+    CHECK(feed(&handle, "</script>b<meta charset=x>c\xe9") == HTML5_DONE);
+    CHECK(html5_end(&handle) == HTML5_SCRIPT);
+    CHECK(!html5_is_over(&handle));
+    CHECK(insert(&handle, "a") == HTML5_DONE);
+    CHECK(feed(&handle, "") == HTML5_ENCODING);
+    CHECK(html5_end(&handle) == HTML5_DONE);
+    CHECK(html5_is_over(&handle));
+    html5_free(&handle);
+}
+
+/* What is held of the first bytes counts. */
+static void counts_what_is_held(void) {
+    html5_handle handle = {0};
+    html5_options options = {0};
+    CHECK(open_after(&handle, "", options) == HTML5_DONE);
+    CHECK(html5_set_limit(&handle, 4) == HTML5_DONE);
+    CHECK(html5_set_encoding(&handle, NULL, 0) == HTML5_DONE);
+    CHECK(feed(&handle, "abc") == HTML5_DONE);
+    CHECK(feed(&handle, "de") == HTML5_LIMIT);
+    CHECK(feed(&handle, "d") == HTML5_DONE);
+    CHECK(html5_end(&handle) == HTML5_DONE);
+    html5_free(&handle);
+}
+
 static void is_closed_until_it_is_opened(void) {
     html5_handle handle = {0};
     html5_options options = {0}, no_state = {.state = 6}, no_replies = {.replies = 4};
@@ -315,6 +410,10 @@ int main(void) {
     counts_what_waits_after_a_pause();
     says_why_there_is_no_token();
     lets_the_caller_reply();
+    reads_a_page_in_its_encoding();
+    determines_the_encoding();
+    pauses_at_the_end_of_what_was_held();
+    counts_what_is_held();
     is_closed_until_it_is_opened();
     return failed;
 }

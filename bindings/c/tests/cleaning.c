@@ -142,6 +142,30 @@ static void says_which_rule_is_wrong(void) {
     html5_free(&cleaner);
 }
 
+/* A page in its encoding, and another, of which the same is said. */
+static void cleans_pages_in_their_encodings(void) {
+    html5_handle cleaner = {0};
+    uint64_t place;
+    uint8_t name[16];
+    html5_page kept;
+    CHECK(open_by(&cleaner, "", &place) == HTML5_DONE);
+    CHECK(html5_set_encoding(&cleaner, (const uint8_t *)"utf-7", 5) == HTML5_BAD_OPTION);
+    CHECK(html5_set_encoding(&cleaner, NULL, 0) == HTML5_DONE);
+    CHECK(html5_encoding(&cleaner, name, sizeof name) == 0);
+    CHECK(feed(&cleaner, "<meta charset=shift_jis><p onclick=x>\x93") == HTML5_DONE);
+    CHECK(takes(&cleaner, 256, ""));
+    CHECK(html5_set_encoding(&cleaner, NULL, 0) == HTML5_BEGUN);
+    CHECK(feed(&cleaner, "\xfa") == HTML5_DONE);
+    CHECK(html5_cleaner_end(&cleaner) == HTML5_DONE);
+    CHECK(takes(&cleaner, 256, "<p>\xe6\x97\xa5</p>"));
+    CHECK(html5_encoding(&cleaner, name, sizeof name) == 9 && memcmp(name, "Shift_JIS", 9) == 0);
+    CHECK(html5_clean(&cleaner, "<p>caf\xe9", 7, &kept) == HTML5_DONE && strcmp(kept.at, "<p>caf\xc3\xa9</p>") == 0);
+    free(kept.at);
+    CHECK(html5_clean(&cleaner, "\xff\xfe\xe9", 3, &kept) == HTML5_DONE && strcmp(kept.at, "\xef\xbf\xbd") == 0);
+    free(kept.at);
+    html5_free(&cleaner);
+}
+
 static void is_closed_until_it_is_opened(void) {
     html5_handle cleaner = {0};
     html5_page kept;
@@ -184,6 +208,7 @@ int main(void) {
     refuses_no_byte_before_the_place();
     holds_no_more_than_its_limit();
     says_which_rule_is_wrong();
+    cleans_pages_in_their_encodings();
     is_closed_until_it_is_opened();
     is_of_one_kind_at_a_time();
     return failed;

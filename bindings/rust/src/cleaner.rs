@@ -1,7 +1,7 @@
 //! Cleaning: what a policy keeps of a page.
 
 use crate::raw::{self, Handle};
-use crate::Error;
+use crate::{Encoding, Error};
 use std::collections::{BTreeMap, BTreeSet};
 use std::io::{self, Read, Write};
 
@@ -32,6 +32,23 @@ impl Policy {
     fn try_clean(&self, page: &str) -> Result<String, Error> {
         let mut cleaner = Cleaner::new(self)?;
         cleaner.feed(page.as_bytes())?;
+        cleaner.end()?;
+        Ok(cleaner.take())
+    }
+
+    /// What the policy keeps of a page in this encoding.
+    ///
+    /// ```
+    /// use firnuubal::{Encoding, Policy};
+    ///
+    /// let page = b"<p onclick=x>caf\xe9";
+    /// assert_eq!(Policy::default().clean_bytes(page, Encoding::Auto)?, "<p>café</p>");
+    /// # Ok::<(), firnuubal::Error>(())
+    /// ```
+    pub fn clean_bytes(&self, page: &[u8], encoding: Encoding<'_>) -> Result<String, Error> {
+        let mut cleaner = Cleaner::new(self)?;
+        cleaner.set_encoding(encoding)?;
+        cleaner.feed(page)?;
         cleaner.end()?;
         Ok(cleaner.take())
     }
@@ -221,6 +238,18 @@ impl Cleaner {
     pub fn set_limit(&mut self, limit: u64) -> Result<(), Error> {
         let status = unsafe { raw::html5_set_limit(&mut self.handle, limit) };
         self.done_or_error(status)
+    }
+
+    /// Sets in which encoding this page is, and those after it. Without that they are UTF-8, and other bytes are refused. After
+    /// bytes of the page were fed it is [`Error::Begun`].
+    pub fn set_encoding(&mut self, encoding: Encoding<'_>) -> Result<(), Error> {
+        let status = raw::set_encoding(&mut self.handle, encoding);
+        self.done_or_error(status)
+    }
+
+    /// The name of the encoding in which the page is read, once it is known. There is none where none was set.
+    pub fn encoding(&mut self) -> Option<String> {
+        raw::encoding(&mut self.handle)
     }
 
     /// Reads the next bytes, in pieces of any size. Where bytes are no UTF-8, all before them is read.

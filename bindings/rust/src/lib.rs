@@ -70,6 +70,34 @@ pub enum Replies {
     Caller = 3,
 }
 
+/// In which encoding the bytes of a page are, where they may be in another than UTF-8. Bytes that are none of it are read as
+/// U+FFFD.
+///
+/// ```
+/// use firnuubal::{read_tokens, Encoding, Options, Token};
+///
+/// let options = Options { encoding: Some(Encoding::Auto), ..Options::default() };
+/// let page = b"<meta charset=shift_jis>\x93\xfa\x96{";
+/// let mut text = String::new();
+/// read_tokens(&page[..], &options, |token| {
+///     if let Token::Text(run) = token {
+///         text.push_str(run);
+///     }
+/// })?;
+/// assert_eq!(text, "日本");
+/// # Ok::<(), std::io::Error>(())
+/// ```
+#[derive(Clone, Copy, Debug, Default, PartialEq, Eq)]
+pub enum Encoding<'e> {
+    /// The page tells, as to a browser: by a byte order mark; else by a `<meta charset=..>` in its first bytes; else it is UTF-8
+    /// where these are UTF-8, and windows-1252.
+    #[default]
+    Auto,
+    /// That of a label of the Encoding Standard, as `shift_jis`, said by a header of the transport. A byte order mark overrules
+    /// it. Another label is [`Error::UnknownEncoding`].
+    Label(&'e str),
+}
+
 /// How a page is read.
 #[derive(Clone, Copy, Debug, Default, PartialEq, Eq)]
 pub struct Options<'o> {
@@ -88,6 +116,8 @@ pub struct Options<'o> {
     /// How many bytes may be held: what was fed since all was read and no item was open, and the records of tokens that
     /// were not read. A piece that goes past it is [`Error::Limit`].
     pub limit: Option<u64>,
+    /// In which encoding the bytes are. Without one they are UTF-8, and others are refused.
+    pub encoding: Option<Encoding<'o>>,
 }
 
 /// What a feed came to.
@@ -123,6 +153,10 @@ pub enum Error {
     Limit,
     /// The page has ended, or an earlier call was refused for good.
     Over,
+    /// No encoding has this label.
+    UnknownEncoding,
+    /// Bytes were fed already, so it can't be set in which encoding they are.
+    Begun,
     /// A policy takes no such rule as the one on this line.
     BadPolicy {
         /// The number of the line, from 1.
@@ -140,6 +174,8 @@ impl Error {
             6 => Error::Waiting,
             13 => Error::ItemOpen,
             14 => Error::Limit,
+            9 => Error::UnknownEncoding,
+            15 => Error::Begun,
             _ => Error::Over,
         }
     }
@@ -155,6 +191,8 @@ impl fmt::Display for Error {
             Error::ItemOpen => f.write_str("a tag or another item is open"),
             Error::Limit => f.write_str("more bytes would be held than the limit"),
             Error::Over => f.write_str("the reading is over"),
+            Error::UnknownEncoding => f.write_str("no encoding has this label"),
+            Error::Begun => f.write_str("bytes were fed already"),
             Error::BadPolicy { line } => write!(f, "line {line} is no rule that a policy takes"),
         }
     }
@@ -195,7 +233,16 @@ impl Tokenizer {
             let status = unsafe { raw::html5_set_limit(&mut tokenizer.handle, limit) };
             tokenizer.fed_or_error(status)?;
         }
+        if let Some(encoding) = options.encoding {
+            let status = raw::set_encoding(&mut tokenizer.handle, encoding);
+            tokenizer.fed_or_error(status)?;
+        }
         Ok(tokenizer)
+    }
+
+    /// The name of the encoding in which the page is read, once it is known. There is none where the options have no encoding.
+    pub fn encoding(&mut self) -> Option<String> {
+        raw::encoding(&mut self.handle)
     }
 
     /// Reads the next bytes, in pieces of any size. After a pause it goes on, with what waits and these bytes.
@@ -235,10 +282,11 @@ impl Tokenizer {
         self.fed_or_error(status).map(|_| ())
     }
 
-    /// Tells the end of the page.
-    pub fn end(&mut self) -> Result<(), Error> {
+    /// Tells the end of the page. Where the options have an encoding, what is held of it is read first, and may pause: then the
+    /// page has not ended, and this is called again.
+    pub fn end(&mut self) -> Result<Fed, Error> {
         let status = unsafe { raw::html5_end(&mut self.handle) };
-        self.fed_or_error(status).map(|_| ())
+        self.fed_or_error(status)
     }
 
     /// Whether nothing more is read: the end was told, or a call was refused for good. After `Error::NoMemory` it says

@@ -1,6 +1,6 @@
 //! What is read of whole pages.
 
-use crate::{Error, Options, Token, Tokenizer};
+use crate::{Error, Fed, Options, Token, Tokenizer};
 use std::io::{self, Read};
 
 /// Reads a page as its bytes arrive, past all pauses, and hands each token on.
@@ -15,7 +15,7 @@ pub fn read_tokens(mut page: impl Read, options: &Options<'_>, mut take: impl Fn
         tokenizer.feed_all(&piece[..len])?;
         tokenizer.tokens().for_each(&mut take);
     }
-    tokenizer.end()?;
+    while tokenizer.end()? != Fed::Done {}
     tokenizer.tokens().for_each(take);
     Ok(())
 }
@@ -83,7 +83,12 @@ impl From<Error> for io::Error {
         let kind = match error {
             Error::NoMemory | Error::Limit => io::ErrorKind::OutOfMemory,
             Error::NotUtf8 { .. } | Error::Cut => io::ErrorKind::InvalidData,
-            Error::Waiting | Error::ItemOpen | Error::Over | Error::BadPolicy { .. } => io::ErrorKind::InvalidInput,
+            Error::Waiting
+            | Error::ItemOpen
+            | Error::Over
+            | Error::UnknownEncoding
+            | Error::Begun
+            | Error::BadPolicy { .. } => io::ErrorKind::InvalidInput,
         };
         io::Error::new(kind, error)
     }

@@ -1,5 +1,6 @@
 //! The calls of the library, as firnuubal.h has them.
 
+use crate::Encoding;
 use std::ffi::c_void;
 use std::ptr;
 
@@ -31,6 +32,8 @@ extern "C" {
     pub(crate) fn html5_reply(handle: *mut Handle, state: u32) -> u32;
     pub(crate) fn html5_set_foreign(handle: *mut Handle, foreign: bool) -> u32;
     pub(crate) fn html5_set_limit(handle: *mut Handle, limit: u64) -> u32;
+    pub(crate) fn html5_set_encoding(handle: *mut Handle, label: *const u8, len: usize) -> u32;
+    pub(crate) fn html5_encoding(handle: *mut Handle, out: *mut u8, len: usize) -> usize;
     pub(crate) fn html5_end(handle: *mut Handle) -> u32;
     pub(crate) fn html5_take(handle: *mut Handle, out: *mut u8, len: usize) -> usize;
     pub(crate) fn html5_error_at(handle: *mut Handle) -> u64;
@@ -42,6 +45,23 @@ extern "C" {
     pub(crate) fn html5_cleaner_end(handle: *mut Handle) -> u32;
     pub(crate) fn html5_cleaner_take(handle: *mut Handle, out: *mut u8, len: usize) -> usize;
     pub(crate) fn html5_cleaner_error_at(handle: *mut Handle) -> u64;
+}
+
+/// Reads the page of a handle in this encoding, and answers the status.
+pub(crate) fn set_encoding(handle: &mut Handle, encoding: Encoding<'_>) -> u32 {
+    match encoding {
+        Encoding::Auto => unsafe { html5_set_encoding(handle, [].as_ptr(), 0) },
+        Encoding::Label("") => 9,
+        Encoding::Label(label) => unsafe { html5_set_encoding(handle, label.as_ptr(), label.len()) },
+    }
+}
+
+/// The name of the encoding of a handle's page, once it is known.
+pub(crate) fn encoding(handle: &mut Handle) -> Option<String> {
+    let mut name = vec![0; 16];
+    let len = unsafe { html5_encoding(handle, name.as_mut_ptr(), name.len()) };
+    name.truncate(len);
+    String::from_utf8(name).ok().filter(|name| !name.is_empty())
 }
 
 /// Appends all that waits in a handle.

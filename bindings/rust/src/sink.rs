@@ -105,7 +105,16 @@ impl<S: TokenSink> SinkTokenizer<S> {
     /// Reads the next bytes, up to a tag at which the sink asks to pause. After that it goes on, with what waits and these
     /// bytes.
     pub fn feed(&mut self, bytes: &[u8]) -> Result<TokenizerResult<S::Handle>, Error> {
-        let mut fed = self.tokenizer.feed(bytes);
+        let fed = self.tokenizer.feed(bytes);
+        self.read_on(fed, |tokenizer| tokenizer.feed(&[]))
+    }
+
+    // Sends what was read, and reads on up to a tag at which the sink asks to pause.
+    fn read_on(
+        &mut self,
+        mut fed: Result<Fed, Error>,
+        next: impl Fn(&mut Tokenizer) -> Result<Fed, Error>,
+    ) -> Result<TokenizerResult<S::Handle>, Error> {
         loop {
             let asked = self.send_tokens();
             if fed? == Fed::Done {
@@ -119,7 +128,7 @@ impl<S: TokenSink> SinkTokenizer<S> {
                 TokenSinkResult::Script(handle) => return Ok(TokenizerResult::Script(handle)),
                 TokenSinkResult::EncodingIndicator(text) => return Ok(TokenizerResult::EncodingIndicator(text)),
             }
-            fed = self.tokenizer.feed(&[]);
+            fed = next(&mut self.tokenizer);
         }
     }
 
@@ -128,12 +137,15 @@ impl<S: TokenSink> SinkTokenizer<S> {
         self.tokenizer.insert(text)
     }
 
-    /// Ends the page.
-    pub fn end(&mut self) -> Result<(), Error> {
-        self.tokenizer.end()?;
-        self.send_tokens();
-        self.sink.end();
-        Ok(())
+    /// Ends the page. Where the options have an encoding, what is held of it is read first, up to a tag at which the sink asks to
+    /// pause: then the page has not ended, and this is called again.
+    pub fn end(&mut self) -> Result<TokenizerResult<S::Handle>, Error> {
+        let fed = self.tokenizer.end();
+        let read = self.read_on(fed, Tokenizer::end)?;
+        if matches!(read, TokenizerResult::Done) {
+            self.sink.end();
+        }
+        Ok(read)
     }
 
     // Sends the tokens that were told. It answers what the sink asks for after the last one.

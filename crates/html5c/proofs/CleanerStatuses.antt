@@ -1,5 +1,7 @@
 -- What a call of the cleaner did, by the status that it answers.
-use Rattle.std.proofs.Common.{◌≡◌, ◌↔◌, ℕ, true, false, List, length, Option, None, Some, refl, inl, inr, arith}
+use Rattle.std.proofs.Common.{◌≡◌, ◌↔◌, ℕ, Bool, true, false, List, length, Option, None, Some, refl, sym, subst, inl, inr, arith}
+use Rattle.std.specs.Prelude.{is_some}
+use Rattle.std.proofs.lemmas.Bool.{false≢true}
 use Rattle.html5c.proofs.Going.{over_is, refused_going}
 use Rattle.html5c.specs.CleanerCalls.{CleanerEndSays, CleanerFeedSays, IsCleanerStart, NewCleanerSays, PolicyFails, fault_place, fault_status}
 use Rattle.html5c.specs.Slots.{cleaner_of}
@@ -7,10 +9,12 @@ use Rattle.html5c.specs.declared.cleaner_opening.PolicyFault.{PolicyFault}
 use Rattle.html5c.specs.declared.cleaner_opening.PolicyFault.TheVariants as fault
 use Rattle.html5c.specs.declared.slot.PageSlot.{PageSlot}
 use Rattle.html5c.specs.declared.slot.PageSlot.TheVariants.{Tokenizer, Cleaner, Lent}
-use Rattle.html5cleaning.specs.Cleaning.{CleaningOf, EndRefused, EndsPage, FeedRefused, FeedsPiece, fits_in}
+use Rattle.html5cleaning.specs.Cleaning.{CleaningOf, EndRefused, EndWantsMemory, EndsPage, FeedRefused, FeedsPiece, fits_in}
 use Rattle.html5c.proofs.Statuses.{cut_no_over, either, memory_no_over, not_utf8_no_over}
 use Rattle.html5c.specs.Calls.{error_status}
-use Rattle.html5session.specs.Session.{is_over}
+use Rattle.html5session.specs.Intake.{EndsWithinBy, IsCompleteBy, is_decoding}
+use Rattle.html5session.specs.Session.{AllRead, is_over}
+use Rattle.html5sniffing.specs.PageDecoding.{PageDecoding}
 use Rattle.html5session.specs.declared.error.SessionError.{SessionError}
 use Rattle.html5session.specs.declared.error.SessionError.TheVariants.{Memory, NotUtf8, Cut, Waiting, ItemOpen, Over}
 
@@ -80,13 +84,26 @@ feed_says-error old new bytes Over refused over fits = record {
   only = inr (inr (inr (inl refl)));
 }
 
+-- the page ends within a character
+
+not_within : (page : Option PageDecoding) (held : List ℕ) → (is_some page ≡ false → IsCompleteBy page held) → ¬ (EndsWithinBy page held)
+not_within None held whole within = within (whole refl)
+not_within (Some d) held whole within = within
+
+within : (page : Option PageDecoding) (held : List ℕ) → is_some page ≡ false → ¬ (IsCompleteBy page held) → EndsWithinBy page held
+within None held strict cut = cut
+within (Some d) held strict cut = absurd (false≢true (sym strict))
+
+lost_whole : (old new : CleaningOf) → EndWantsMemory (is_decoding old.intake) old new → is_decoding old.intake ≡ false → AllRead old.intake
+lost_whole old new lost strict = (subst (λ (b : Bool). EndWantsMemory b old new) strict lost).loses.read
+
 -- the status of an end that was answered, or refused
 
 pub end_says-done : (old new : CleaningOf) → EndsPage old new → is_over old ≡ false → CleanerEndSays old new 0
 end_says-done old new ends going = record {
   done = λ _. ends;
   no_memory = λ e. absurd (omega (arith, e));
-  cut = (λ e. absurd (omega (arith, e)), λ is. absurd (is.1 ends.read.whole));
+  cut = (λ e. absurd (omega (arith, e)), λ is. absurd (not_within old.intake.page old.intake.decoder.held (λ strict. (ends.read strict).whole) is.1));
   over = (λ e. absurd (omega (arith, e)), λ was. absurd (over_is (is_over old) going was));
   unchanged = either (λ e. absurd (omega (arith, e))) (λ e. absurd (omega (arith, e)));
   only = inl refl;
@@ -99,7 +116,7 @@ end_says-error old new Memory refused over =
     record {
       done = λ e. absurd (omega (arith, e));
       no_memory = λ _. refused;
-      cut = (λ e. absurd (omega (arith, e)), λ is. absurd (is.1 refused.loses.read.whole));
+      cut = (λ e. absurd (omega (arith, e)), λ is. absurd (not_within old.intake.page old.intake.decoder.held (λ strict. (lost_whole old new refused strict).whole) is.1));
       over = (λ e. absurd (omega (arith, e)), λ was. absurd (over_is (is_over old) going was));
       unchanged = either (λ e. absurd (omega (arith, e))) (λ e. absurd (omega (arith, e)));
       only = inr (inl refl);
@@ -110,7 +127,7 @@ end_says-error old new Cut refused over =
     record {
       done = λ e. absurd (omega (arith, e));
       no_memory = λ e. absurd (omega (arith, e));
-      cut = (λ _. (going, refused.1.held), λ _. refl);
+      cut = (λ _. (going, within old.intake.page old.intake.decoder.held refused.2 refused.1.held), λ _. refl);
       over = (λ e. absurd (omega (arith, e)), λ was. absurd (over_is (is_over old) going was));
       unchanged = λ _. refused.0;
       only = inr (inr (inl refl));

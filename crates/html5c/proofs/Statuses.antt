@@ -1,10 +1,10 @@
 -- What a call did, by the status that it answers.
-use Rattle.std.proofs.Common.{◌≡◌, ◌↔◌, ◌⊎◌, ℕ, true, false, List, length, Option, None, Some, String, string_bytes, refl, sym, ap, subst, ◌∙◌, inl, inr, arith}
-use Rattle.std.specs.Prelude.{is_some}
+use Rattle.std.proofs.Common.{◌≡◌, ◌↔◌, ◌⊎◌, ℕ, true, false, List, ◌++◌, length, Option, None, Some, Result, Ok, Err, String, string_bytes, refl, sym, ap, subst, ◌∙◌, inl, inr, arith, append_assoc}
+use Rattle.std.specs.Prelude.{IfErr, IfOk, is_some}
 use Rattle.std.proofs.lemmas.Bool.{false≢true}
 use Rattle.std.specs.Str.{IsUtf8}
-use Rattle.html5c.proofs.Going.{over_is, refused_going}
-use Rattle.html5c.specs.Calls.{fed_status, error_status, fits_in, open_status, OpenFails, IsStart, NewSays, FeedSays, InsertSays, ReplySays, EndSays}
+use Rattle.html5c.proofs.Going.{answered_going, over_is, refused_going, refused_over}
+use Rattle.html5c.specs.Calls.{fed_status, error_status, fits_in, open_status, OpenFails, IsStart, NewSays, FeedSays, InsertSays, ReplySays, EndDecodedSays, EndSays}
 use Rattle.html5c.specs.declared.opening.OpenError.{OpenError}
 use Rattle.html5c.specs.declared.opening.OpenError.TheVariants as opening
 use Rattle.html5c.specs.Said.{state_said}
@@ -12,17 +12,23 @@ use Rattle.html5c.specs.Slots.{session_of}
 use Rattle.html5c.specs.declared.options.Options.{Options}
 use Rattle.html5c.specs.declared.slot.PageSlot.{PageSlot}
 use Rattle.html5c.specs.declared.slot.PageSlot.TheVariants.{Tokenizer, Cleaner, Lent}
+use Rattle.html5ever_interface.specs.Token.{Reply}
+use Rattle.html5ever_interface.specs.Token.Reply.{KeepOn}
 use Rattle.html5ever_interface.specs.declared.states.State.{State}
 use Rattle.html5feed.specs.Feed.{reply_in}
-use Rattle.html5records.specs.Recording.{recorded_means, WritesOn}
+use Rattle.html5records.specs.Recording.{Recorded, recorded_means, WritesOn}
 use Rattle.html5records.specs.declared.record_sink.PausedAt.{PausedAt}
 use Rattle.html5records.specs.declared.record_sink.PausedAt.TheVariants as paused
-use Rattle.html5session.specs.Intake.{gains_front}
+use Rattle.html5session.specs.Intake.{IntakeOf, IsCompleteBy, TakesRest, gains_front, is_decoding}
+use Rattle.html5session.specs.Intake.Piece.{Bytes, TheEnd}
+use Rattle.html5session.specs.Intake.TakesRest.{NoRest, Rest}
+use Rattle.html5sniffing.specs.PageDecoding.{PageDecoding}
 use Rattle.html5session.specs.RecordSessions.{RecordSessionOf, recorded_by}
-use Rattle.html5session.specs.Session.{is_over, nothing_open_in, SetsState, FeedsPiece, FeedRefused, EndsSession, EndRefused}
+use Rattle.html5session.specs.Session.{is_over, nothing_open_in, SetsState, AllRead, FeedsPiece, FeedRefused, EndsSession, EndRefused, LosesEnd}
 use Rattle.html5session.specs.declared.error.SessionError.{SessionError}
 use Rattle.html5session.specs.declared.error.SessionError.TheVariants.{Memory, NotUtf8, Cut, Waiting, ItemOpen, Over}
 use Rattle.html5session.proofs.Writing.{on_end, on_end_refused, on_feed, on_refused, writes_on-none}
+use Rattle.markup5ever.specs.NamedReferences.{NamedReference}
 use Rattle.markup5ever.specs.declared.tokenizer_result.TokenizerResult.{TokenizerResult}
 use Rattle.markup5ever.specs.declared.tokenizer_result.TokenizerResult.TheVariants.{Done, Script, EncodingIndicator}
 
@@ -47,10 +53,10 @@ either f g (inr b) = g b
 
 -- the status of a feed that was answered says what it left
 pub feed_says-answer : {Z : Type 0} (old new : RecordSessionOf) (bytes : List ℕ) (answer : TokenizerResult PausedAt (String Z)) → is_over old ≡ false
-    → fits_in old (length bytes) ≡ true → FeedsPiece recorded_means old new bytes (reply_in string_bytes answer)
+    → fits_in old (length bytes) ≡ true → FeedsPiece recorded_means old new (Bytes bytes) (reply_in string_bytes answer)
     → FeedSays old new bytes (fed_status (reply_in string_bytes answer))
 feed_says-answer old new bytes Done going room feeds =
-    let records = on_feed old new bytes _ going feeds in
+    let records = on_feed old new (Bytes bytes) _ going feeds in
     record {
       done = λ _. feeds;
       script = λ e. absurd (omega (arith, e));
@@ -65,7 +71,7 @@ feed_says-answer old new bytes Done going room feeds =
       only = inl refl;
     }
 feed_says-answer old new bytes (Script paused.Script) going room feeds =
-    let records = on_feed old new bytes _ going feeds in
+    let records = on_feed old new (Bytes bytes) _ going feeds in
     record {
       done = λ e. absurd (omega (arith, e));
       script = λ _. feeds;
@@ -80,7 +86,7 @@ feed_says-answer old new bytes (Script paused.Script) going room feeds =
       only = inr (inl refl);
     }
 feed_says-answer old new bytes (Script paused.Tag) going room feeds =
-    let records = on_feed old new bytes _ going feeds in
+    let records = on_feed old new (Bytes bytes) _ going feeds in
     record {
       done = λ e. absurd (omega (arith, e));
       script = λ e. absurd (omega (arith, e));
@@ -95,7 +101,7 @@ feed_says-answer old new bytes (Script paused.Tag) going room feeds =
       only = inr (inr (inr (inr (inr (inr (inl refl))))));
     }
 feed_says-answer old new bytes (EncodingIndicator text) going room feeds =
-    let records = on_feed old new bytes _ going feeds in
+    let records = on_feed old new (Bytes bytes) _ going feeds in
     record {
       done = λ e. absurd (omega (arith, e));
       script = λ e. absurd (omega (arith, e));
@@ -129,12 +135,12 @@ feed_says-over old new bytes was same =
     }
 
 -- the status of a feed that was refused says what it left
-pub feed_says-error : (old new : RecordSessionOf) (bytes : List ℕ) (error : SessionError) → FeedRefused recorded_means old new bytes error
+pub feed_says-error : (old new : RecordSessionOf) (bytes : List ℕ) (error : SessionError) → FeedRefused recorded_means old new (Bytes bytes) error
     → ((error ≡ Over) ↔ (is_over old ≡ true)) → (is_over old ≡ false → fits_in old (length bytes) ≡ true) → FeedSays old new bytes (error_status error)
 feed_says-error old new bytes Memory refused over fits =
     let going = refused_going Memory Over (is_over old) over memory_no_over in
     let room = fits going in
-    let records = on_refused old new bytes Memory going refused in
+    let records = on_refused old new (Bytes bytes) Memory going refused in
     record {
       done = λ e. absurd (omega (arith, e));
       script = λ e. absurd (omega (arith, e));
@@ -151,7 +157,7 @@ feed_says-error old new bytes Memory refused over fits =
 feed_says-error old new bytes (NotUtf8 place) refused over fits =
     let going = refused_going (NotUtf8 place) Over (is_over old) over (not_utf8_no_over place) in
     let room = fits going in
-    let records = on_refused old new bytes (NotUtf8 place) going refused in
+    let records = on_refused old new (Bytes bytes) (NotUtf8 place) going refused in
     record {
       done = λ e. absurd (omega (arith, e));
       script = λ e. absurd (omega (arith, e));
@@ -391,6 +397,171 @@ end_says-error old new Waiting refused over =
     }
 end_says-error old new ItemOpen refused over = absurd refused
 end_says-error old new Over refused over = end_says-over old new refused.over refused.unchanged
+
+-- ---- the end of a page that is decoded
+
+-- the rest of its text was taken: nothing is held then, and no fault is to be said
+takes_rest : (references : List NamedReference) (old taken : IntakeOf) (text : List ℕ) → is_decoding old ≡ true → TakesRest references old taken text
+    → IsCompleteBy taken.page taken.decoder.held × (taken.fault ≡ false)
+takes_rest references old taken text decoding (NoRest utf8 none is) =
+    absurd (false≢true (sym (ap (λ (p : Option PageDecoding). is_some p) utf8) ∙ decoding))
+takes_rest references old taken text decoding (Rest before page was rest utf8 is) = (
+  subst (λ (p : Option PageDecoding). IsCompleteBy p taken.decoder.held) (sym (ap (λ (i : IntakeOf). i.page) is)) refl,
+  ap (λ (i : IntakeOf). i.fault) is ∙ was,
+)
+
+abbrev ReadsRest : RecordSessionOf → RecordSessionOf → Type 0
+ReadsRest old read = FeedsPiece recorded_means old read TheEnd KeepOn
+
+all_read : (old read : RecordSessionOf) → is_decoding old.intake ≡ true → ReadsRest old read → AllRead read.intake
+all_read old read decoding feeds = record {
+  read = feeds.feeds.all refl;
+  no_fault = ap (λ (i : IntakeOf). i.fault) feeds.intake ∙ feeds.whole refl;
+  whole = subst (λ (i : IntakeOf). IsCompleteBy i.page i.decoder.held) (sym feeds.intake)
+      (takes_rest old.references old.intake feeds.taken feeds.text decoding feeds.takes).0;
+}
+
+writes_on-trans : (a b c : Recorded) → WritesOn a b → WritesOn b c → WritesOn a c
+writes_on-trans a b c first second = record {
+  taken = second.taken ∙ first.taken;
+  bytes = record {
+    rest = first.bytes.rest ++ second.bytes.rest;
+    parts = second.bytes.parts ∙ ap (λ l. l ++ second.bytes.rest) first.bytes.parts ∙ append_assoc a.bytes first.bytes.rest second.bytes.rest;
+  };
+}
+
+-- a pause
+pub end_decoded_says-answer : {Z : Type 0} (old new : RecordSessionOf) (answer : TokenizerResult PausedAt (String Z)) → ¬ (answer ≡ Done) → is_over old ≡ false
+    → FeedsPiece recorded_means old new TheEnd (reply_in string_bytes answer) → EndDecodedSays old new (fed_status (reply_in string_bytes answer))
+end_decoded_says-answer old new Done pause going feeds = absurd (pause refl)
+end_decoded_says-answer old new (Script paused.Script) pause going feeds = record {
+  done = λ e. absurd (omega (arith, e));
+  script = λ _. feeds;
+  encoding = λ e. absurd (omega (arith, e));
+  tag = λ e. absurd (omega (arith, e));
+  no_memory = λ e. absurd (omega (arith, e));
+  over = (λ e. absurd (omega (arith, e)), λ was. absurd (over_is (is_over old) going was));
+  unchanged = λ e. absurd (omega (arith, e));
+  records = on_feed old new TheEnd _ going feeds;
+  only = inr (inl refl);
+}
+end_decoded_says-answer old new (Script paused.Tag) pause going feeds = record {
+  done = λ e. absurd (omega (arith, e));
+  script = λ e. absurd (omega (arith, e));
+  encoding = λ e. absurd (omega (arith, e));
+  tag = λ _. feeds;
+  no_memory = λ e. absurd (omega (arith, e));
+  over = (λ e. absurd (omega (arith, e)), λ was. absurd (over_is (is_over old) going was));
+  unchanged = λ e. absurd (omega (arith, e));
+  records = on_feed old new TheEnd _ going feeds;
+  only = inr (inr (inr (inr (inr refl))));
+}
+end_decoded_says-answer old new (EncodingIndicator text) pause going feeds = record {
+  done = λ e. absurd (omega (arith, e));
+  script = λ e. absurd (omega (arith, e));
+  encoding = λ _. (string_bytes text, feeds);
+  tag = λ e. absurd (omega (arith, e));
+  no_memory = λ e. absurd (omega (arith, e));
+  over = (λ e. absurd (omega (arith, e)), λ was. absurd (over_is (is_over old) going was));
+  unchanged = λ e. absurd (omega (arith, e));
+  records = on_feed old new TheEnd _ going feeds;
+  only = inr (inr (inl refl));
+}
+
+end_decoded_says-memory : (old new : RecordSessionOf) → is_over old ≡ false → WritesOn (recorded_by old) (recorded_by new)
+    → FeedRefused recorded_means old new TheEnd Memory ⊎ ((read : RecordSessionOf) × ReadsRest old read × LosesEnd recorded_means read new)
+    → EndDecodedSays old new 3
+end_decoded_says-memory old new going records lost = record {
+  done = λ e. absurd (omega (arith, e));
+  script = λ e. absurd (omega (arith, e));
+  encoding = λ e. absurd (omega (arith, e));
+  tag = λ e. absurd (omega (arith, e));
+  no_memory = λ _. lost;
+  over = (λ e. absurd (omega (arith, e)), λ was. absurd (over_is (is_over old) going was));
+  unchanged = λ e. absurd (omega (arith, e));
+  records = records;
+  only = inr (inr (inr (inl refl)));
+}
+
+pub end_decoded_says-error : (old new : RecordSessionOf) (error : SessionError) → is_decoding old.intake ≡ true
+    → FeedRefused recorded_means old new TheEnd error → ((error ≡ Over) ↔ (is_over old ≡ true)) → EndDecodedSays old new (error_status error)
+end_decoded_says-error old new Memory decoding refused over =
+    let going = refused_going Memory Over (is_over old) over memory_no_over in
+    end_decoded_says-memory old new going (on_refused old new TheEnd Memory going refused) (inl refused)
+end_decoded_says-error old new (NotUtf8 place) decoding refused over =
+    absurd (false≢true (sym (takes_rest old.references old.intake refused.taken refused.text decoding refused.takes).1 ∙ refused.fault))
+end_decoded_says-error old new Cut decoding refused over = absurd refused
+end_decoded_says-error old new Waiting decoding refused over = absurd refused
+end_decoded_says-error old new ItemOpen decoding refused over = absurd refused
+end_decoded_says-error old new Over decoding refused over = record {
+  done = λ e. absurd (omega (arith, e));
+  script = λ e. absurd (omega (arith, e));
+  encoding = λ e. absurd (omega (arith, e));
+  tag = λ e. absurd (omega (arith, e));
+  no_memory = λ e. absurd (omega (arith, e));
+  over = (λ _. refused.over, λ _. refl);
+  unchanged = λ _. refused.unchanged;
+  records = subst (λ (s : RecordSessionOf). WritesOn (recorded_by old) (recorded_by s)) (sym refused.unchanged) (writes_on-none (recorded_by old));
+  only = inr (inr (inr (inr (inl refl))));
+}
+
+-- the end after the rest
+pub end_decoded_says-end : (old read new : RecordSessionOf) (status : ℕ) → is_decoding old.intake ≡ true → is_over old ≡ false → ReadsRest old read
+    → EndSays read new status → EndDecodedSays old new status
+end_decoded_says-end old read new status decoding going feeds says = ended says.only where
+  rest_records : WritesOn (recorded_by old) (recorded_by new)
+  rest_records = writes_on-trans (recorded_by old) (recorded_by read) (recorded_by new) (on_feed old read TheEnd KeepOn going feeds) says.records
+
+  ended : (status ≡ 0) ⊎ (status ≡ 3) ⊎ (status ≡ 4) ⊎ (status ≡ 5) ⊎ (status ≡ 6) ⊎ (status ≡ 7) → EndDecodedSays old new status
+  ended (inl is) = subst (EndDecodedSays old new) (sym is) (record {
+    done = λ _. (read, feeds, says.done is);
+    script = λ e. absurd (omega (arith, e));
+    encoding = λ e. absurd (omega (arith, e));
+    tag = λ e. absurd (omega (arith, e));
+    no_memory = λ e. absurd (omega (arith, e));
+    over = (λ e. absurd (omega (arith, e)), λ was. absurd (over_is (is_over old) going was));
+    unchanged = λ e. absurd (omega (arith, e));
+    records = rest_records;
+    only = inl refl;
+  })
+  ended (inr (inl is)) = subst (EndDecodedSays old new) (sym is) (end_decoded_says-memory old new going rest_records (inr (read, feeds, says.no_memory is)))
+  ended (inr (inr (inl is))) = absurd (over_is read.intake.fault (all_read old read decoding feeds).no_fault (says.not_utf8.0 is).2)
+  ended (inr (inr (inr (inl is)))) = absurd ((says.cut.0 is).3 (all_read old read decoding feeds).whole)
+  ended (inr (inr (inr (inr (inl is))))) = absurd ((says.waiting.0 is).1 (all_read old read decoding feeds).read)
+  ended (inr (inr (inr (inr (inr is))))) = absurd (over_is (is_over read) feeds.going_on (says.over.0 is))
+
+-- where that stopped
+pub decoded_stops : {Z : Type 0} (result : Result (TokenizerResult PausedAt (String Z)) SessionError) (old new : RecordSessionOf) (status : ℕ)
+    → is_decoding old.intake ≡ true → IfOk result (λ answer. status ≡ fed_status (reply_in string_bytes answer)) → IfErr result (λ error. status ≡ error_status error)
+    → ((result ≡ Err Over) ↔ (is_over old ≡ true)) → IfOk result (λ answer. FeedsPiece recorded_means old new TheEnd (reply_in string_bytes answer))
+    → IfErr result (λ error. FeedRefused recorded_means old new TheEnd error) → ¬ (status ≡ 0) → EndDecodedSays old new status
+decoded_stops (Ok answer) old new status decoding ok err over feeds refused other =
+    subst (EndDecodedSays old new) (sym ok)
+    (end_decoded_says-answer old new answer (λ done. other (ok ∙ ap (λ a. fed_status (reply_in string_bytes a)) done))
+    (answered_going (Ok answer) answer Over (is_over old) refl over) feeds)
+decoded_stops (Err error) old new status decoding ok err over feeds refused other =
+    subst (EndDecodedSays old new) (sym err)
+    (end_decoded_says-error old new error decoding refused (refused_over (Err error) error Over (is_over old) refl over))
+
+no_status : (error : SessionError) → error_status error ≡ 0 → ⊥
+no_status Memory is = omega (arith, is)
+no_status (NotUtf8 place) is = omega (arith, is)
+no_status Cut is = omega (arith, is)
+no_status Waiting is = omega (arith, is)
+no_status ItemOpen is = omega (arith, is)
+no_status Over is = omega (arith, is)
+
+-- where it did not
+pub decoded_ends : {Z : Type 0} (result : Result (TokenizerResult PausedAt (String Z)) SessionError) (old read new : RecordSessionOf) (status ended : ℕ)
+    → is_decoding old.intake ≡ true → IfOk result (λ answer. status ≡ fed_status (reply_in string_bytes answer)) → IfErr result (λ error. status ≡ error_status error)
+    → ((result ≡ Err Over) ↔ (is_over old ≡ true)) → IfOk result (λ answer. FeedsPiece recorded_means old read TheEnd (reply_in string_bytes answer))
+    → status ≡ 0 → EndSays read new ended → EndDecodedSays old new ended
+decoded_ends (Ok Done) old read new status ended decoding ok err over feeds done says =
+    end_decoded_says-end old read new ended decoding (answered_going (Ok Done) Done Over (is_over old) refl over) feeds says
+decoded_ends (Ok (Script paused.Script)) old read new status ended decoding ok err over feeds done says = absurd (omega (arith, ok, done))
+decoded_ends (Ok (Script paused.Tag)) old read new status ended decoding ok err over feeds done says = absurd (omega (arith, ok, done))
+decoded_ends (Ok (EncodingIndicator text)) old read new status ended decoding ok err over feeds done says = absurd (omega (arith, ok, done))
+decoded_ends (Err error) old read new status ended decoding ok err over feeds done says = absurd (no_status error (sym err ∙ done))
 
 -- the status of `html5_new`
 

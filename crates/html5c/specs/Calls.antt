@@ -17,7 +17,8 @@ use Rattle.html5ever_interface.specs.Token.{Reply}
 use Rattle.html5ever_interface.specs.Token.Reply.{KeepOn, RunScript, SwitchEncoding}
 use Rattle.html5records.specs.declared.record_sink.PausedAt.{PausedAt}
 use Rattle.html5records.specs.declared.record_sink.PausedAt.TheVariants as paused
-use Rattle.html5session.specs.Intake.{gains_front, has_room, nothing_taken}
+use Rattle.html5session.specs.Intake.{IsComplete, gains_front, has_room, is_decoding, nothing_taken}
+use Rattle.html5session.specs.Intake.Piece.{Bytes, TheEnd}
 use Rattle.html5session.specs.RecordSessions.{RecordSessionOf, SetsForeign, StandsOn, after_session_takes, recorded_by}
 use Rattle.html5session.specs.Session.{tokenizer_of, is_over, nothing_open_in, EndSaysFault, FeedRefused, SetsState, FeedsPiece, SaysFault, EndsSession, LosesEnd}
 use Rattle.html5session.specs.declared.error.SessionError.{SessionError}
@@ -97,12 +98,12 @@ abbrev pub fits_in : RecordSessionOf → ℕ → Bool
 fits_in s more = has_room s.intake (length (waiting (recorded_by s))) more
 
 pub record FeedSays (old new : RecordSessionOf) (bytes : List ℕ) (status : ℕ) : Type 0 where
-  pub done : status ≡ 0 → FeedsPiece recorded_means old new bytes KeepOn
-  pub script : status ≡ 1 → FeedsPiece recorded_means old new bytes (RunScript paused.Script)
-  pub encoding : status ≡ 2 → (text : List ℕ) × FeedsPiece recorded_means old new bytes (SwitchEncoding text)
-  pub tag : status ≡ 12 → FeedsPiece recorded_means old new bytes (RunScript paused.Tag)
-  pub no_memory : status ≡ 3 → FeedRefused recorded_means old new bytes Memory
-  pub not_utf8 : status ≡ 4 → (place : ℕ) × SaysFault recorded_means old new bytes place
+  pub done : status ≡ 0 → FeedsPiece recorded_means old new (Bytes bytes) KeepOn
+  pub script : status ≡ 1 → FeedsPiece recorded_means old new (Bytes bytes) (RunScript paused.Script)
+  pub encoding : status ≡ 2 → (text : List ℕ) × FeedsPiece recorded_means old new (Bytes bytes) (SwitchEncoding text)
+  pub tag : status ≡ 12 → FeedsPiece recorded_means old new (Bytes bytes) (RunScript paused.Tag)
+  pub no_memory : status ≡ 3 → FeedRefused recorded_means old new (Bytes bytes) Memory
+  pub not_utf8 : status ≡ 4 → (place : ℕ) × SaysFault recorded_means old new (Bytes bytes) place
   pub limit : (status ≡ 14) ↔ ((is_over old ≡ false) × (fits_in old (length bytes) ≡ false))
   pub over : (status ≡ 7) ↔ (is_over old ≡ true)
   -- at those two nothing changes
@@ -126,12 +127,31 @@ pub record EndSays (old new : RecordSessionOf) (status : ℕ) : Type 0 where
   -- a fault that was still to be said
   pub not_utf8 : (status ≡ 4) ↔ ((is_over old ≡ false) × (old.intake.text ≡ []) × (old.intake.fault ≡ true))
   pub place : status ≡ 4 → (place : ℕ) × EndSaysFault old new place
-  pub cut : (status ≡ 5) ↔ ((is_over old ≡ false) × (old.intake.text ≡ []) × (old.intake.fault ≡ false) × (old.intake.decoder.held ≢ []))
+  pub cut : (status ≡ 5) ↔ ((is_over old ≡ false) × (old.intake.text ≡ []) × (old.intake.fault ≡ false) × ¬ (IsComplete old.intake))
   pub over : (status ≡ 7) ↔ (is_over old ≡ true)
   -- at those three nothing changes
   pub unchanged : (status ≡ 5) ⊎ (status ≡ 6) ⊎ (status ≡ 7) → new ≡ old
   pub records : WritesOn (recorded_by old) (recorded_by new)
   pub only : (status ≡ 0) ⊎ (status ≡ 3) ⊎ (status ≡ 4) ⊎ (status ≡ 5) ⊎ (status ≡ 6) ⊎ (status ≡ 7)
+
+-- the same of a page that is decoded: the rest of its text is read first, up to a pause
+pub record EndDecodedSays (old new : RecordSessionOf) (status : ℕ) : Type 0 where
+  pub done : status ≡ 0 → (read : RecordSessionOf) × FeedsPiece recorded_means old read TheEnd KeepOn × EndsSession recorded_means read new
+  pub script : status ≡ 1 → FeedsPiece recorded_means old new TheEnd (RunScript paused.Script)
+  pub encoding : status ≡ 2 → (text : List ℕ) × FeedsPiece recorded_means old new TheEnd (SwitchEncoding text)
+  pub tag : status ≡ 12 → FeedsPiece recorded_means old new TheEnd (RunScript paused.Tag)
+  -- the rest was refused, or the end after it
+  pub no_memory : status ≡ 3 → FeedRefused recorded_means old new TheEnd Memory
+      ⊎ ((read : RecordSessionOf) × FeedsPiece recorded_means old read TheEnd KeepOn × LosesEnd recorded_means read new)
+  pub over : (status ≡ 7) ↔ (is_over old ≡ true)
+  pub unchanged : status ≡ 7 → new ≡ old
+  pub records : WritesOn (recorded_by old) (recorded_by new)
+  pub only : (status ≡ 0) ⊎ (status ≡ 1) ⊎ (status ≡ 2) ⊎ (status ≡ 3) ⊎ (status ≡ 7) ⊎ (status ≡ 12)
+
+-- by whether it is decoded
+abbrev pub EndSaysBy : Bool → RecordSessionOf → RecordSessionOf → ℕ → Type 0
+EndSaysBy false old new status = EndSays old new status
+EndSaysBy true old new status = EndDecodedSays old new status
 
 -- a reply of the caller: what follows is read in the state that the number names
 pub record ReplySays (old new : RecordSessionOf) (number status : ℕ) : Type 0 where
@@ -164,7 +184,7 @@ abbrev pub Inserts : Option RecordSessionOf → Option RecordSessionOf → List 
 Inserts old new text status = WhereOpen (λ s t. InsertSays s t text status) (status ≡ 8) old new
 
 abbrev pub Ends : Option RecordSessionOf → Option RecordSessionOf → ℕ → Type 0
-Ends old new status = WhereOpen (λ s t. EndSays s t status) (status ≡ 8) old new
+Ends old new status = WhereOpen (λ s t. EndSaysBy (is_decoding s.intake) s t status) (status ≡ 8) old new
 
 abbrev pub RepliesTo : Option RecordSessionOf → Option RecordSessionOf → ℕ → ℕ → Type 0
 RepliesTo old new number status = WhereOpen (λ s t. ReplySays s t number status) (status ≡ 8) old new

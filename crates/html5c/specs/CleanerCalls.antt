@@ -7,7 +7,8 @@ use Rattle.html5c.specs.Slots.{WhereOpen, cleaner_of, place_in}
 use Rattle.html5c.specs.declared.cleaner_opening.PolicyFault.{PolicyFault}
 use Rattle.html5c.specs.declared.cleaner_opening.PolicyFault.TheVariants as fault
 use Rattle.html5c.specs.declared.slot.PageSlot.{PageSlot}
-use Rattle.html5cleaning.specs.Cleaning.{CleaningOf, EndsPage, FeedRefused, FeedsPiece, LosesEnd, SaysFault, StartsPage, StaysFed, after_session_takes, buffer_of, fits_in, waiting_in}
+use Rattle.html5cleaning.specs.Cleaning.{CleaningOf, EndRefused, EndsPage, FeedRefused, FeedsPiece, SaysFault, StartsPage, StaysFed, after_session_takes, buffer_of, fits_in, waiting_in}
+use Rattle.html5session.specs.Intake.{EndsWithin, page_again}
 use Rattle.html5session.specs.Session.{is_over}
 use Rattle.html5session.specs.declared.error.SessionError.TheVariants.{Memory}
 use Rattle.html5entities.specs.Standard.{standard_list}
@@ -29,7 +30,7 @@ PolicyGiven (b ∷ bytes) policy = policy_said (b ∷ bytes) ≡ Ok policy
 pub record StartsCleaner (s : CleaningOf) (rules : List ℕ) : Type 0 where
   pub policy : PolicyOf
   pub given : PolicyGiven rules policy
-  pub starts : StartsPage policy (table_of (entries_in standard_list)) (2 ^ 64 - 1) s
+  pub starts : StartsPage policy (table_of (entries_in standard_list)) (2 ^ 64 - 1) None s
   pub utf8 : IsUtf8 rules
 
 abbrev pub IsCleanerStart : Option CleaningOf → List ℕ → Type 0
@@ -70,10 +71,10 @@ pub record NewCleanerSays (now : Option PageSlot) (rules : List ℕ) (place stat
 
 -- ---- what a status of each call says of a handle that has a page
 
--- another page is at its start, by the same policy, table and limit
+-- another page is at its start, by the same policy, table and limit, and decoded as this one
 pub record RestartSays (old new : CleaningOf) (status : ℕ) : Type 0 where
   pub done : status ≡ 0
-  pub starts : StartsPage (buffer_of old).policy old.references old.intake.limit new
+  pub starts : StartsPage (buffer_of old).policy old.references old.intake.limit (page_again old.intake) new
 
 pub record CleanerFeedSays (old new : CleaningOf) (bytes : List ℕ) (status : ℕ) : Type 0 where
   pub done : status ≡ 0 → FeedsPiece old new bytes
@@ -87,8 +88,8 @@ pub record CleanerFeedSays (old new : CleaningOf) (bytes : List ℕ) (status : �
 
 pub record CleanerEndSays (old new : CleaningOf) (status : ℕ) : Type 0 where
   pub done : status ≡ 0 → EndsPage old new
-  pub no_memory : status ≡ 3 → LosesEnd old new
-  pub cut : (status ≡ 5) ↔ ((is_over old ≡ false) × (old.intake.decoder.held ≢ []))
+  pub no_memory : status ≡ 3 → EndRefused old new Memory
+  pub cut : (status ≡ 5) ↔ ((is_over old ≡ false) × EndsWithin old.intake)
   pub over : (status ≡ 7) ↔ (is_over old ≡ true)
   -- at those two nothing changes
   pub unchanged : (status ≡ 5) ⊎ (status ≡ 7) → new ≡ old

@@ -3,3 +3,4 @@ pub mod Said
 pub mod Slots
 pub mod Calls
 pub mod CleanerCalls
+pub mod Encodings

@@ -1,6 +1,7 @@
 //! The calls of the tokenizer.
 ghost use Rattle.std.specs.Prelude.{◌≡◌, None, option_map};
 ghost use Rattle.html5c.specs.Calls.{NewSays, Feeds, Inserts, RepliesTo, TellsForeign, Ends, Takes, error_place, over_in};
+ghost use Rattle.html5c.specs.Encodings.{NamesEncoding, SetsEncoding, encoding_in};
 ghost use Rattle.html5c.specs.Slots.{cleaner_of, limited, session_of, status_where_open};
 
 use crate::handle::Handle;
@@ -107,7 +108,43 @@ pub extern "C" fn html5_set_limit(alloc: Global, h: &mut Handle, limit: u64) -> 
     status
 }
 
-/// Ends the page.
+/// Reads the page in the encoding that it is in, from the first byte on, where the encoding that a label names is said of it,
+/// as by a header of the transport; a label of no bytes says nothing. It is determined as by a browser: by a byte order mark;
+/// else by what is said; else by a `<meta charset=..>` in the first bytes; else UTF-8 where these are UTF-8, or
+/// windows-1252. Then no bytes are `NOT_UTF8`: those that are none of the encoding give U+FFFD. After bytes were fed it
+/// answers `BEGUN`, and where no encoding has the label `BAD_OPTION`.
+#[unsafe(no_mangle)]
+pub extern "C" fn html5_set_encoding(alloc: Global, h: &mut Handle, label: &[u8]) -> u32
+    ensures session { SetsEncoding (session_of h.old.owned.value) (session_of h.new.owned.value) label.now result }
+    ensures cleaner { SetsEncoding (cleaner_of h.old.owned.value) (cleaner_of h.new.owned.value) label.now result }
+    ensures closed { session_of h.old.owned.value ≡ None → cleaner_of h.old.owned.value ≡ None → result ≡ 8 }
+{
+    let Some(mut slot) = h.take(alloc) else {
+        return status::CLOSED;
+    };
+    let status = slot.set_encoding(alloc, label);
+    h.put(slot);
+    status
+}
+
+/// The name of the encoding in which a page is read by `html5_set_encoding`, once it is known: the first bytes of the page tell,
+/// or its end. It copies as much of the name as there is room for, and answers how many bytes that is: 0 where it isn't
+/// known.
+#[unsafe(no_mangle)]
+pub extern "C" fn html5_encoding(alloc: Global, h: &mut Handle, out: &mut [u8]) -> usize
+    ensures name { NamesEncoding (encoding_in h.old.owned.value) out.old out.new result }
+    ensures kept { h.new.owned.value ≡ h.old.owned.value }
+{
+    let Some(slot) = h.take(alloc) else {
+        return 0;
+    };
+    let count = slot.name_encoding(out);
+    h.put(slot);
+    count
+}
+
+/// Ends the page. Where its bytes are decoded (`html5_set_encoding`), the rest of its text is read first, up to a pause. Then
+/// that is answered as by a feed, and the page has not ended: the next feed goes on, and then it is ended again.
 #[unsafe(no_mangle)]
 pub extern "C" fn html5_end(alloc: Global, h: &mut Handle) -> u32
     ensures ends { Ends (session_of h.old.owned.value) (session_of h.new.owned.value) result }

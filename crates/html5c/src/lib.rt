@@ -6,6 +6,8 @@ mod calls;
 mod cleaner_calls;
 mod cleaner_opening;
 mod cleaner_slot;
+mod encoding;
+mod ending;
 mod handle;
 mod opening;
 mod options;
@@ -14,8 +16,8 @@ pub mod status;
 mod version;
 
 pub use calls::{
-    html5_end, html5_error_at, html5_feed, html5_free, html5_insert, html5_is_over, html5_new,
-    html5_reply, html5_set_foreign, html5_set_limit, html5_take,
+    html5_encoding, html5_end, html5_error_at, html5_feed, html5_free, html5_insert, html5_is_over,
+    html5_new, html5_reply, html5_set_encoding, html5_set_foreign, html5_set_limit, html5_take,
 };
 pub use cleaner_calls::{
     html5_cleaner_end, html5_cleaner_error_at, html5_cleaner_feed, html5_cleaner_is_over,

@@ -5,6 +5,7 @@ ghost use Rattle.html5c.specs.Slots.{cleaner_in, is_past, limited, session_in, s
 ghost use Rattle.html5session.specs.Session.{is_over};
 ghost use Rattle.html5feed.specs.Feed.{reply_in};
 
+use crate::ending::end_session;
 use crate::options::state_of;
 use crate::status;
 use html5cleaning::CleaningSession;
@@ -26,7 +27,7 @@ pub enum PageSlot {
 }
 
 // The status of a feed that was not refused.
-fn status_of_answer(answer: &TokenizerResult<PausedAt, String<Global>>) -> u32
+pub(crate) fn status_of_answer(answer: &TokenizerResult<PausedAt, String<Global>>) -> u32
     ensures { result ≡ fed_status (reply_in string_bytes answer.now) }
 {
     match answer {
@@ -175,12 +176,9 @@ impl PageSlot {
         let Some(session) = self.take_session() else {
             return status::CLOSED;
         };
-        let (session, result) = session.end();
+        let (session, status) = end_session(session);
         *self = PageSlot::Tokenizer(session);
-        match result {
-            Ok(()) => status::DONE,
-            Err(error) => status_of_error(error),
-        }
+        status
     }
 
     /// Takes the next bytes of the records.

@@ -44,3 +44,6 @@ pub const ITEM_OPEN: u32 = 13;
 
 /// More bytes would be held than the limit: the piece was not taken.
 pub const LIMIT: u32 = 14;
+
+/// Bytes were fed already, so it can't be set in which encoding they are.
+pub const BEGUN: u32 = 15;

@@ -1,7 +1,7 @@
 -- A sink of which no reply pauses: a feed reads all that waits.
-use Rattle.std.proofs.Common.{◌≡◌, ℕ, Bool, false, List, [], ◌∷◌, ◌++◌, refl, ap}
+use Rattle.std.proofs.Common.{◌≡◌, ℕ, false, List, [], ◌∷◌, ◌++◌, refl, ap}
 use Rattle.html5ever_interface.specs.Sink.{Means, Message}
-use Rattle.html5ever_interface.specs.Token.{Told, Reply}
+use Rattle.html5ever_interface.specs.Token.{Told}
 use Rattle.html5ever_interface.specs.Token.Reply.{KeepOn}
 use Rattle.html5feed.specs.Feed.{Feed, feed, first_pause, pauses, told_beyond, up_to_pause}
 use Rattle.html5reading.specs.Reading.{state_after}

@@ -1,5 +1,5 @@
 -- What a session is that cleans a page as its bytes arrive, and what each call makes of it.
-use Rattle.std.specs.Prelude.{◌≡◌, ◌⊎◌, ℕ, Bool, true, false, List, [], ◌++◌, length}
+use Rattle.std.specs.Prelude.{◌≡◌, ◌⊎◌, ℕ, Bool, true, false, List, [], ◌++◌, length, Option}
 use Rattle.std.specs.Str.{IsUtf8, chars}
 use Rattle.markup5ever.specs.NamedReferences.{NamedReference}
 use Rattle.outbox.specs.Outgoing.{waiting}
@@ -10,7 +10,9 @@ use Rattle.html5reading.specs.Start.{start_of}
 use Rattle.html5sinks.specs.Runs.{RunSink, Running, joined_of}
 use Rattle.html5ever.specs.Tokenizer.{StandsAt, rules_of}
 use Rattle.html5stream.specs.Pages.{runs_means, runs_start}
-use Rattle.html5session.specs.Intake.{IntakeOf, has_room, nothing_taken}
+use Rattle.html5session.specs.Intake.{IntakeOf, IsTextSoFar, has_room, is_decoding, nothing_taken, whole_text}
+use Rattle.html5session.specs.Intake.Piece.{Bytes}
+use Rattle.html5sniffing.specs.PageDecoding.{PageDecoding}
 use Rattle.html5session.specs.Session as session
 use Rattle.html5session.specs.Session.{AllRead, IsCutShort, SessionOf, StaysOver, is_over, tokenizer_of}
 use Rattle.html5session.specs.declared.error.SessionError.{SessionError}
@@ -56,19 +58,20 @@ buffer_means = runs_means cleaning_run buffered_step
 -- ---- what was fed, and what was kept of it
 
 -- exactly these bytes were fed, by this policy and this table: a text, whose reading the cleaner was sent as far as it is decided,
--- and after it what may begin a character
+-- and after it what may begin a character; where the page is decoded, this text is what is decided of it by these bytes
 pub record Fed (policy : PolicyOf) (references : List NamedReference) (s : CleaningOf) (bytes : List ℕ) : Type 0 where
   pub text : List ℕ
-  pub parts : bytes ≡ text ++ s.intake.decoder.held
+  pub parts : IsTextSoFar references s.intake bytes text
   pub utf8 : IsUtf8 text
   pub stands : StandsAt buffer_means (tokenizer_of s) (start_of default_options)
       (runs_start (buffer_start policy (buffer_of s).out.taken)) (chars text)
   pub rules : (tokenizer_of s).rules ≡ rules_of default_options references
 
--- the page had these bytes. What was kept of it, the bytes that were taken and those that wait, is all that the policy keeps.
+-- the page had these bytes. What was kept of it, the bytes that were taken and those that wait, is all that the policy keeps of its
+-- text.
 pub record Ended (policy : PolicyOf) (references : List NamedReference) (s : CleaningOf) (bytes : List ℕ) : Type 0 where
-  pub utf8 : IsUtf8 bytes
-  pub page : (buffer_of s).out.bytes ≡ page_bytes (kept_of_page policy references bytes)
+  pub utf8 : IsUtf8 (whole_text references s.intake bytes)
+  pub page : (buffer_of s).out.bytes ≡ page_bytes (kept_of_page policy references (whole_text references s.intake bytes))
 
 -- what was fed before a take was fed
 abbrev pub StaysFed : CleaningOf → CleaningOf → Type 0
@@ -99,12 +102,17 @@ FedFront old new bytes =
 
 -- ---- what the calls do
 
--- a page at its start, with nothing that was fed, kept or refused, which may hold so many bytes
-pub record StartsPage (policy : PolicyOf) (references : List NamedReference) (limit : ℕ) (s : CleaningOf) : Type 0 where
+-- where nothing was fed, nothing was fed to the session that decodes
+abbrev pub DecodesFrom : CleaningOf → CleaningOf → Type 0
+DecodesFrom old new = (policy : PolicyOf) (references : List NamedReference) → Fed policy references old [] → Fed policy references new []
+
+-- a page at its start, with nothing that was fed, kept or refused, which may hold so many bytes, and whose bytes this decoder takes, if
+-- there is one
+pub record StartsPage (policy : PolicyOf) (references : List NamedReference) (limit : ℕ) (page : Option PageDecoding) (s : CleaningOf) : Type 0 where
   pub fed : Fed policy references s []
   pub buffer : buffer_of s ≡ buffer_start policy 0
   pub table : s.references ≡ references
-  pub intake : s.intake ≡ record nothing_taken { limit = limit }
+  pub intake : s.intake ≡ record nothing_taken { limit = limit; page = page }
   pub going_on : is_over s ≡ false
 
 -- between two calls nothing waits to be read, and no fault is still to be said: no reply of the cleaner pauses
@@ -122,12 +130,12 @@ pub record FeedsPiece (old new : CleaningOf) (bytes : List ℕ) : Type 0 where
 -- a piece was fed up to bytes in it that are no UTF-8. What waited waits on, and what is kept of what stands before them comes after it.
 pub record SaysFault (old new : CleaningOf) (bytes : List ℕ) (place : ℕ) : Type 0 where
   pub fed : FedFront old new bytes
-  pub says : session.SaysFault buffer_means old new bytes place
+  pub says : session.SaysFault buffer_means old new (Bytes bytes) place
   pub waits : WaitsOn (buffer_of old) (buffer_of new)
 
 -- a piece was lost to want of memory. What waited waits on, and maybe a beginning of what is kept of the piece comes after it.
 pub record LosesPiece (old new : CleaningOf) (bytes : List ℕ) : Type 0 where
-  pub loses : session.LosesPiece buffer_means old new bytes
+  pub loses : session.LosesPiece buffer_means old new (Bytes bytes)
   pub waits : WaitsOn (buffer_of old) (buffer_of new)
 
 -- when each error of a feed comes, and what it leaves
@@ -139,12 +147,14 @@ FeedRefused old new bytes Waiting = ⊥
 FeedRefused old new bytes ItemOpen = ⊥
 FeedRefused old new bytes Over = StaysOver old new
 
--- the page ended, where nothing was held of a character. What waited waits on, with the rest of what is kept after it.
+-- The page ended: where it is no page that is decoded, nothing was held of a character. What waited waits on, with the rest of what is
+-- kept after it.
 pub record EndsPage (old new : CleaningOf) : Type 0 where
   pub ended : EndsFed old new
   pub waits : WaitsOn (buffer_of old) (buffer_of new)
-  pub read : AllRead old.intake
-  pub kept : new ≡ record old { detached = new.detached }
+  pub read : is_decoding old.intake ≡ false → AllRead old.intake
+  pub kept : is_decoding old.intake ≡ false → new ≡ record old { detached = new.detached }
+  pub references : new.references ≡ old.references
   pub over : is_over new ≡ true
 
 -- the end was lost to want of memory. What waited waits on, and maybe a beginning of the rest comes after it.
@@ -152,11 +162,22 @@ pub record LosesEnd (old new : CleaningOf) : Type 0 where
   pub loses : session.LosesEnd buffer_means old new
   pub waits : WaitsOn (buffer_of old) (buffer_of new)
 
+-- the same of a page that is decoded
+pub record LosesRest (old new : CleaningOf) : Type 0 where
+  pub waits : WaitsOn (buffer_of old) (buffer_of new)
+  pub references : new.references ≡ old.references
+  pub over : is_over new ≡ true
+
+-- the end was refused for want of memory: it is lost or, of a page that is decoded, may have changed nothing
+abbrev pub EndWantsMemory : Bool → CleaningOf → CleaningOf → Type 0
+EndWantsMemory false old new = LosesEnd old new
+EndWantsMemory true old new = (new ≡ old) ⊎ LosesRest old new
+
 -- when each error of an end comes, and what it leaves
 abbrev pub EndRefused : CleaningOf → CleaningOf → SessionError → Type 0
-EndRefused old new Memory = LosesEnd old new
+EndRefused old new Memory = EndWantsMemory (is_decoding old.intake) old new
 EndRefused old new (NotUtf8 place) = ⊥
-EndRefused old new Cut = (new ≡ old) × IsCutShort old.intake
+EndRefused old new Cut = (new ≡ old) × IsCutShort old.intake × (is_decoding old.intake ≡ false)
 EndRefused old new Waiting = ⊥
 EndRefused old new ItemOpen = ⊥
 EndRefused old new Over = StaysOver old new

@@ -1,14 +1,18 @@
 //! A session whose tokens are cleaned.
-ghost use Rattle.std.specs.Prelude.{◌≡◌, ◌↔◌, ◌++◌, ◌-◌, ◌^◌, false, true, length, take, drop, min, Err, IsOk, OnOk, IfErr};
+ghost use Rattle.std.specs.Prelude.{◌≡◌, ◌↔◌, ◌++◌, ◌-◌, ◌^◌, false, true, length, take, drop, min, None, Some, Err, IsOk, IsTrue, OnOk, IfErr};
+ghost use Rattle.html5session.specs.Intake.{IsUnbegun, encoding_known, is_decoding, page_again};
 ghost use Rattle.html5session.specs.Session.{is_over};
+ghost use Rattle.html5sniffing.specs.PageDecoding.{page_start};
 ghost use Rattle.html5cleaning.specs.Cleaning.{after_session_takes, buffer_of, fits_in, waiting_in};
-ghost use Rattle.html5cleaning.specs.Cleaning.{EndRefused, EndsPage, FeedRefused, FeedsPiece, StartsPage, StaysFed};
+ghost use Rattle.html5cleaning.specs.Cleaning.{DecodesFrom, EndRefused, EndsPage, FeedRefused, FeedsPiece, StartsPage, StaysFed};
 
 use html5cleaner::CleanBuffer;
+use html5encodings::Encoding;
 use html5ever::tokenizer::{NamedReferences, TokenizerOpts};
 use html5policy::Policy;
 use html5session::{Session, SessionError};
 use html5sinks::text_runs::TextRuns;
+use html5sniffing::PageDecoder;
 use markup5ever::tokenizer_result::TokenizerResult;
 use std::alloc::{Allocator, Global};
 use std::marker::Model;
@@ -77,6 +81,20 @@ impl<A: Allocator> CleaningSession<A> {
         self.session.set_limit(limit);
     }
 
+    /// Whether no byte of the page was taken. Then it can be set how its bytes are decoded.
+    pub fn is_unbegun(&self) -> bool
+        ensures { IsTrue result ↔ IsUnbegun self.now.intake }
+    {
+        self.session.is_unbegun()
+    }
+
+    /// The encoding of a page that is decoded, once it is known.
+    pub fn encoding(&self) -> Option<Encoding>
+        ensures { result ≡ encoding_known self.now.intake }
+    {
+        self.session.encoding()
+    }
+
     // Takes the next bytes of what was kept.
     fn take_bytes(&mut self, into: &mut [u8]) -> usize
         ensures count { result ≡ min (length into.old) (length (waiting_in self.old)) }
@@ -101,7 +119,7 @@ impl<A: Allocator> CleaningSession<A> {
 impl<A: Allocator + Copy> CleaningSession<A> {
     /// A session at the start of a page, which is cleaned by this policy and reads named references by the table.
     pub fn new(alloc: A, references: NamedReferences<A>, policy: Policy<A>) -> CleaningSession<A>
-        ensures { StartsPage policy references (2 ^ 64 - 1) result }
+        ensures { StartsPage policy references (2 ^ 64 - 1) None result }
     {
         let sink = TextRuns::new(alloc, CleanBuffer::new(alloc, policy));
         CleaningSession {
@@ -110,15 +128,36 @@ impl<A: Allocator + Copy> CleaningSession<A> {
         }
     }
 
-    /// A session at the start of another page, by the same policy, table and limit. What was kept and not taken is gone.
+    // Takes the bytes of the page by this decoder, or as UTF-8.
+    fn set_page_decoder(&mut self, page: Option<PageDecoder<A>>)
+        requires { IsUnbegun self.old.intake }
+        ensures { self.new ≡ record self.old { intake = record self.old.intake { page = page } } }
+    {
+        self.session.set_page_decoder(page);
+    }
+
+    /// Decodes the page by the encoding that it is in, where this one is said of it, as by a header of the transport:
+    /// as a browser determines it. Then no bytes are refused, and those that are none of the encoding give U+FFFD.
+    pub fn decode_page(&mut self, said: Option<Encoding>)
+        requires { IsUnbegun self.old.intake }
+        ensures decodes { self.new ≡ record self.old { intake = record self.old.intake { page = Some (page_start said None) } } }
+        ensures fed { DecodesFrom self.old self.new }
+    {
+        self.set_page_decoder(Some(PageDecoder::new(self.alloc, said, None)));
+    }
+
+    /// A session at the start of another page, by the same policy, table and limit, whose bytes are decoded as those of
+    /// this one. What was kept and not taken is gone.
     pub fn restart(self) -> CleaningSession<A>
-        ensures { StartsPage (buffer_of self).policy self.references self.intake.limit result }
+        ensures { StartsPage (buffer_of self).policy self.references self.intake.limit (page_again self.intake) result }
     {
         let CleaningSession { alloc, session } = self;
         let limit = session.limit();
+        let page = session.page_decoder_again();
         let (references, sink) = session.into_parts();
         let mut next = CleaningSession::new(alloc, references, sink.into_inner().into_policy());
         next.set_limit(limit);
+        next.set_page_decoder(page);
         next
     }
 
@@ -139,9 +178,38 @@ impl<A: Allocator + Copy> CleaningSession<A> {
         (CleaningSession { alloc, session }, done(&answer))
     }
 
+    // Ends a page whose bytes are UTF-8.
+    fn end_utf8(self) -> (CleaningSession<A>, Result<(), SessionError>)
+        requires going_on { is_over self ≡ false }
+        requires utf8 { is_decoding self.intake ≡ false }
+        ensures ends { OnOk result.1 (EndsPage self result.0) }
+        ensures refused { IfErr result.1 (λ error. EndRefused self result.0 error) }
+    {
+        let CleaningSession { alloc, session } = self;
+        let (session, ended) = session.end();
+        (CleaningSession { alloc, session }, ended)
+    }
+
+    // Ends a page that is decoded: the rest of its text is read first.
+    fn end_decoded(self) -> (CleaningSession<A>, Result<(), SessionError>)
+        requires going_on { is_over self ≡ false }
+        requires decoding { is_decoding self.intake ≡ true }
+        ensures ends { OnOk result.1 (EndsPage self result.0) }
+        ensures refused { IfErr result.1 (λ error. EndRefused self result.0 error) }
+    {
+        let CleaningSession { alloc, session } = self;
+        let (session, answer) = session.end_bytes();
+        if let Err(error) = done(&answer) {
+            return (CleaningSession { alloc, session }, Err(error));
+        }
+        let (session, result) = session.end();
+        (CleaningSession { alloc, session }, result)
+    }
+
     /// Ends the page. The rest of what is kept of it can then be taken.
     ///
-    /// After `Cut` all is as it was: the rest of a character may be fed. After `Memory` the session is over.
+    /// After `Cut` all is as it was: the rest of a character may be fed. After `Memory` the session is over or, where a page
+    /// is decoded, as it was.
     pub fn end(self) -> (CleaningSession<A>, Result<(), SessionError>)
         ensures ends { OnOk result.1 (EndsPage self result.0) }
         ensures refused { IfErr result.1 (λ error. EndRefused self result.0 error) }
@@ -150,8 +218,10 @@ impl<A: Allocator + Copy> CleaningSession<A> {
         if self.session.is_over() {
             return (self, Err(SessionError::Over));
         }
-        let CleaningSession { alloc, session } = self;
-        let (session, ended) = session.end();
-        (CleaningSession { alloc, session }, ended)
+        if self.session.is_decoding() {
+            self.end_decoded()
+        } else {
+            self.end_utf8()
+        }
     }
 }

@@ -15,10 +15,12 @@ use Rattle.html5ever.specs.Detached.{DetachedOf, tokenizing}
 use Rattle.html5ever.specs.Tokenizer.{Tokenizing, StandsAt, Feeds, FeedsItems, StopsFeeding, Finishes, FinishesItems, StopsEnding}
 use Rattle.html5feed.specs.Feed.{reply_in}
 use Rattle.html5feed.specs.Starting.{in_state}
-use Rattle.html5session.specs.Intake.{Completes, Decoded, IntakeOf, PieceRefused, Takes, TakesPiece, fault_said}
+use Rattle.html5session.specs.Intake.{Completes, Decoded, IntakeOf, IsComplete, Piece, PieceRefused, Takes, TakesPiece, fault_said}
 use Rattle.html5session.specs.Intake.Decoded.{All, UpToFault}
-use Rattle.html5session.specs.Intake.Takes.{Whole, Front, Nothing}
-use Rattle.html5session.specs.Session.{AllRead, EndSaysFault, EndsSession, EndsText, FeedsPiece, FeedsText, FeedRefused, IsCutShort, LosesEnd, LosesPiece, SaysFault, SessionOf, SetsState, Settles, StopsPiece, StopsText, StopsTextEnd, intake_after, is_over, keeps_on, nothing_open_in, tokenizer_of, unsettled_after}
+use Rattle.html5session.specs.Intake.Piece.{Bytes, TheEnd}
+use Rattle.html5session.specs.Intake.TakesBytes.{Whole, Front, Nothing, InPage}
+use Rattle.html5session.specs.Intake.TakesRest.{NoRest, Rest}
+use Rattle.html5session.specs.Session.{AllRead, EndSaysFault, EndsSession, EndsText, FeedsPiece, FeedsText, FeedRefused, IsCutShort, LosesEnd, LosesPiece, SaysFault, SessionOf, SetsState, Settles, StopsText, StopsTextEnd, TookPiece, intake_after, is_over, keeps_on, nothing_open_in, tokenizer_of, unsettled_after}
 use Rattle.html5session.specs.declared.error.SessionError.{SessionError}
 use Rattle.html5session.specs.declared.error.SessionError.TheVariants.{Memory, NotUtf8}
 use Rattle.markup5ever.specs.NamedReferences.{NamedReference}
@@ -65,10 +67,20 @@ rests {X} r out references t u begins rules rested =
     subst (λ (n : List NamedReference). tokenizing out n ≡ u) (ap (λ (w : Rules). w.references) rules ∙ ap (λ (w : Tokenizing X). w.rules.references) begins) rested
 
 -- what is taken of a piece loses nothing
-takes_lost : (old new : IntakeOf) (bytes text : List ℕ) → Takes old new bytes text → new.lost ≡ old.lost
-takes_lost old new bytes text (Whole silent completes is) = ap (λ (i : IntakeOf). i.lost) is
-takes_lost old new bytes text (Front silent never ends is) = ap (λ (i : IntakeOf). i.lost) is
-takes_lost old new bytes text (Nothing fault none is) = ap (λ (i : IntakeOf). i.lost) is
+takes_lost : (references : List NamedReference) (old new : IntakeOf) (piece : Piece) (text : List ℕ) → Takes references old new piece text → new.lost ≡ old.lost
+takes_lost references old new (Bytes bytes) text (Whole utf8 silent completes is) = ap (λ (i : IntakeOf). i.lost) is
+takes_lost references old new (Bytes bytes) text (Front utf8 silent never ends is) = ap (λ (i : IntakeOf). i.lost) is
+takes_lost references old new (Bytes bytes) text (Nothing utf8 fault none is) = ap (λ (i : IntakeOf). i.lost) is
+takes_lost references old new (Bytes bytes) text (InPage before after was silent on utf8 is) = ap (λ (i : IntakeOf). i.lost) is
+takes_lost references old new TheEnd text (NoRest utf8 none is) = ap (λ (i : IntakeOf). i.lost) is
+takes_lost references old new TheEnd text (Rest before was silent is_rest utf8 is) = ap (λ (i : IntakeOf). i.lost) is
+
+-- so a session that took a piece can read it
+pub took_going : {X : Type 0} (old mid : SessionOf X) (piece : Piece) → TookPiece old mid piece → is_over mid ≡ false
+took_going {X} old mid piece took =
+    ap is_over took.kept
+    ∙ ap (λ (b : Bool). b || (old.detached.failed || old.detached.ended)) (takes_lost old.references old.intake mid.intake piece took.takes.text took.takes.takes)
+    ∙ took.going_on
 
 -- ---- results that are known
 
@@ -127,20 +139,20 @@ end_says {X} s t i place same read fault is said = record {
 }
 
 pub cut_short : {X : Type 0} (s t : SessionOf X) (i : IntakeOf) → s ≡ t → s.intake.text ≡ [] → s.intake.fault ≡ false → i ≡ s.intake
-    → i.decoder.held ≢ [] → (record s { intake = i } ≡ t) × IsCutShort t.intake
+    → ¬ (IsComplete i) → (record s { intake = i } ≡ t) × IsCutShort t.intake
 cut_short {X} s t i same read silent is held = (
   ap (λ (j : IntakeOf). record s { intake = j }) is ∙ same,
   record {
     read = subst (λ (w : SessionOf X). w.intake.text ≡ []) same read;
     no_fault = subst (λ (w : SessionOf X). w.intake.fault ≡ false) same silent;
-    held = λ none. held (ap (λ (j : IntakeOf). j.decoder.held) is ∙ ap (λ (w : SessionOf X). w.intake.decoder.held) same ∙ none);
+    held = λ whole. held (subst IsComplete (sym (is ∙ ap (λ (w : SessionOf X). w.intake) same)) whole);
   },
 )
 
 pub goes_same : {X : Type 0} (s t : SessionOf X) (i : IntakeOf) → s ≡ t → i ≡ s.intake → is_over t ≡ false → is_over (record s { intake = i }) ≡ false
 goes_same {X} s t i same is going = ap (λ (j : IntakeOf). is_over (record s { intake = j })) is ∙ ap is_over same ∙ going
 
-pub all_read : (s i : IntakeOf) → i ≡ s → s.text ≡ [] → s.fault ≡ false → i.decoder.held ≡ [] → AllRead i
+pub all_read : (s i : IntakeOf) → i ≡ s → s.text ≡ [] → s.fault ≡ false → IsComplete i → AllRead i
 all_read s i is read silent whole = record {
   read = ap (λ (j : IntakeOf). j.text) is ∙ read;
   no_fault = ap (λ (j : IntakeOf). j.fault) is ∙ silent;
@@ -198,11 +210,11 @@ module _ {X S H : Type 0} (means : Means X S H) where
   -- ---- a feed
 
   -- a piece that was taken, of which all that waits or a part of it was read
-  fed_piece : (old new : SessionOf X) (taken : IntakeOf) (bytes : List ℕ) (reply : Reply H) → is_over old ≡ false → TakesPiece old.intake taken bytes
+  fed_piece : (old new : SessionOf X) (taken : IntakeOf) (piece : Piece) (reply : Reply H) → is_over old ≡ false → TakesPiece old.references old.intake taken piece
       → FeedsText means (tokenizer_of old) (tokenizing new.detached old.references) taken.text new.intake.text reply
       → (reply ≡ KeepOn → taken.fault ≡ false) → new.intake ≡ intake_after (keeps_on reply) new taken new.intake.text
-      → new.references ≡ old.references → FeedsPiece means old new bytes reply
-  fed_piece old new taken bytes reply going takes feeds whole intake same = record {
+      → new.references ≡ old.references → FeedsPiece means old new piece reply
+  fed_piece old new taken piece reply going takes feeds whole intake same = record {
     text = takes.text;
     taken = taken;
     takes = takes.takes;
@@ -211,7 +223,7 @@ module _ {X S H : Type 0} (means : Means X S H) where
     intake = intake;
     kept = ap (λ (l : List NamedReference). record new { references = l }) same;
     going_on = over-none new.intake.lost new.detached.failed new.detached.ended
-        (ap (λ (i : IntakeOf). i.lost) intake ∙ takes_lost old.intake taken bytes takes.text takes.takes ∙ (goes_on old.intake.lost old.detached.failed old.detached.ended going).0)
+        (ap (λ (i : IntakeOf). i.lost) intake ∙ takes_lost old.references old.intake taken piece takes.text takes.takes ∙ (goes_on old.intake.lost old.detached.failed old.detached.ended going).0)
         feeds.not_failed feeds.going_on;
   }
 
@@ -225,61 +237,61 @@ module _ {X S H : Type 0} (means : Means X S H) where
       (subst (λ (w : Tokenizing X). FeedsText means w (tokenizer_of t) mid.intake.text left reply) (ap tokenizer_of kept) feeds)
 
   -- nothing was lost before
-  mid_lost : (old mid : SessionOf X) (bytes : List ℕ) → is_over old ≡ false → TakesPiece old.intake mid.intake bytes → mid.intake.lost ≡ false
-  mid_lost old mid bytes going takes =
-      takes_lost old.intake mid.intake bytes takes.text takes.takes ∙ (goes_on old.intake.lost old.detached.failed old.detached.ended going).0
+  mid_lost : (old mid : SessionOf X) (piece : Piece) → is_over old ≡ false → TakesPiece old.references old.intake mid.intake piece → mid.intake.lost ≡ false
+  mid_lost old mid piece going takes =
+      takes_lost old.references old.intake mid.intake piece takes.text takes.takes ∙ (goes_on old.intake.lost old.detached.failed old.detached.ended going).0
 
   -- up to a pause
-  pub pauses_piece : (old mid t : SessionOf X) (bytes : List ℕ) (reply : Reply H) → is_over old ≡ false → TakesPiece old.intake mid.intake bytes
+  pub pauses_piece : (old mid t : SessionOf X) (piece : Piece) (reply : Reply H) → is_over old ≡ false → TakesPiece old.references old.intake mid.intake piece
       → mid ≡ record old { intake = mid.intake } → t.references ≡ mid.references
       → t.intake ≡ record mid.intake { text = t.intake.text; lost = false }
       → reply ≢ KeepOn → FeedsText means (tokenizer_of mid) (tokenizer_of t) mid.intake.text t.intake.text reply
-      → FeedsPiece means old t bytes reply
-  pauses_piece old mid t bytes reply going takes kept same intake pause feeds =
-      fed_piece old t mid.intake bytes reply going takes (from_old old mid t t.intake.text reply kept same feeds)
+      → FeedsPiece means old t piece reply
+  pauses_piece old mid t piece reply going takes kept same intake pause feeds =
+      fed_piece old t mid.intake piece reply going takes (from_old old mid t t.intake.text reply kept same feeds)
       (λ keeps. absurd (pause keeps))
       (subst (λ (b : Bool). t.intake ≡ intake_after b t mid.intake t.intake.text) (sym (other_reply reply pause))
-      (intake ∙ ap (λ (b : Bool). record mid.intake { text = t.intake.text; lost = b }) (sym (mid_lost old mid bytes going takes))))
+      (intake ∙ ap (λ (b : Bool). record mid.intake { text = t.intake.text; lost = b }) (sym (mid_lost old mid piece going takes))))
       (same ∙ ap (λ (w : SessionOf X). w.references) kept)
 
   -- what a feed that read all that waited left, as the piece that was taken left it
-  settled : (old mid t u : SessionOf X) (bytes : List ℕ) → is_over old ≡ false → TakesPiece old.intake mid.intake bytes
+  settled : (old mid t u : SessionOf X) (piece : Piece) → is_over old ≡ false → TakesPiece old.references old.intake mid.intake piece
       → t.intake ≡ record mid.intake { text = t.intake.text; lost = false } → u.detached ≡ t.detached
       → record t.intake { unsettled = unsettled_after (nothing_open_in t) t.intake.unsettled } ≡ intake_after true u mid.intake t.intake.text
-  settled old mid t u bytes going takes intake d =
+  settled old mid t u piece going takes intake d =
       let now : List ℕ → Bool → Bool → ℕ → IntakeOf = λ l b o n. record mid.intake { text = l; lost = b; unsettled = unsettled_after o n } in
       let l = t.intake.text in
       ap (λ (i : IntakeOf). record i { unsettled = unsettled_after (nothing_open_in t) t.intake.unsettled }) intake
       ∙ ap (now l false (nothing_open_in t)) (ap (λ (i : IntakeOf). i.unsettled) intake)
-      ∙ ap (λ (b : Bool). now l b (nothing_open_in t) mid.intake.unsettled) (sym (mid_lost old mid bytes going takes))
+      ∙ ap (λ (b : Bool). now l b (nothing_open_in t) mid.intake.unsettled) (sym (mid_lost old mid piece going takes))
       ∙ ap (λ (w : DetachedOf X). now l mid.intake.lost (nothing_open w.position.opened) mid.intake.unsettled) (sym d)
 
   -- all that waited was read, and there was no fault
-  pub reads_piece : (old mid t u : SessionOf X) (bytes : List ℕ) → is_over old ≡ false → TakesPiece old.intake mid.intake bytes
+  pub reads_piece : (old mid t u : SessionOf X) (piece : Piece) → is_over old ≡ false → TakesPiece old.references old.intake mid.intake piece
       → mid ≡ record old { intake = mid.intake } → t.references ≡ mid.references
       → t.intake ≡ record mid.intake { text = t.intake.text; lost = false }
       → FeedsText means (tokenizer_of mid) (tokenizer_of t) mid.intake.text t.intake.text KeepOn
-      → Settles t u → t.intake.fault ≡ false → FeedsPiece means old u bytes KeepOn
-  reads_piece old mid t u bytes going takes kept same intake feeds settles silent =
+      → Settles t u → t.intake.fault ≡ false → FeedsPiece means old u piece KeepOn
+  reads_piece old mid t u piece going takes kept same intake feeds settles silent =
       let said = settles.silent silent in
       let text : u.intake.text ≡ t.intake.text = ap (λ (i : IntakeOf). i.text) said in
       let d : u.detached ≡ t.detached = ap (λ (w : SessionOf X). w.detached) settles.kept in
       let read : FeedsText means (tokenizer_of old) (tokenizing t.detached old.references) mid.intake.text t.intake.text KeepOn =
       from_old old mid t t.intake.text KeepOn kept same feeds in
-      fed_piece old u mid.intake bytes KeepOn going takes
+      fed_piece old u mid.intake piece KeepOn going takes
       (subst (λ (l : List ℕ). FeedsText means (tokenizer_of old) (tokenizing u.detached old.references) mid.intake.text l KeepOn) (sym text)
       (subst (λ (w : DetachedOf X). FeedsText means (tokenizer_of old) (tokenizing w old.references) mid.intake.text t.intake.text KeepOn) (sym d) read))
       (λ _. sym (ap (λ (i : IntakeOf). i.fault) intake) ∙ silent)
-      (said ∙ settled old mid t u bytes going takes intake d ∙ ap (intake_after true u mid.intake) (sym text))
+      (said ∙ settled old mid t u piece going takes intake d ∙ ap (intake_after true u mid.intake) (sym text))
       (ap (λ (w : SessionOf X). w.references) settles.kept ∙ same ∙ ap (λ (w : SessionOf X). w.references) kept)
 
   -- all before a fault was read, and it is said
-  pub says_fault : (old mid t u : SessionOf X) (bytes : List ℕ) (place : ℕ) → is_over old ≡ false → TakesPiece old.intake mid.intake bytes
+  pub says_fault : (old mid t u : SessionOf X) (piece : Piece) (place : ℕ) → is_over old ≡ false → TakesPiece old.references old.intake mid.intake piece
       → mid ≡ record old { intake = mid.intake } → t.references ≡ mid.references
       → t.intake ≡ record mid.intake { text = t.intake.text; lost = false }
       → FeedsText means (tokenizer_of mid) (tokenizer_of t) mid.intake.text t.intake.text KeepOn
-      → Settles t u → t.intake.fault ≡ true → place ≡ t.intake.decoder.taken → SaysFault means old u bytes place
-  says_fault old mid t u bytes place going takes kept same intake feeds settles fault is =
+      → Settles t u → t.intake.fault ≡ true → place ≡ t.intake.decoder.taken → SaysFault means old u piece place
+  says_fault old mid t u piece place going takes kept same intake feeds settles fault is =
       let said = settles.said fault in
       let none : t.intake.text ≡ [] = feeds.all refl in
       let d : u.detached ≡ t.detached = ap (λ (w : SessionOf X). w.detached) settles.kept in
@@ -296,7 +308,7 @@ module _ {X S H : Type 0} (means : Means X S H) where
             (subst (λ (l : List ℕ). FeedsText means (tokenizer_of old) (tokenizing t.detached old.references) mid.intake.text l KeepOn) none read));
         fault = sym (ap (λ (i : IntakeOf). i.fault) intake) ∙ fault;
         place_is = is ∙ ap (λ (i : IntakeOf). i.decoder.taken) intake;
-        intake = said ∙ ap fault_said (settled old mid t u bytes going takes intake d ∙ ap (intake_after true u mid.intake) none);
+        intake = said ∙ ap fault_said (settled old mid t u piece going takes intake d ∙ ap (intake_after true u mid.intake) none);
         kept = ap (λ (l : List NamedReference). record u { references = l }) from;
         going_on = over-none u.intake.lost u.detached.failed u.detached.ended
             (ap (λ (i : IntakeOf). i.lost) said ∙ ap (λ (i : IntakeOf). i.lost) intake)
@@ -304,12 +316,12 @@ module _ {X S H : Type 0} (means : Means X S H) where
       }
 
   -- a reading that failed loses the piece
-  pub loses_piece : (old mid t : SessionOf X) (bytes : List ℕ) → TakesPiece old.intake mid.intake bytes
+  pub loses_piece : (old mid t : SessionOf X) (piece : Piece) → TakesPiece old.references old.intake mid.intake piece
       → mid ≡ record old { intake = mid.intake } → t.references ≡ mid.references
       → t.intake ≡ record mid.intake { text = t.intake.text; lost = true }
       → StopsText means (tokenizer_of mid) mid.intake.text t.intake.text (means.state t.detached.sink)
-      → LosesPiece means old t bytes
-  loses_piece old mid t bytes takes kept same intake stops = record {
+      → LosesPiece means old t piece
+  loses_piece old mid t piece takes kept same intake stops = record {
     stops = inr (record {
       text = takes.text;
       taken = mid.intake;
@@ -321,10 +333,10 @@ module _ {X S H : Type 0} (means : Means X S H) where
   }
 
   -- a piece that was refused for want of memory
-  pub piece_refused : (old mid : SessionOf X) (bytes : List ℕ) → mid ≡ record old { intake = mid.intake } → PieceRefused old.intake mid.intake
-      → FeedRefused means old mid bytes Memory
-  piece_refused old mid bytes kept (inl unchanged) = inl (kept ∙ ap (λ (i : IntakeOf). record old { intake = i }) unchanged)
-  piece_refused old mid bytes kept (inr lost) = inr (record {
+  pub piece_refused : (old mid : SessionOf X) (piece : Piece) → mid ≡ record old { intake = mid.intake } → PieceRefused old.intake mid.intake
+      → FeedRefused means old mid piece Memory
+  piece_refused old mid piece kept (inl unchanged) = inl (kept ∙ ap (λ (i : IntakeOf). record old { intake = i }) unchanged)
+  piece_refused old mid piece kept (inr lost) = inr (record {
     stops = inl (ap (λ (w : SessionOf X). w.detached) kept);
     lost = lost;
     kept = ap (λ (l : List NamedReference). record mid { references = l }) (ap (λ (w : SessionOf X). w.references) kept);
@@ -343,34 +355,32 @@ module _ {X S H : Type 0} (means : Means X S H) where
   text_stops result s t left told same stops = subst (λ (w : SessionOf X). OnErr result (StopsText means (tokenizer_of w) w.intake.text left told)) same stops
 
   -- an answer without a pause, where a fault may still be to be said
-  pub done_feeds : {Z : Type 0} (result : Result (TokenizerResult H (String Z)) SessionError) (old mid t u : SessionOf X) (bytes : List ℕ)
-      → is_over old ≡ false → TakesPiece old.intake mid.intake bytes
-      → mid ≡ record old { intake = mid.intake } → t.references ≡ mid.references → t.intake ≡ record mid.intake { text = t.intake.text; lost = false }
+  pub done_feeds : {Z : Type 0} (result : Result (TokenizerResult H (String Z)) SessionError) (mid t u : SessionOf X)
+      → t.references ≡ mid.references → t.intake ≡ record mid.intake { text = t.intake.text; lost = false }
       → FeedsText means (tokenizer_of mid) (tokenizer_of t) mid.intake.text t.intake.text KeepOn → Settles t u
       → IfOk result (λ answer. (answer ≡ Done) × (t.intake.fault ≡ false))
-      → IfOk result (λ answer. FeedsPiece means old u bytes (reply_in string_bytes answer))
-  done_feeds (Err error) old mid t u bytes going takes kept same intake feeds settles said = tt
-  done_feeds {Z} (Ok answer) old mid t u bytes going takes kept same intake feeds settles said =
-      subst (λ (a : TokenizerResult H (String Z)). FeedsPiece means old u bytes (reply_in string_bytes a)) (sym said.0)
-      (reads_piece old mid t u bytes going takes kept same intake feeds settles said.1)
+      → IfOk result (λ answer. (old : SessionOf X) (piece : Piece) → TookPiece old mid piece → FeedsPiece means old u piece (reply_in string_bytes answer))
+  done_feeds (Err error) mid t u same intake feeds settles said = tt
+  done_feeds {Z} (Ok answer) mid t u same intake feeds settles said = λ old piece took.
+      subst (λ (a : TokenizerResult H (String Z)). FeedsPiece means old u piece (reply_in string_bytes a)) (sym said.0)
+      (reads_piece old mid t u piece took.going_on took.takes took.kept same intake feeds settles said.1)
 
-  pub done_refused : {T : Type 0} (result : Result T SessionError) (old mid t u : SessionOf X) (bytes : List ℕ)
-      → is_over old ≡ false → TakesPiece old.intake mid.intake bytes
-      → mid ≡ record old { intake = mid.intake } → t.references ≡ mid.references → t.intake ≡ record mid.intake { text = t.intake.text; lost = false }
+  pub done_refused : {T : Type 0} (result : Result T SessionError) (mid t u : SessionOf X)
+      → t.references ≡ mid.references → t.intake ≡ record mid.intake { text = t.intake.text; lost = false }
       → FeedsText means (tokenizer_of mid) (tokenizer_of t) mid.intake.text t.intake.text KeepOn → Settles t u
       → IfErr result (λ error. (t.intake.fault ≡ true) × (error ≡ NotUtf8 t.intake.decoder.taken))
-      → IfErr result (λ error. FeedRefused means old u bytes error)
-  done_refused (Ok answer) old mid t u bytes going takes kept same intake feeds settles said = tt
-  done_refused (Err error) old mid t u bytes going takes kept same intake feeds settles said =
-      subst (FeedRefused means old u bytes) (sym said.1)
-      (says_fault old mid t u bytes t.intake.decoder.taken going takes kept same intake feeds settles said.0 refl)
+      → IfErr result (λ error. (old : SessionOf X) (piece : Piece) → TookPiece old mid piece → FeedRefused means old u piece error)
+  done_refused (Ok answer) mid t u same intake feeds settles said = tt
+  done_refused (Err error) mid t u same intake feeds settles said = λ old piece took.
+      subst (FeedRefused means old u piece) (sym said.1)
+      (says_fault old mid t u piece t.intake.decoder.taken took.going_on took.takes took.kept same intake feeds settles said.0 refl)
 
   -- an error of the reading
-  pub error_refused : (error : SessionError) (old mid t : SessionOf X) (bytes : List ℕ) → error ≡ Memory → TakesPiece old.intake mid.intake bytes
+  pub error_refused : (error : SessionError) (old mid t : SessionOf X) (piece : Piece) → error ≡ Memory → TakesPiece old.references old.intake mid.intake piece
       → mid ≡ record old { intake = mid.intake } → t.references ≡ mid.references → t.intake ≡ record mid.intake { text = t.intake.text; lost = true }
-      → StopsText means (tokenizer_of mid) mid.intake.text t.intake.text (means.state t.detached.sink) → FeedRefused means old t bytes error
-  error_refused error old mid t bytes is takes kept same intake stops =
-      subst (FeedRefused means old t bytes) (sym is) (inr (loses_piece old mid t bytes takes kept same intake stops))
+      → StopsText means (tokenizer_of mid) mid.intake.text t.intake.text (means.state t.detached.sink) → FeedRefused means old t piece error
+  error_refused error old mid t piece is takes kept same intake stops =
+      subst (FeedRefused means old t piece) (sym is) (inr (loses_piece old mid t piece takes kept same intake stops))
 
   -- ---- an end
 

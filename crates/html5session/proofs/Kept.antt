@@ -1,11 +1,12 @@
 -- What stays of a sink's state over the calls of a session: a relation between a state and each that comes after it.
-use Rattle.std.proofs.Common.{◌≡◌, ◌⊎◌, ℕ, false, List, [], refl, sym, ap, subst, inl, inr}
+use Rattle.std.proofs.Common.{◌≡◌, ◌⊎◌, ℕ, false, List, [], sym, ap, subst, inl, inr}
 use Rattle.html5ever_interface.specs.Sink.{Means, Message, stepped}
 use Rattle.html5ever_interface.specs.Token.{Told, Reply}
 use Rattle.html5ever_interface.specs.Token.Reply.{KeepOn}
 use Rattle.html5ever.specs.Tokenizer.{Tokenizing, EndStops}
 use Rattle.html5partial.specs.declared.error.TokenizerError.{TokenizerError}
 use Rattle.html5partial.specs.declared.error.TokenizerError.TheVariants as tokenizer
+use Rattle.html5session.specs.Intake.{Piece}
 use Rattle.html5session.specs.Session.{EndRefused, EndsSession, FeedRefused, FeedsPiece, FeedsText, SessionOf, StopsPiece, is_over, tokenizer_of}
 use Rattle.html5session.specs.declared.error.SessionError.{SessionError}
 use Rattle.html5session.specs.declared.error.SessionError.TheVariants.{Memory, NotUtf8, Cut, Waiting, ItemOpen, Over}
@@ -45,25 +46,25 @@ module _ {X S H : Type 0} (means : Means X S H) (On : S → S → Type 0)
       let fed = feeds.feeds t.position (means.state t.sink) [] (stands_here means t goes.1 goes.2) in
       subst (On (means.state t.sink)) (sym fed.stands.told) (stays (means.state t.sink) _)
 
-  goes-lost : (old new : SessionOf X) (bytes : List ℕ) → is_over old ≡ false → (new.detached ≡ old.detached) ⊎ StopsPiece means old new bytes → Goes old new
-  goes-lost old new bytes going (inl same) = goes-same old new same
-  goes-lost old new bytes going (inr stops) =
+  goes-lost : (old new : SessionOf X) (piece : Piece) → is_over old ≡ false → (new.detached ≡ old.detached) ⊎ StopsPiece means old new piece → Goes old new
+  goes-lost old new piece going (inl same) = goes-same old new same
+  goes-lost old new piece going (inr stops) =
       let goes = goes_on old.intake.lost old.detached.failed old.detached.ended going in
       let t : Tokenizing X = tokenizer_of old in
       on-stops stops.stops.0 (means.state t.sink) (means.state new.detached.sink) _
       (stops.stops.1 t.position (means.state t.sink) [] (stands_here means t goes.1 goes.2)).stops
 
-  pub on_feed : (old new : SessionOf X) (bytes : List ℕ) (reply : Reply H) → is_over old ≡ false → FeedsPiece means old new bytes reply → Goes old new
-  on_feed old new bytes reply going feeds = goes-read old new feeds.taken.text new.intake.text reply going feeds.feeds
+  pub on_feed : (old new : SessionOf X) (piece : Piece) (reply : Reply H) → is_over old ≡ false → FeedsPiece means old new piece reply → Goes old new
+  on_feed old new piece reply going feeds = goes-read old new feeds.taken.text new.intake.text reply going feeds.feeds
 
-  pub on_refused : (old new : SessionOf X) (bytes : List ℕ) (error : SessionError) → is_over old ≡ false → FeedRefused means old new bytes error → Goes old new
-  on_refused old new bytes Memory going (inl unchanged) = goes-same old new (ap (λ (s : SessionOf X). s.detached) unchanged)
-  on_refused old new bytes Memory going (inr loses) = goes-lost old new bytes going loses.stops
-  on_refused old new bytes (NotUtf8 place) going says = goes-read old new says.taken.text [] KeepOn going says.feeds
-  on_refused old new bytes Cut going refused = absurd refused
-  on_refused old new bytes Waiting going refused = absurd refused
-  on_refused old new bytes ItemOpen going refused = absurd refused
-  on_refused old new bytes Over going refused = goes-same old new (ap (λ (s : SessionOf X). s.detached) refused.unchanged)
+  pub on_refused : (old new : SessionOf X) (piece : Piece) (error : SessionError) → is_over old ≡ false → FeedRefused means old new piece error → Goes old new
+  on_refused old new piece Memory going (inl unchanged) = goes-same old new (ap (λ (s : SessionOf X). s.detached) unchanged)
+  on_refused old new piece Memory going (inr loses) = goes-lost old new piece going loses.stops
+  on_refused old new piece (NotUtf8 place) going says = goes-read old new says.taken.text [] KeepOn going says.feeds
+  on_refused old new piece Cut going refused = absurd refused
+  on_refused old new piece Waiting going refused = absurd refused
+  on_refused old new piece ItemOpen going refused = absurd refused
+  on_refused old new piece Over going refused = goes-same old new (ap (λ (s : SessionOf X). s.detached) refused.unchanged)
 
   pub on_end : (old new : SessionOf X) → is_over old ≡ false → EndsSession means old new → Goes old new
   on_end old new going ends =

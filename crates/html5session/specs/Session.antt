@@ -12,7 +12,7 @@ use Rattle.html5ever.specs.Tokenizer.{Tokenizing, StandsAt, Feeds, FeedsItems, S
 use Rattle.html5reading.specs.Start.{nothing_open}
 use Rattle.html5reading.specs.Start.Mode.{Data}
 use Rattle.html5reading.specs.Start.Open.{Between}
-use Rattle.html5session.specs.Intake.{IntakeOf, Takes, fault_said}
+use Rattle.html5session.specs.Intake.{IntakeOf, IsComplete, Piece, Takes, TakesPiece, fault_said}
 use Rattle.html5session.specs.declared.error.SessionError.{SessionError}
 use Rattle.html5session.specs.declared.error.SessionError.TheVariants.{Memory, NotUtf8, Cut, Waiting, ItemOpen, Over}
 
@@ -42,6 +42,12 @@ pub record StaysOver {X : Type 0} (old new : SessionOf X) : Type 0 where
   pub over : is_over old ≡ true
   pub unchanged : new ≡ old
 
+-- what a session that was not over took of a piece, which is still to be read
+pub record TookPiece {X : Type 0} (old new : SessionOf X) (piece : Piece) : Type 0 where
+  pub going_on : is_over old ≡ false
+  pub takes : TakesPiece old.references old.intake new.intake piece
+  pub kept : new ≡ record old { intake = new.intake }
+
 -- the count of bytes that came begins anew where all was read and nothing is open
 abbrev pub unsettled_after : Bool → ℕ → ℕ
 unsettled_after true count = 0
@@ -66,13 +72,13 @@ pub record Settles {X : Type 0} (old new : SessionOf X) : Type 0 where
 pub record AllRead (i : IntakeOf) : Type 0 where
   pub read : i.text ≡ []
   pub no_fault : i.fault ≡ false
-  pub whole : i.decoder.held ≡ []
+  pub whole : IsComplete i
 
 -- the page ends within a character
 pub record IsCutShort (i : IntakeOf) : Type 0 where
   pub read : i.text ≡ []
   pub no_fault : i.fault ≡ false
-  pub held : i.decoder.held ≢ []
+  pub held : ¬ (IsComplete i)
 
 -- a fault that was still to be said is said at the end
 pub record EndSaysFault {X : Type 0} (old new : SessionOf X) (place : ℕ) : Type 0 where
@@ -103,10 +109,10 @@ module _ {X S H : Type 0} (means : Means X S H) where
   -- ---- a feed
 
   -- a piece was fed: of what waited and the text that was taken of the piece a beginning was read, up to this pause, and the rest waits
-  pub record FeedsPiece (old new : SessionOf X) (bytes : List ℕ) (reply : Reply H) : Type 0 where
+  pub record FeedsPiece (old new : SessionOf X) (piece : Piece) (reply : Reply H) : Type 0 where
     pub text : List ℕ
     pub taken : IntakeOf
-    pub takes : Takes old.intake taken bytes text
+    pub takes : Takes old.references old.intake taken piece text
     pub feeds : FeedsText (tokenizer_of old) (tokenizer_of new) taken.text new.intake.text reply
     -- without a pause the whole piece was taken
     pub whole : reply ≡ KeepOn → taken.fault ≡ false
@@ -115,10 +121,10 @@ module _ {X S H : Type 0} (means : Means X S H) where
     pub going_on : is_over new ≡ false
 
   -- a piece was fed up to bytes in it, or in an earlier one, that are no UTF-8: all before them was read, and their place is said
-  pub record SaysFault (old new : SessionOf X) (bytes : List ℕ) (place : ℕ) : Type 0 where
+  pub record SaysFault (old new : SessionOf X) (piece : Piece) (place : ℕ) : Type 0 where
     pub text : List ℕ
     pub taken : IntakeOf
-    pub takes : Takes old.intake taken bytes text
+    pub takes : Takes old.references old.intake taken piece text
     pub feeds : FeedsText (tokenizer_of old) (tokenizer_of new) taken.text [] KeepOn
     pub fault : taken.fault ≡ true
     pub place_is : place ≡ taken.decoder.taken
@@ -127,26 +133,26 @@ module _ {X S H : Type 0} (means : Means X S H) where
     pub going_on : is_over new ≡ false
 
   -- the reading failed within what the text that was taken tells
-  pub record StopsPiece (old new : SessionOf X) (bytes : List ℕ) : Type 0 where
+  pub record StopsPiece (old new : SessionOf X) (piece : Piece) : Type 0 where
     pub text : List ℕ
     pub taken : IntakeOf
-    pub takes : Takes old.intake taken bytes text
+    pub takes : Takes old.references old.intake taken piece text
     pub stops : StopsText (tokenizer_of old) taken.text new.intake.text (means.state new.detached.sink)
 
   -- a piece was lost to want of memory, before anything of it was read, or within that
-  pub record LosesPiece (old new : SessionOf X) (bytes : List ℕ) : Type 0 where
-    pub stops : (new.detached ≡ old.detached) ⊎ StopsPiece old new bytes
+  pub record LosesPiece (old new : SessionOf X) (piece : Piece) : Type 0 where
+    pub stops : (new.detached ≡ old.detached) ⊎ StopsPiece old new piece
     pub lost : new.intake.lost ≡ true
     pub kept : new ≡ record old { detached = new.detached; intake = new.intake }
 
   -- when each error of a feed comes, and what it leaves
-  abbrev pub FeedRefused : SessionOf X → SessionOf X → List ℕ → SessionError → Type 0
-  FeedRefused old new bytes Memory = (new ≡ old) ⊎ LosesPiece old new bytes
-  FeedRefused old new bytes (NotUtf8 place) = SaysFault old new bytes place
-  FeedRefused old new bytes Cut = ⊥
-  FeedRefused old new bytes Waiting = ⊥
-  FeedRefused old new bytes ItemOpen = ⊥
-  FeedRefused old new bytes Over = StaysOver old new
+  abbrev pub FeedRefused : SessionOf X → SessionOf X → Piece → SessionError → Type 0
+  FeedRefused old new piece Memory = (new ≡ old) ⊎ LosesPiece old new piece
+  FeedRefused old new piece (NotUtf8 place) = SaysFault old new piece place
+  FeedRefused old new piece Cut = ⊥
+  FeedRefused old new piece Waiting = ⊥
+  FeedRefused old new piece ItemOpen = ⊥
+  FeedRefused old new piece Over = StaysOver old new
 
   -- ---- an end
 

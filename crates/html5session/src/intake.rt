@@ -2,13 +2,17 @@
 ghost use Rattle.std.specs.Prelude.{◌≡◌, ◌↔◌, [], false, true, is_err, IsTrue, OnOk, OnErr, IfOk, IfErr, MatchOption, string_bytes};
 ghost use Rattle.html5ever.specs.Detached.{tokenizing};
 ghost use Rattle.html5feed.specs.Feed.{reply_in};
-ghost use Rattle.html5session.specs.Intake.{Decoded, PieceRefused, TakesPiece, fault_said, gains_front, has_room, nothing_taken};
+ghost use Rattle.html5session.specs.Intake.{Decoded, IsComplete, IsUnbegun, PieceRefused, TakesPiece, encoding_known, fault_said, gains, gains_front, has_room, held_of, is_decoding, nothing_taken, page_again};
+ghost use Rattle.html5session.specs.Intake.Piece.{Bytes, TheEnd};
+ghost use Rattle.html5sniffing.specs.PageDecoding as page;
 ghost use Rattle.html5session.specs.Session.{FeedsText, StopsText, unsettled_after};
 
 use crate::error::SessionError;
+use html5encodings::Encoding;
 use html5ever::tokenizer::{BufferQueue, DetachedTokenizer, NamedReferences};
 use html5ever_interface::interface::sink::TokenSink;
 use html5ever_interface::interface::token::Token;
+use html5sniffing::PageDecoder;
 use markup5ever::tokenizer_result::TokenizerResult;
 use std::alloc::{AllocError, Allocator, Global};
 use std::marker::Model;
@@ -19,6 +23,8 @@ use utf8_pieces::{DecodeError, Decoder};
 pub struct Intake<A: Allocator = Global> {
     alloc: A,
     decoder: Decoder,
+    // The decoder of a page in any encoding, in place of `decoder`.
+    page: Option<PageDecoder<A>>,
     queue: BufferQueue<A>,
     fault: bool,
     error_at: Option<u64>,
@@ -28,12 +34,14 @@ pub struct Intake<A: Allocator = Global> {
 }
 
 impl<A: Allocator> Model for Intake<A> {
+    ghost use Rattle.std.specs.Prelude.{◌≡◌, true, None};
     ghost use Rattle.html5session.specs.Intake.{IntakeOf};
 
     ghost Value = { IntakeOf };
 
     ghost view = { λ i. record {
       decoder = i.decoder;
+      page = i.page;
       text = i.queue.text;
       fault = i.fault;
       error_at = i.error_at;
@@ -41,6 +49,8 @@ impl<A: Allocator> Model for Intake<A> {
       limit = i.limit;
       unsettled = i.unsettled;
     } };
+
+    ghost invariant = { λ i. i.fault ≡ true → i.page ≡ None };
 }
 
 // Feeds the tokenizer what waits, up to a pause.
@@ -84,11 +94,70 @@ impl<A: Allocator> Intake<A> {
         self.queue.is_empty()
     }
 
-    /// Whether the bytes so far end with a whole character.
+    /// Whether the bytes so far end with a whole character or, where a page is decoded, were ended.
     pub fn is_complete(&self) -> bool
-        ensures { IsTrue result ↔ (self.now.decoder.held ≡ []) }
+        ensures { IsTrue result ↔ IsComplete self.now }
     {
-        self.decoder.is_complete()
+        match &self.page {
+            Some(page) => page.is_ended(),
+            None => self.decoder.is_complete(),
+        }
+    }
+
+    /// Whether the page is decoded by the encoding that it is in.
+    pub fn is_decoding(&self) -> bool
+        ensures { result ≡ is_decoding self.now }
+    {
+        self.page.is_some()
+    }
+
+    /// The encoding of a page that is decoded, once it is known.
+    pub fn encoding(&self) -> Option<Encoding>
+        ensures { result ≡ encoding_known self.now }
+    {
+        match &self.page {
+            Some(page) => page.encoding(),
+            None => None,
+        }
+    }
+
+    // Whether no byte was taken as UTF-8.
+    fn is_utf8_unbegun(&self) -> bool
+        requires { self.now.page ≡ None }
+        ensures { IsTrue result ↔ IsUnbegun self.now }
+    {
+        !self.fault
+            && self.error_at.is_none()
+            && self.decoder.is_complete()
+            && self.decoder.taken() == 0
+    }
+
+    /// Whether no byte was taken.
+    pub fn is_unbegun(&self) -> bool
+        ensures { IsTrue result ↔ IsUnbegun self.now }
+    {
+        match &self.page {
+            Some(page) => page.is_unbegun(),
+            None => self.is_utf8_unbegun(),
+        }
+    }
+
+    /// Takes the bytes by this decoder, or as UTF-8.
+    pub fn set_page(&mut self, page: Option<PageDecoder<A>>)
+        requires { IsUnbegun self.old }
+        ensures { self.new ≡ record self.old { page = page } }
+    {
+        self.page = page;
+    }
+
+    // How many bytes are held of a page whose encoding isn't known yet.
+    fn held_len(&self) -> usize
+        ensures { result ≡ held_of self.now.page }
+    {
+        match &self.page {
+            Some(page) => page.held_len(),
+            None => 0,
+        }
     }
 
     /// Where those bytes are that were last said to be no UTF-8.
@@ -102,7 +171,8 @@ impl<A: Allocator> Intake<A> {
     pub fn has_room(&self, waiting: usize, more: usize) -> bool
         ensures { result ≡ has_room self.now waiting more }
     {
-        let held = self.unsettled.saturating_add(waiting as u64);
+        let held = self.unsettled.saturating_add(self.held_len() as u64);
+        let held = held.saturating_add(waiting as u64);
         held.saturating_add(more as u64) <= self.limit
     }
 
@@ -160,6 +230,7 @@ impl<A: Allocator + Copy> Intake<A> {
         Intake {
             alloc,
             decoder: Decoder::new(),
+            page: None,
             queue: BufferQueue::new(alloc),
             fault: false,
             error_at: None,
@@ -169,9 +240,20 @@ impl<A: Allocator + Copy> Intake<A> {
         }
     }
 
+    /// The decoder of another page, by which the bytes of this one are taken, if they are.
+    pub fn page_again(&self) -> Option<PageDecoder<A>>
+        ensures { result ≡ page_again self.now }
+    {
+        match &self.page {
+            Some(page) => Some(page.restarted()),
+            None => None,
+        }
+    }
+
     // The text that a piece completes, or that of its front.
-    fn decode(&mut self, bytes: &[u8]) -> Result<String<A>, AllocError>
-        requires { self.old.fault ≡ false }
+    fn decode_utf8(&mut self, bytes: &[u8]) -> Result<String<A>, AllocError>
+        requires fault { self.old.fault ≡ false }
+        requires page { self.old.page ≡ None }
         ensures ok { IfOk result (λ text. Decoded self.old self.new bytes.now (string_bytes text)) }
         ensures err { OnErr result (self.new ≡ self.old) }
     {
@@ -186,22 +268,65 @@ impl<A: Allocator + Copy> Intake<A> {
         }
     }
 
-    /// Takes a piece: its text comes after what waits. Bytes that are no UTF-8 are not taken, nor what stands after
-    /// them, and nothing more is until that is said (`say_fault`).
-    pub fn take(&mut self, bytes: &[u8]) -> Result<(), AllocError>
-        ensures takes { OnOk result (TakesPiece self.old self.new bytes.now) }
-        ensures refused { OnErr result (PieceRefused self.old self.new) }
+    // Puts a text after what waits, or loses it.
+    fn gain(&mut self, text: String<A>) -> Result<(), AllocError>
+        ensures ok { OnOk result (self.new ≡ gains self.old (string_bytes text)) }
+        ensures err { OnErr result (self.new.lost ≡ true) }
     {
-        if self.fault {
-            return Ok(());
-        }
-        let text = self.decode(bytes)?;
         self.unsettled = self.unsettled.saturating_add(text.len() as u64);
         let Err(_) = self.queue.push_back(text) else {
             return Ok(());
         };
         self.lost = true;
         Err(AllocError)
+    }
+
+    // Takes a piece of a page that is decoded.
+    fn take_page(&mut self, references: &NamedReferences<A>, bytes: &[u8]) -> Result<(), AllocError>
+        requires { is_decoding self.old ≡ true }
+        ensures takes { OnOk result (TakesPiece references.now self.old self.new (Bytes bytes.now)) }
+        ensures refused { OnErr result (PieceRefused self.old self.new) }
+    {
+        let Some(mut page) = self.page.take() else {
+            return Ok(());
+        };
+        let text = page.push(references, bytes);
+        self.page = Some(page);
+        let text = text?;
+        self.gain(text)
+    }
+
+    /// Takes a piece: its text comes after what waits. Bytes that are no UTF-8 are not taken, nor what stands after
+    /// them, and nothing more is until that is said (`say_fault`); where a page is decoded all are taken.
+    pub fn take(&mut self, references: &NamedReferences<A>, bytes: &[u8]) -> Result<(), AllocError>
+        ensures takes { OnOk result (TakesPiece references.now self.old self.new (Bytes bytes.now)) }
+        ensures refused { OnErr result (PieceRefused self.old self.new) }
+    {
+        if self.page.is_some() {
+            return self.take_page(references, bytes);
+        }
+        if self.fault {
+            return Ok(());
+        }
+        let text = self.decode_utf8(bytes)?;
+        self.gain(text)
+    }
+
+    /// Ends the bytes: where a page is decoded, the rest of its text comes after what waits.
+    pub fn end_bytes(&mut self, references: &NamedReferences<A>) -> Result<(), AllocError>
+        ensures takes { OnOk result (TakesPiece references.now self.old self.new TheEnd) }
+        ensures refused { OnErr result (PieceRefused self.old self.new) }
+    {
+        let Some(mut page) = self.page.take() else {
+            return Ok(());
+        };
+        let text = page.finish(references);
+        self.page = Some(page);
+        let Ok(text) = text else {
+            self.lost = true;
+            return Err(AllocError);
+        };
+        self.gain(text)
     }
 
     /// Puts a text in front of what waits.

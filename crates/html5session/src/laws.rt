@@ -6,6 +6,7 @@ ghost use Rattle.html5records.specs.declared.record_sink.PausedAt.{PausedAt};
 ghost use Rattle.html5feed.specs.Feed.{feed};
 ghost use Rattle.html5reading.specs.Reading.{all_messages, messages_so_far, state_after, start_after};
 ghost use Rattle.html5reading.specs.Start.{Rules, Start};
+ghost use Rattle.html5session.specs.Intake.{Piece};
 ghost use Rattle.html5session.specs.RecordSessions.{RecordSessionOf, recorded_by};
 ghost use Rattle.html5session.specs.Session.{EndRefused, EndsSession, FeedRefused, FeedsPiece, is_over};
 ghost use Rattle.html5session.specs.declared.error.SessionError.{SessionError};
@@ -33,10 +34,10 @@ pub fn readings_ignore_taking()
 /// A feed and an end of a session whose sink writes records take none of them, and write after what was written. So the
 /// next bytes that are taken go on where the last ones ended. That holds also where they are refused.
 pub fn records_wait_on()
-    ensures feeds { (old new : RecordSessionOf) (bytes : List ℕ) (reply : Reply PausedAt) → is_over old ≡ false
-        → FeedsPiece recorded_means old new bytes reply → WritesOn (recorded_by old) (recorded_by new) }
-    ensures feed_refused { (old new : RecordSessionOf) (bytes : List ℕ) (error : SessionError) → is_over old ≡ false
-        → FeedRefused recorded_means old new bytes error → WritesOn (recorded_by old) (recorded_by new) }
+    ensures feeds { (old new : RecordSessionOf) (piece : Piece) (reply : Reply PausedAt) → is_over old ≡ false
+        → FeedsPiece recorded_means old new piece reply → WritesOn (recorded_by old) (recorded_by new) }
+    ensures feed_refused { (old new : RecordSessionOf) (piece : Piece) (error : SessionError) → is_over old ≡ false
+        → FeedRefused recorded_means old new piece error → WritesOn (recorded_by old) (recorded_by new) }
     ensures ends { (old new : RecordSessionOf) → is_over old ≡ false
         → EndsSession recorded_means old new → WritesOn (recorded_by old) (recorded_by new) }
     ensures end_refused { (old new : RecordSessionOf) (error : SessionError) → is_over old ≡ false

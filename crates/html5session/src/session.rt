@@ -1,21 +1,24 @@
 //! A tokenizer with its table and its sink, and the bytes and the text that wait.
-ghost use Rattle.std.specs.Prelude.{◌≡◌, ◌↔◌, ◌⊎◌, [], Some, true, false, is_err, OnOk, OnErr, IfOk, IfErr, Err, string_bytes};
+ghost use Rattle.std.specs.Prelude.{◌≡◌, ◌≢◌, ◌↔◌, ◌⊎◌, [], Some, true, false, is_err, OnOk, OnErr, IfOk, IfErr, IsTrue, Err, string_bytes};
 ghost use Rattle.html5ever.specs.Detached.{tokenizing};
 ghost use Rattle.html5ever.specs.Tokenizer.{StandsAt, rules_of};
 ghost use Rattle.html5ever_interface.specs.Options.{options_of};
 ghost use Rattle.html5feed.specs.Feed.{reply_in};
 ghost use Rattle.html5feed.specs.Starting.{CanStart};
 ghost use Rattle.html5reading.specs.Start.{start_of};
-ghost use Rattle.html5session.specs.Intake.{PieceRefused, TakesPiece, gains_front, has_room, nothing_taken};
+ghost use Rattle.html5session.specs.Intake.{IsUnbegun, Piece, PieceRefused, TakesPiece, encoding_known, gains_front, has_room, is_decoding, nothing_taken, page_again};
+ghost use Rattle.html5session.specs.Intake.Piece.{Bytes, TheEnd};
 ghost use Rattle.html5session.specs.Session.{is_over, tokenizer_of, nothing_open_in, Settles, SetsState, FeedsText, StopsText, EndsText, StopsTextEnd};
-ghost use Rattle.html5session.specs.Session.{AllRead, FeedsPiece, FeedRefused, EndsSession, EndRefused, LosesEnd};
+ghost use Rattle.html5session.specs.Session.{AllRead, SessionOf, TookPiece, FeedsPiece, FeedRefused, EndsSession, EndRefused, LosesEnd};
 
 use crate::error::SessionError;
 use crate::intake::Intake;
+use html5encodings::Encoding;
 use html5ever::tokenizer::{DetachedTokenizer, NamedReferences, Tokenizer, TokenizerOpts};
 use html5ever_interface::interface::sink::TokenSink;
 use html5ever_interface::interface::token::Token;
 use html5ever_interface::states::State;
+use html5sniffing::PageDecoder;
 use markup5ever::tokenizer_result::TokenizerResult;
 use std::alloc::{AllocError, Allocator, Global};
 use std::marker::Model;
@@ -102,6 +105,35 @@ impl<S, A: Allocator> Session<S, A> {
         self.intake.limit()
     }
 
+    /// Whether no byte of the page was taken. Then it can be set how its bytes are decoded.
+    pub fn is_unbegun(&self) -> bool
+        ensures { IsTrue result ↔ IsUnbegun self.now.intake }
+    {
+        self.intake.is_unbegun()
+    }
+
+    /// Takes the bytes of the page by this decoder: then none is refused. Where there is none they are to be UTF-8.
+    pub fn set_page_decoder(&mut self, page: Option<PageDecoder<A>>)
+        requires { IsUnbegun self.old.intake }
+        ensures { self.new ≡ record self.old { intake = record self.old.intake { page = page } } }
+    {
+        self.intake.set_page(page);
+    }
+
+    /// Whether a decoder takes the bytes of the page.
+    pub fn is_decoding(&self) -> bool
+        ensures { result ≡ is_decoding self.now.intake }
+    {
+        self.intake.is_decoding()
+    }
+
+    /// The encoding of a page that is decoded, once it is known.
+    pub fn encoding(&self) -> Option<Encoding>
+        ensures { result ≡ encoding_known self.now.intake }
+    {
+        self.intake.encoding()
+    }
+
     /// The table of named references, and the sink with what it was sent.
     pub fn into_parts(self) -> (NamedReferences<A>, S)
         ensures references { result.0 ≡ self.references }
@@ -135,13 +167,32 @@ impl<S: TokenSink<Token<A>>, A: Allocator + Copy> Session<S, A> {
         }
     }
 
+    /// The decoder of another page of which the same is said as of this one, where a decoder takes the bytes.
+    pub fn page_decoder_again(&self) -> Option<PageDecoder<A>>
+        ensures { result ≡ page_again self.now.intake }
+    {
+        self.intake.page_again()
+    }
+
     // Takes a piece.
     fn take_piece(&mut self, bytes: &[u8]) -> Result<(), SessionError>
-        ensures takes { OnOk result (TakesPiece self.old.intake self.new.intake bytes.now) }
+        ensures takes { OnOk result (TakesPiece self.old.references self.old.intake self.new.intake (Bytes bytes.now)) }
         ensures refused { IfErr result (λ error. (error ≡ SessionError.Memory) × PieceRefused self.old.intake self.new.intake) }
         ensures kept { self.new ≡ record self.old { intake = self.new.intake } }
     {
-        match self.intake.take(bytes) {
+        match self.intake.take(&self.references, bytes) {
+            Ok(()) => Ok(()),
+            Err(AllocError) => Err(SessionError::Memory),
+        }
+    }
+
+    // Takes the rest of the text, at the end of the bytes.
+    fn take_rest(&mut self) -> Result<(), SessionError>
+        ensures takes { OnOk result (TakesPiece self.old.references self.old.intake self.new.intake TheEnd) }
+        ensures refused { IfErr result (λ error. (error ≡ SessionError.Memory) × PieceRefused self.old.intake self.new.intake) }
+        ensures kept { self.new ≡ record self.old { intake = self.new.intake } }
+    {
+        match self.intake.end_bytes(&self.references) {
             Ok(()) => Ok(()),
             Err(AllocError) => Err(SessionError::Memory),
         }
@@ -197,29 +248,20 @@ impl<S: TokenSink<Token<A>>, A: Allocator + Copy> Session<S, A> {
         }
     }
 
-    /// Takes a piece of the page, cut anywhere, and reads on, up to the first tag after which the sink asks to pause. Then
-    /// the rest of the text waits: text may be put in front of it, and the next feed goes on with it, also one of no bytes.
-    ///
-    /// Where bytes of the piece are no UTF-8, those before them are taken and read, and then the answer is `NotUtf8`. Where
-    /// that reading pauses, the pause comes first: then no feed takes anything, until all that waits was read and `NotUtf8`
-    /// was answered. After `Memory` the session is as it was, or it is over and the piece is lost.
-    pub fn feed(
-        mut self,
-        bytes: &[u8],
+    // Reads what a call took, up to a pause, and says a fault where all was read.
+    fn read_on(
+        self,
     ) -> (
         Session<S, A>,
         Result<TokenizerResult<S::Handle, String<A>>, SessionError>,
     )
-        ensures feeds { IfOk result.1 (λ answer. FeedsPiece S.means self result.0 bytes.now (reply_in string_bytes answer)) }
-        ensures refused { IfErr result.1 (λ error. FeedRefused S.means self result.0 bytes.now error) }
-        ensures over { (result.1 ≡ Err SessionError.Over) ↔ (is_over self ≡ true) }
+        requires { is_over self ≡ false }
+        ensures feeds { IfOk result.1 (λ answer. (old : SessionOf S) (piece : Piece) → TookPiece old self piece
+            → FeedsPiece S.means old result.0 piece (reply_in string_bytes answer)) }
+        ensures refused { IfErr result.1 (λ error. (old : SessionOf S) (piece : Piece) → TookPiece old self piece
+            → FeedRefused S.means old result.0 piece error) }
+        ensures going_on { IfErr result.1 (λ error. error ≢ SessionError.Over) }
     {
-        if self.is_over() {
-            return (self, Err(SessionError::Over));
-        }
-        if let Err(error) = self.take_piece(bytes) {
-            return (self, Err(error));
-        }
         let (session, answer) = self.feed_waiting();
         // An arm for each pause: split for the proof.
         match answer {
@@ -230,6 +272,54 @@ impl<S: TokenSink<Token<A>>, A: Allocator + Copy> Session<S, A> {
             }
             Err(error) => (session, Err(error)),
         }
+    }
+
+    /// Takes a piece of the page, cut anywhere, and reads on, up to the first tag after which the sink asks to pause. Then
+    /// the rest of the text waits: text may be put in front of it, and the next feed goes on with it, also one of no bytes.
+    ///
+    /// Where bytes of the piece are no UTF-8, those before them are taken and read, and then the answer is `NotUtf8`. Where
+    /// that reading pauses, the pause comes first: then no feed takes anything, until all that waits was read and `NotUtf8`
+    /// was answered. After `Memory` the session is as it was, or it is over and the piece is lost. Where a decoder takes the
+    /// bytes none are refused, and the text that is read is what it gives.
+    pub fn feed(
+        mut self,
+        bytes: &[u8],
+    ) -> (
+        Session<S, A>,
+        Result<TokenizerResult<S::Handle, String<A>>, SessionError>,
+    )
+        ensures feeds { IfOk result.1 (λ answer. FeedsPiece S.means self result.0 (Bytes bytes.now) (reply_in string_bytes answer)) }
+        ensures refused { IfErr result.1 (λ error. FeedRefused S.means self result.0 (Bytes bytes.now) error) }
+        ensures over { (result.1 ≡ Err SessionError.Over) ↔ (is_over self ≡ true) }
+    {
+        if self.is_over() {
+            return (self, Err(SessionError::Over));
+        }
+        if let Err(error) = self.take_piece(bytes) {
+            return (self, Err(error));
+        }
+        self.read_on()
+    }
+
+    /// Ends the bytes of the page, before the page is ended (`end`): where a decoder takes them the rest of their text is
+    /// read, as at a feed. What is fed after that is decoded anew, in the same encoding. Where none does nothing is taken.
+    pub fn end_bytes(
+        mut self,
+    ) -> (
+        Session<S, A>,
+        Result<TokenizerResult<S::Handle, String<A>>, SessionError>,
+    )
+        ensures feeds { IfOk result.1 (λ answer. FeedsPiece S.means self result.0 TheEnd (reply_in string_bytes answer)) }
+        ensures refused { IfErr result.1 (λ error. FeedRefused S.means self result.0 TheEnd error) }
+        ensures over { (result.1 ≡ Err SessionError.Over) ↔ (is_over self ≡ true) }
+    {
+        if self.is_over() {
+            return (self, Err(SessionError::Over));
+        }
+        if let Err(error) = self.take_rest() {
+            return (self, Err(error));
+        }
+        self.read_on()
     }
 
     /// Puts a text in front of what waits, as `document.write` does. It is read at the next feed.
@@ -293,7 +383,7 @@ impl<S: TokenSink<Token<A>>, A: Allocator + Copy> Session<S, A> {
     }
 
     /// Ends the page. It is refused, and changes nothing, while text waits, and where the bytes so far end within a
-    /// character. A fault that is still to be said is said.
+    /// character or, where a decoder takes them, were not ended (`end_bytes`). A fault that is still to be said is said.
     pub fn end(mut self) -> (Session<S, A>, Result<(), SessionError>)
         ensures ends { OnOk result.1 (EndsSession S.means self result.0) }
         ensures refused { IfErr result.1 (λ error. EndRefused S.means self result.0 error) }

@@ -5,6 +5,8 @@
 #[cfg(test)]
 mod labels;
 #[cfg(test)]
+mod page_pieces;
+#[cfg(test)]
 mod pages;
 #[cfg(test)]
 mod pages_of_bytes;

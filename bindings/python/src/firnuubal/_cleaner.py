@@ -5,7 +5,7 @@ import threading
 from typing import Iterable, Mapping, Optional
 
 from ._errors import PolicyError, Status, TokenizerError
-from ._library import ROOM, Handle, bytes_of, library, pieces_of, taken
+from ._library import ROOM, Handle, as_bytes, bytes_of, encoding_of, library, pieces_of, set_encoding, taken
 
 ALLOWED_TAGS = frozenset(
     "a abbr b blockquote br caption cite code colgroup dd del div dl dt em h1 h2 h3 h4 h5 h6 hr i img ins kbd li mark ol p "
@@ -99,11 +99,15 @@ class Cleaner:
     Use it in a `with`, so that its memory is given back at once. One thread at a time may call it. `limit` is how many
     bytes it may hold: what was fed since all was read and no item was open, and the text that no tag has ended yet. A
     piece that goes past it is refused (`Status.LIMIT`), and nothing changes.
+
+    Bytes are UTF-8, else they are refused. With `encoding` each page is read in the encoding of that label, one of the Encoding
+    Standard as "shift_jis", which a byte order mark overrules; or with "auto" in the one that the page tells as to a browser.
+    Then bytes that are none of it are U+FFFD, and no piece is a text. An unknown label is a LookupError.
     """
 
     _free = staticmethod(library.html5_free)
 
-    def __init__(self, policy: Optional[Policy] = None, *, limit: Optional[int] = None):
+    def __init__(self, policy: Optional[Policy] = None, *, limit: Optional[int] = None, encoding: Optional[str] = None):
         self._handle = Handle()
         self._room = ctypes.create_string_buffer(ROOM)
         text = b"" if policy is None else policy.text.encode()
@@ -114,6 +118,14 @@ class Cleaner:
         self._checked(status)
         if limit is not None:
             self._checked(library.html5_set_limit(self._handle, limit))
+        self._to_bytes = bytes_of if encoding is None else as_bytes
+        if encoding is not None:
+            self._checked(set_encoding(self._handle, encoding))
+
+    @property
+    def encoding(self) -> Optional[str]:
+        """The name of the encoding in which the page is read, once it is known; None where no `encoding` was given."""
+        return encoding_of(self._handle)
 
     def __enter__(self):
         return self
@@ -131,7 +143,7 @@ class Cleaner:
 
     def feed(self, piece) -> str:
         """Reads the next piece, a text or bytes, and gives what is kept of the page so far."""
-        piece = bytes_of(piece)
+        piece = self._to_bytes(piece)
         self._checked(library.html5_cleaner_feed(self._handle, piece, len(piece)))
         return self._taken()
 
@@ -149,7 +161,7 @@ class Cleaner:
     def clean(self, page) -> str:
         """What is kept of a whole page: a text, bytes, a file of either, or an iterable of pieces of either."""
         self.restart()
-        kept = [self.feed(piece) for piece in pieces_of(page)]
+        kept = [self.feed(piece) for piece in pieces_of(page, to_bytes=self._to_bytes)]
         kept.append(self.end())
         return "".join(kept)
 
@@ -164,26 +176,26 @@ class Cleaner:
         raise TokenizerError(Status(status), at)
 
 
-# The cleaners of each thread, by their policies, so that each reads its policy and the names of characters once.
+# The cleaners of each thread, by their policies and encodings, so that each reads its policy and the names of characters once.
 _cleaners = threading.local()
 _MOST = 16
 
 
-def _cleaned(page, policy):
+def _cleaned(page, policy, encoding):
     """What is kept of a page, by a cleaner that no other call has meanwhile, such as one of the page's own pieces."""
     known = _cleaners.__dict__.setdefault("known", {})
-    cleaner = known.pop(policy, None) or Cleaner(policy)
+    cleaner = known.pop((policy, encoding), None) or Cleaner(policy, encoding=encoding)
     kept = cleaner.clean(page)
-    known[policy] = cleaner
+    known[policy, encoding] = cleaner
     if len(known) > _MOST:
         known.pop(next(iter(known)))
     return kept
 
 
-def clean(page, policy: Optional[Policy] = None, **keywords) -> str:
+def clean(page, policy: Optional[Policy] = None, *, encoding: Optional[str] = None, **keywords) -> str:
     """What is kept of a page: a text, bytes, a file of either, or an iterable of pieces of either.
 
-    Without a policy it is the standard one; keywords are those of `Policy`. A tokenizer that goes on after the kept tags,
+    Without a policy it is the standard one; keywords are those of `Policy`. The encoding is that of `Cleaner`. A tokenizer that goes on after the kept tags,
     as the standard's does, reads what is kept as exactly these tags and the text. By the standard policy, or one with
     `tree=True`, what a browser builds of it in a `div`, by the standard's rules, is the nesting of these tags, but for a
     line feed straight after a `<pre>`, which is ignored; by another no promise is made of the tree.
@@ -195,4 +207,4 @@ def clean(page, policy: Optional[Policy] = None, **keywords) -> str:
         if policy is not None:
             raise TypeError("clean takes a policy or keywords, not both")
         policy = Policy(**keywords)
-    return _cleaned(page, policy)
+    return _cleaned(page, policy, encoding)

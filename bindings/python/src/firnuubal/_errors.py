@@ -17,6 +17,7 @@ class Status(enum.IntEnum):
     POLICY_NOT_UTF8 = 11
     ITEM_OPEN = 13
     LIMIT = 14
+    BEGUN = 15
 
 
 _SAID = {
@@ -29,6 +30,7 @@ _SAID = {
     Status.BAD_OPTION: "an option has no such value",
     Status.ITEM_OPEN: "a tag or another item is open, so no state can be set",
     Status.LIMIT: "more bytes would be held than the limit",
+    Status.BEGUN: "bytes were fed already",
 }
 
 

@@ -4,6 +4,8 @@ import ctypes
 import os
 import pathlib
 
+from ._errors import Status
+
 NAME = "libfirnuubal.so"
 HERE = pathlib.Path(__file__).resolve().parent
 
@@ -38,6 +40,8 @@ _CALLS = {
     "html5_reply": ([_HANDLE, _STATUS], _STATUS),
     "html5_set_foreign": ([_HANDLE, ctypes.c_bool], _STATUS),
     "html5_set_limit": ([_HANDLE, ctypes.c_uint64], _STATUS),
+    "html5_set_encoding": ([_HANDLE, *_BYTES], _STATUS),
+    "html5_encoding": ([_HANDLE, *_BYTES], ctypes.c_size_t),
     "html5_end": ([_HANDLE], _STATUS),
     "html5_take": ([_HANDLE, *_BYTES], ctypes.c_size_t),
     "html5_error_at": ([_HANDLE], ctypes.c_uint64),
@@ -91,6 +95,32 @@ def taken(take, handle, room):
     return b"".join(parts)
 
 
+# The encoding of a page of which nothing is said: the page tells.
+AUTO = "auto"
+
+
+def set_encoding(handle, encoding):
+    """Reads a handle's page in the encoding of a label, or in the one that the page tells. It answers the status."""
+    label = b"" if encoding == AUTO else encoding.encode("utf-8", "surrogatepass")
+    status = library.html5_set_encoding(handle, label, len(label))
+    if status == Status.BAD_OPTION or encoding == "":
+        raise LookupError(f"unknown encoding: {encoding}")
+    return status
+
+
+def encoding_of(handle):
+    """The name of the encoding in which a handle's page is read, once it is known."""
+    name = ctypes.create_string_buffer(16)
+    return name[: library.html5_encoding(handle, name, len(name))].decode() or None
+
+
+def as_bytes(piece):
+    """A piece of a page that has an encoding, which is no text."""
+    if isinstance(piece, str):
+        raise TypeError("a text is in no encoding: hand in bytes, or leave the encoding out")
+    return bytes_of(piece)
+
+
 def bytes_of(piece):
     """A piece of a page as bytes: a text as its UTF-8."""
     if isinstance(piece, bytes):
@@ -100,23 +130,23 @@ def bytes_of(piece):
     return bytes(memoryview(piece))
 
 
-def pieces_of(page, size=ROOM):
+def pieces_of(page, size=ROOM, to_bytes=bytes_of):
     """The pieces of a page: of a text, of bytes, of a file of either, or of an iterable of either."""
     if isinstance(page, str):
-        page = page.encode()
+        page = to_bytes(page)
     if isinstance(page, (bytes, bytearray, memoryview)):
         view = memoryview(page).cast("B")
         return (bytes(view[at : at + size]) for at in range(0, len(view), size))
     if hasattr(page, "read"):
-        return _pieces_of_file(page, size)
-    return (bytes_of(piece) for piece in page)
+        return _pieces_of_file(page, size, to_bytes)
+    return (to_bytes(piece) for piece in page)
 
 
-def _pieces_of_file(file, size):
+def _pieces_of_file(file, size, to_bytes):
     while True:
         piece = file.read(size)
         if piece is None:
             raise BlockingIOError("the page's read() gave None: it has no bytes now, and doesn't wait for more")
         if not piece:
             return
-        yield bytes_of(piece)
+        yield to_bytes(piece)

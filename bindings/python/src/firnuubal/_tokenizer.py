@@ -5,7 +5,7 @@ import enum
 from typing import Iterable, Iterator, Optional
 
 from ._errors import Status, TokenizerError
-from ._library import ROOM, Handle, Options, bytes_of, library, pieces_of, taken
+from ._library import ROOM, Handle, Options, as_bytes, bytes_of, encoding_of, library, pieces_of, set_encoding, taken
 from ._readers import LinkReader, Reader, TextReader
 from ._records import Link, Token
 
@@ -50,6 +50,10 @@ class Tokenizer:
     token. With `texts=False` texts are passed over, and with `tags`, some names in small letters, all other tags.
     `limit` is how many bytes it may hold: what was fed since all was read and no item was open, and the records of tokens
     that were not read. A piece that goes past it is refused (`Status.LIMIT`), and nothing changes.
+
+    Bytes are UTF-8, else they are refused. With `encoding` they are read in the encoding of that label, one of the Encoding
+    Standard as "shift_jis", which a byte order mark overrules; or with "auto" in the one that the page tells as to a browser.
+    Then bytes that are none of it are U+FFFD, and no piece is a text. An unknown label is a LookupError.
     """
 
     _free = staticmethod(library.html5_free)
@@ -67,6 +71,7 @@ class Tokenizer:
         texts: bool = True,
         tags: Optional[Iterable[str]] = None,
         limit: Optional[int] = None,
+        encoding: Optional[str] = None,
     ):
         self._handle = Handle()
         self._at = ctypes.byref(self._handle)
@@ -77,6 +82,14 @@ class Tokenizer:
         self._checked(library.html5_new(self._handle, last, len(last), options))
         if limit is not None:
             self._checked(library.html5_set_limit(self._handle, limit))
+        self._to_bytes = bytes_of if encoding is None else as_bytes
+        if encoding is not None:
+            self._checked(set_encoding(self._handle, encoding))
+
+    @property
+    def encoding(self) -> Optional[str]:
+        """The name of the encoding in which the page is read, once it is known; None where no `encoding` was given."""
+        return encoding_of(self._handle)
 
     def __enter__(self):
         return self
@@ -98,7 +111,7 @@ class Tokenizer:
         Where bytes are no UTF-8, all before them is read, and then it is refused (`Status.NOT_UTF8`). A pause before them
         comes first: then no feed takes anything until that was said."""
         if type(piece) is not bytes:
-            piece = bytes_of(piece)
+            piece = self._to_bytes(piece)
         status = library.html5_feed(self._at, piece, len(piece))
         return _FED.get(status) or self._checked(status)
 
@@ -116,9 +129,10 @@ class Tokenizer:
         """Says whether the current node is outside the HTML namespace, so that <![CDATA[ opens a section."""
         self._checked(library.html5_set_foreign(self._handle, foreign))
 
-    def end(self) -> None:
-        """Ends the page."""
-        self._checked(library.html5_end(self._handle))
+    def end(self) -> Fed:
+        """Ends the page. Where it has an `encoding`, what is held of it is read first, and may pause: then it is ended again."""
+        status = library.html5_end(self._handle)
+        return _FED.get(status) or self._checked(status)
 
     def is_over(self) -> bool:
         """Whether nothing more is read: the page has ended, or a call was refused for good."""
@@ -147,7 +161,7 @@ def _items(page, piece, options, reader=None):
     """What is read of a page, past all pauses: tokens, or what another reader makes of the records."""
     with Tokenizer(**options) as tokenizer:
         tokenizer._reader = reader or tokenizer._reader
-        for given in pieces_of(page, piece):
+        for given in pieces_of(page, piece, tokenizer._to_bytes):
             fed = None
             while fed != Fed.DONE:
                 fed, refused = _fed(tokenizer, given)
@@ -155,8 +169,10 @@ def _items(page, piece, options, reader=None):
                 if refused:
                     raise refused
                 given = b""
-        tokenizer.end()
-        yield from tokenizer.tokens()
+        fed = None
+        while fed != Fed.DONE:
+            fed = tokenizer.end()
+            yield from tokenizer.tokens()
 
 
 def tokens(page, *, piece: int = ROOM, **options) -> Iterator[Token]:
@@ -171,12 +187,12 @@ def tokens(page, *, piece: int = ROOM, **options) -> Iterator[Token]:
 _LINKS = {"a": "href", "area": "href", "link": "href", "img": "src", "script": "src", "iframe": "src"}
 
 
-def links(page) -> Iterator[Link]:
+def links(page, *, encoding: Optional[str] = None) -> Iterator[Link]:
     """The links of a page: `href` of a, area and link, `src` of img, script and iframe, as firnuubal links prints them but
-    for tabs and line breaks in them, which stay."""
-    return _items(page, ROOM, {}, LinkReader(_LINKS))
+    for tabs and line breaks in them, which stay. The encoding is that of `Tokenizer`."""
+    return _items(page, ROOM, {"encoding": encoding}, LinkReader(_LINKS))
 
 
-def text(page) -> str:
-    """The text of a page, without its scripts and styles, as firnuubal text prints it."""
-    return "".join(_items(page, ROOM, {}, TextReader(("script", "style"))))
+def text(page, *, encoding: Optional[str] = None) -> str:
+    """The text of a page, without its scripts and styles, as firnuubal text prints it. The encoding is that of `Tokenizer`."""
+    return "".join(_items(page, ROOM, {"encoding": encoding}, TextReader(("script", "style"))))

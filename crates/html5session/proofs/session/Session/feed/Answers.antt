@@ -1,54 +1,21 @@
--- Each answer composes what was taken of a piece, what was read and how that settled, which the tactic doesn't find.
-use Rattle.std.proofs.Common.{◌≡◌, Ok, Err, string_bytes, refl, sym, ◌∙◌}
-use Rattle.html5feed.specs.Feed.{reply_in}
-use Rattle.html5session.specs.Session.{FeedsText, StopsText, tokenizer_of}
-use Rattle.html5session.specs.declared.error.SessionError.TheVariants.{Memory}
-use Rattle.html5session.proofs.Calls.{answered, done_feeds, done_refused, error_refused, errored, left_by, on_errored, pauses_piece}
-use Rattle.markup5ever.specs.declared.tokenizer_result.TokenizerResult.TheVariants.{Done, Script}
+-- What was taken, and what was read after that.
+use Rattle.std.proofs.Common.{sym, ◌∙◌}
+use Rattle.std.proofs.lemmas.Result.{IfErr-weaker, IfOk-weaker}
+use Rattle.html5session.specs.Intake.Piece.{Bytes}
+use Rattle.html5session.specs.Session.{TookPiece}
+use Rattle.html5session.proofs.Calls.{took_going}
 use Rattle.html5session.proofs.session.Session.feed.Goals as goal
 
-pub returns-in-Ok-Done-clause-feeds : goal.returns-in-Ok-Done-clause-feeds
-returns-in-Ok-Done-clause-feeds g c =
-    let mid = c.take_piece.new.self in
-    let w = c.feed_waiting-session in
-    done_feeds g.S.TokenSink.means c.settle.result.1 c.args.self mid w.result.0 c.settle.result.0 _ (sym c.is_over.ensures ∙ c.if-is_over.false)
-    c.in_default.ensures.takes c.in_default.ensures.kept w.ensures.references
-    (left_by w.result.1 (Ok c.in-Ok-Done.field-0) mid.intake w.result.0.intake c.in-Ok-Done.is w.ensures.intake)
-    (answered w.result.1 c.in-Ok-Done.field-0 Done
-    (λ a. FeedsText g.S.TokenSink.means (tokenizer_of mid) (tokenizer_of w.result.0) mid.intake.text w.result.0.intake.text (reply_in string_bytes a))
-    c.in-Ok-Done.is c.in-Ok-Done.field-0-is w.ensures.feeds)
-    c.settle.ensures.settled c.settle.ensures.done
+pub returns-clause-feeds : goal.returns-clause-feeds
+returns-clause-feeds g c =
+    let took : TookPiece c.args.self c.take_piece.new.self (Bytes c.args.bytes.now) = record { going_on = sym c.is_over.ensures ∙ c.if-is_over.false; takes = c.in_default.ensures.takes; kept = c.in_default.ensures.kept } in
+    IfOk-weaker c.read_on.result.1 _ _ (λ answer feeds. feeds c.args.self _ took) c.read_on.ensures.feeds
 
-pub returns-in-Ok-Done-clause-refused : goal.returns-in-Ok-Done-clause-refused
-returns-in-Ok-Done-clause-refused g c =
-    let mid = c.take_piece.new.self in
-    let w = c.feed_waiting-session in
-    done_refused g.S.TokenSink.means c.settle.result.1 c.args.self mid w.result.0 c.settle.result.0 _ (sym c.is_over.ensures ∙ c.if-is_over.false)
-    c.in_default.ensures.takes c.in_default.ensures.kept w.ensures.references
-    (left_by w.result.1 (Ok c.in-Ok-Done.field-0) mid.intake w.result.0.intake c.in-Ok-Done.is w.ensures.intake)
-    (answered w.result.1 c.in-Ok-Done.field-0 Done
-    (λ a. FeedsText g.S.TokenSink.means (tokenizer_of mid) (tokenizer_of w.result.0) mid.intake.text w.result.0.intake.text (reply_in string_bytes a))
-    c.in-Ok-Done.is c.in-Ok-Done.field-0-is w.ensures.feeds)
-    c.settle.ensures.settled c.settle.ensures.fault
+pub returns-clause-refused : goal.returns-clause-refused
+returns-clause-refused g c =
+    let took : TookPiece c.args.self c.take_piece.new.self (Bytes c.args.bytes.now) = record { going_on = sym c.is_over.ensures ∙ c.if-is_over.false; takes = c.in_default.ensures.takes; kept = c.in_default.ensures.kept } in
+    IfErr-weaker c.read_on.result.1 _ _ (λ error refused. refused c.args.self _ took) c.read_on.ensures.refused
 
-pub returns-in-Ok-Script-clause-feeds : goal.returns-in-Ok-Script-clause-feeds
-returns-in-Ok-Script-clause-feeds g c =
-    let mid = c.take_piece.new.self in
-    let w = c.feed_waiting-session in
-    pauses_piece g.S.TokenSink.means c.args.self mid w.result.0 _ _ (sym c.is_over.ensures ∙ c.if-is_over.false)
-    c.in_default.ensures.takes c.in_default.ensures.kept w.ensures.references
-    (left_by w.result.1 (Ok c.in-Ok-Script.field-0) mid.intake w.result.0.intake c.in-Ok-Script.is w.ensures.intake)
-    (λ is. cc)
-    (answered w.result.1 c.in-Ok-Script.field-0 (Script c.in-Ok-Script.handle)
-    (λ a. FeedsText g.S.TokenSink.means (tokenizer_of mid) (tokenizer_of w.result.0) mid.intake.text w.result.0.intake.text (reply_in string_bytes a))
-    c.in-Ok-Script.is c.in-Ok-Script.field-0-is w.ensures.feeds)
-
-pub returns-in-Err-answer-clause-refused : goal.returns-in-Err-answer-clause-refused
-returns-in-Err-answer-clause-refused g c =
-    let mid = c.take_piece.new.self in
-    let w = c.feed_waiting-session in
-    error_refused g.S.TokenSink.means c.in-Err-answer.error c.args.self mid w.result.0 _
-    (errored w.result.1 c.in-Err-answer.error (λ e. e ≡ Memory) c.in-Err-answer.is w.ensures.memory)
-    c.in_default.ensures.takes c.in_default.ensures.kept w.ensures.references
-    (left_by w.result.1 (Err c.in-Err-answer.error) mid.intake w.result.0.intake c.in-Err-answer.is w.ensures.intake)
-    (on_errored w.result.1 c.in-Err-answer.error _ c.in-Err-answer.is w.ensures.stops)
+pub read_on-requires : goal.read_on-requires
+read_on-requires g c =
+    took_going c.args.self c.take_piece.new.self (Bytes c.args.bytes.now) (record { going_on = sym c.is_over.ensures ∙ c.if-is_over.false; takes = c.in_default.ensures.takes; kept = c.in_default.ensures.kept })

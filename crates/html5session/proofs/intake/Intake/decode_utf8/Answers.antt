@@ -2,7 +2,7 @@ use Rattle.std.proofs.Common.{string_bytes, ◌++◌, sym, subst}
 use Rattle.std.proofs.lemmas.Str.{IsUtf8-string_bytes}
 use Rattle.utf8_pieces.specs.Pieces.{Decoding, IsNeverUtf8}
 use Rattle.html5session.proofs.Calls.{decoded_all, decoded_front}
-use Rattle.html5session.proofs.intake.Intake.decode.Goals as goal
+use Rattle.html5session.proofs.intake.Intake.decode_utf8.Goals as goal
 
 pub decode_front-requires : goal.decode_front-requires
 decode_front-requires g c =
