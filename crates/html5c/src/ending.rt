@@ -23,9 +23,7 @@ fn end_read(session: RecordSession<Global>) -> (RecordSession<Global>, u32)
 }
 
 // The status of the rest of a page's text, which was read or refused.
-fn status_of_rest(
-    rest: &Result<TokenizerResult<PausedAt, String<Global>>, SessionError>,
-) -> u32
+fn status_of_rest(rest: &Result<TokenizerResult<PausedAt, String<Global>>, SessionError>) -> u32
     ensures ok { IfOk rest.now (λ answer. result ≡ fed_status (reply_in string_bytes answer)) }
     ensures err { IfErr rest.now (λ error. result ≡ error_status error) }
 {

@@ -424,8 +424,8 @@ answer_err (Ok x) out error R ok refused is holds = absurd (no_error out error o
 answer_err (Err e) out error R ok refused is holds =
     let same : e ≡ error = same_err e error (sym refused ∙ is) in
     subst R same holds where
-  same_err : {E : Type 0} (e f : E) → ◌≡◌ {A = Result (Unit {0}) E} (Err e) (Err f) → e ≡ f
-  same_err e f is = cc is
+      same_err : {E : Type 0} (e f : E) → ◌≡◌ {A = Result (Unit {0}) E} (Err e) (Err f) → e ≡ f
+      same_err e f is = cc is
 
 -- after an end
 pub at_once-end : (result : Result (Unit {0}) SessionError) (s new : CleaningOf) → ReadsAtOnce s.intake

@@ -126,8 +126,8 @@ take-min n xs = ⊎_elim
     (λ (below : n < length xs). ap (λ m. take m xs) (omega (arith, below)))
     (λ (beyond : length xs ≤ n). ap (λ m. take m xs) (min-beyond beyond) ∙ take_all (length xs) xs (omega arith) ∙ sym (take_all n xs beyond))
     (cases_lt n (length xs)) where
-  min-beyond : length xs ≤ n → min n (length xs) ≡ length xs
-  min-beyond beyond = omega (arith, beyond)
+      min-beyond : length xs ≤ n → min n (length xs) ≡ length xs
+      min-beyond beyond = omega (arith, beyond)
 
 abbrev looks : List NamedReference → Option Encoding → Option Encoding → List ℕ → Bool
 looks references said fallback bytes = looks_further references said fallback (take 1024 bytes)
