@@ -3,6 +3,7 @@ use Rattle.std.proofs.Common.{◌≡◌, ℕ, Bool, true, false, List, [], ◌++
 use Rattle.std.specs.Prelude.{encode_utf8_all}
 use Rattle.std.proofs.lemmas.Str.{encodes-append}
 use Rattle.decoded_source.specs.Texts.{text_of}
+use Rattle.decoded_source.specs.declared.source.ErrorMode.TheVariants.{Replacement}
 use Rattle.decoded_source.proofs.Pieces.{text_of-piece}
 use Rattle.html5encodings.specs.Decoding.{at_end, decoded, given, start, state_after}
 use Rattle.html5encodings.specs.declared.encoding.Encoding.{Encoding}
@@ -36,7 +37,7 @@ module _ (references : List NamedReference) (d : PageDecoding) where
   encoding-unknown : d.known ≡ None → (rest : List ℕ) → encoding_with references d rest ≡ by (d.held ++ rest)
   encoding-unknown unknown rest = ap (λ (k : Option Known). encoding_or k (by (d.held ++ rest))) unknown
 
-  text-known : (k : Known) → d.known ≡ Some k → (rest : List ℕ) → text_with references d rest ≡ text_of (Some k.decoder) rest
+  text-known : (k : Known) → d.known ≡ Some k → (rest : List ℕ) → text_with references d rest ≡ text_of Replacement (Some k.decoder) rest
   text-known k known rest = ap (λ (m : Option Known). text_or m rest (page (d.held ++ rest))) known
 
   encoding-known : (k : Known) → d.known ≡ Some k → (rest : List ℕ) → encoding_with references d rest ≡ k.encoding

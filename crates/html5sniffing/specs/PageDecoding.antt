@@ -1,6 +1,7 @@
 -- A page's bytes that are pushed, and what is still to come of it.
 use Rattle.std.specs.Prelude.{◌≡◌, ◌<◌, ℕ, Bool, true, false, List, [], ◌++◌, length, Option, None, Some}
 use Rattle.decoded_source.specs.Texts.{text_of}
+use Rattle.decoded_source.specs.declared.source.ErrorMode.TheVariants.{Replacement}
 use Rattle.html5encodings.specs.Decoding.{start}
 use Rattle.html5encodings.specs.declared.encoding.Encoding.{Encoding}
 use Rattle.html5sniffing.specs.PageEncoding.{encoding_by, text_of_page}
@@ -43,7 +44,7 @@ encoding_with references d rest = encoding_or d.known (encoding_by references d.
 -- the text of these bytes by the decoder that is known, or else this one
 abbrev pub text_or : Option Known → List ℕ → List ℕ → List ℕ
 text_or None rest other = other
-text_or (Some known) rest other = text_of (Some known.decoder) rest
+text_or (Some known) rest other = text_of Replacement (Some known.decoder) rest
 
 -- the text that is still to come, if these bytes are
 abbrev pub text_with : List NamedReference → PageDecoding → List ℕ → List ℕ
