@@ -1,6 +1,6 @@
 -- Pages that are read by the encoding that they are in.
-use Rattle.std.proofs.Common.{◌≡◌, ℕ, List, [], ◌++◌, Option, None, Some, IfSome, Result, Ok, Err, sym, ap, subst, ◌∙◌, append-nil, take}
-use Rattle.std.specs.Prelude.{IsOk, OnOk}
+use Rattle.std.proofs.Common.{◌≡◌, ℕ, Bool, true, false, List, [], ◌++◌, Option, None, Some, IfSome, Result, Ok, Err, refl, sym, ap, subst, ◌∙◌, append-nil}
+use Rattle.std.specs.Prelude.{IsOk, OnOk, if◌then◌else◌}
 use Rattle.std.specs.Io.KnownBytes.{Consumes, IsAtEnd, prepend_known}
 use Rattle.std.specs.Str.{IsUtf8}
 use Rattle.std.proofs.lemmas.Bool.{true≢false}
@@ -8,7 +8,7 @@ use Rattle.decoded_source.specs.Texts.{text_up_to_error}
 use Rattle.decoded_source.proofs.Fatal.{sound}
 use Rattle.html5encodings.specs.Decoding.{start}
 use Rattle.html5encodings.specs.declared.encoding.Encoding.{Encoding}
-use Rattle.html5sniffing.specs.PageEncoding.{encoding_of_page, text_of_page}
+use Rattle.html5sniffing.specs.PageEncoding.{encoding_by, text_of_page}
 use Rattle.html5stream.specs.Pages.{ReadsPage}
 use Rattle.html5programs.specs.declared.encoded.PageDecoding.TheVariants.{ByPage, Fatal, Utf8Alone}
 use Rattle.html5programs.specs.Encodings.{IsTextIn}
@@ -39,9 +39,17 @@ module _ {T S : Type 0} (means : Making T S) (references : List NamedReference) 
     whole = page-text known unread left reads.bytes is reads.consumed reads.at_end;
   }
 
+-- what a source still gives whose first bytes were read: these, and then the rest; it isn't asked again once it was at its end
+pub given-again : (ended : Bool) (waiting front : List ℕ) (left mid : Option (List ℕ)) → left ≡ mid → waiting ≡ front → (ended ≡ true → IsAtEnd mid)
+    → IfSome mid (λ rest. (if ended then Some waiting else prepend_known waiting left) ≡ Some (front ++ rest))
+given-again ended waiting front left None same is end = tt
+given-again true waiting front left (Some rest) same is end =
+    ap Some is ∙ ap Some (sym (append-nil front)) ∙ ap (λ l. Some (front ++ l)) (sym (end refl))
+given-again false waiting front left (Some rest) same is end = ap (prepend_known waiting) same ∙ ap (λ l. Some (l ++ rest)) is
+
 -- the bytes of a page are its front and the rest, so its text up to the first error is that of both
 pub text-opened_fatally : (known mid fronted : Option (List ℕ)) (front : List ℕ) (encoding : Encoding) (encoding_by : List ℕ → Encoding) (unread : Option (List ℕ))
-    → Consumes known mid front → IfSome known (λ bytes. encoding ≡ encoding_by bytes) → fronted ≡ prepend_known front mid
+    → Consumes known mid front → IfSome known (λ bytes. encoding ≡ encoding_by bytes) → IfSome mid (λ rest. fronted ≡ Some (front ++ rest))
     → IfSome fronted (λ bytes. unread ≡ Some (text_up_to_error (start encoding) bytes))
     → IfSome known (λ bytes. unread ≡ Some (text_up_to_error (start (encoding_by bytes)) bytes))
 text-opened_fatally None mid fronted front encoding encoding_by unread given is same text = tt
@@ -52,18 +60,18 @@ text-opened_fatally (Some bytes) (Some rest) fronted front encoding encoding_by 
     text_is ∙ ap (λ e. Some (text_up_to_error (start e) (front ++ rest))) is ∙ ap (λ l. Some (text_up_to_error (start (encoding_by bytes)) l)) (sym given)
 
 module _ {T S : Type 0} (means : Making T S) (references : List NamedReference) (said : Encoding) where
-  whole-fatally : (known unread left : Option (List ℕ)) (text : List ℕ) → IfSome known (λ all. unread ≡ Some (text_up_to_error (start (encoding_of_page references (Some said) None (take 1024 all))) all))
+  whole-fatally : (known unread left : Option (List ℕ)) (text : List ℕ) → IfSome known (λ all. unread ≡ Some (text_up_to_error (start (encoding_by references (Some said) None all)) all))
       → Consumes unread left text → IsAtEnd left → IsUtf8 text
-      → IfSome known (λ all. IsTextIn (encoding_of_page references (Some said) None (take 1024 all)) all text)
+      → IfSome known (λ all. IsTextIn (encoding_by references (Some said) None all) all text)
   whole-fatally None unread left text is given end utf8 = tt
   whole-fatally (Some all) unread left text is given end utf8 =
-      let encoding = encoding_of_page references (Some said) None (take 1024 all) in
+      let encoding = encoding_by references (Some said) None all in
       let same = whole-text unread left (text_up_to_error (start encoding) all) text is given end in
       let no_error = sound (start encoding) all (subst IsUtf8 same utf8) in
       record { no_error = no_error.no_error; decoded = same ∙ no_error.text }
 
   pub reads-fatally : (known later unread left : Option (List ℕ)) (before after : S)
-      → IfSome known (λ all. unread ≡ Some (text_up_to_error (start (encoding_of_page references (Some said) None (take 1024 all))) all))
+      → IfSome known (λ all. unread ≡ Some (text_up_to_error (start (encoding_by references (Some said) None all)) all))
       → ReadsPage (λ s bytes. means.handed s (means.page references s bytes)) (record { unread = unread; left = left; before = means.begun before; after = after })
       → ReadsText means references (Fatal said) known later before after
   reads-fatally known later unread left before after is reads = record {

@@ -1,10 +1,10 @@
 -- The encoding of the pages that a program reads.
-use Rattle.std.specs.Prelude.{◌≡◌, List, ℕ, Bool, true, false, Option, None, Some, IfSome, encode_utf8_all, take}
+use Rattle.std.specs.Prelude.{◌≡◌, List, ℕ, Bool, true, false, Option, None, Some, IfSome, encode_utf8_all}
 use Rattle.std.specs.Io.KnownBytes.{Consumes, IsAtEnd}
 use Rattle.html5encodings.specs.Encodings.{encoding_of}
 use Rattle.html5encodings.specs.declared.encoding.Encoding.{Encoding}
 use Rattle.html5encodings.specs.Decoding.{IsIn, decoded}
-use Rattle.html5sniffing.specs.PageEncoding.{encoding_of_page, text_of_page}
+use Rattle.html5sniffing.specs.PageEncoding.{encoding_by, text_of_page}
 use Rattle.markup5ever.specs.NamedReferences.{NamedReference}
 use Rattle.html5programs.specs.declared.encoded.PageDecoding.{PageDecoding}
 use Rattle.html5programs.specs.declared.encoded.PageDecoding.TheVariants.{Utf8Alone, Fatal, ByPage}
@@ -36,5 +36,5 @@ pub record IsTextIn (by : Encoding) (bytes text : List ℕ) : Type 0 where
 abbrev pub IsTextOf : List NamedReference → PageDecoding → Option (List ℕ) → Option (List ℕ) → List ℕ → Type 0
 IsTextOf references Utf8Alone unread left text = Consumes unread left text × IsAtEnd left
 IsTextOf references (Fatal said) unread left text =
-    IfSome unread (λ bytes. IsTextIn (encoding_of_page references (Some said) None (take 1024 bytes)) bytes text)
+    IfSome unread (λ bytes. IsTextIn (encoding_by references (Some said) None bytes) bytes text)
 IsTextOf references (ByPage said) unread left text = IfSome unread (λ bytes. text ≡ text_of_page references said None bytes)

@@ -131,7 +131,7 @@ fn read_fatally<F: Filter<W>, W: Target + Drop, S: Source>(
         Err(error) => return (filter, Err(PageError::Stream(error))),
     };
     let encoding = opening.encoding;
-    let fronted = Fronted::new(opening.front, Lent { source });
+    let fronted = Fronted::new(opening.front, opening.is_ended, Lent { source });
     let mut text = DecodedSource::fatal(alloc, fronted, encoding);
     let (filter, read) = filter.read_page(alloc, &mut text, references);
     (filter, read_of_text(read, &text, encoding))
