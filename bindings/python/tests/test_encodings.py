@@ -90,6 +90,8 @@ class Encodings(unittest.TestCase):
         for codec, label in (("shift_jis", "shift_jis"), ("cp1251", "windows-1251"), ("gb18030", "gb18030"), ("big5", "big5")):
             for _ in range(20):
                 letters = "abc<>/ \n" + bytes(range(0xA1, 0xFA)).decode(codec, "ignore")
+                # Of Big5 Python knows other characters there than the Encoding Standard.
+                letters = [c for c in letters if codec != "big5" or not 0xC6 <= c.encode(codec)[0] <= 0xC8]
                 content = "".join(choose.choices(letters, k=choose.randrange(3000)))
                 page = content.encode(codec)
                 at, pieces = 0, []
