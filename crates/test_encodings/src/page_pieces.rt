@@ -11,12 +11,9 @@ fn text_pushed(rt: &impl Abort, alloc: Global, page: &[u8], size: usize, said: &
     let references = NamedReferences::check(alloc, Vec::new(alloc)).expect(rt, "a table");
     let mut decoder = PageDecoder::new(alloc, named(said), None);
     let mut text = String::new(alloc);
-    let mut rest = page;
-    while !rest.is_empty() {
-        let (piece, later) = rest.split_at(size.max(1).min(rest.len()));
+    for piece in page.chunks(size.max(1)) {
         let more = decoder.push(&references, piece).expect(rt, "memory");
         text.push_str(more.as_str()).expect(rt, "memory");
-        rest = later;
     }
     let last = decoder.finish(&references).expect(rt, "memory");
     text.push_str(last.as_str()).expect(rt, "memory");
