@@ -8,10 +8,10 @@
 #define FIRNUUBAL_H
 
 /* The version of the library, of this header and of the readers. */
-#define FIRNUUBAL_VERSION "0.6.0"
+#define FIRNUUBAL_VERSION "0.7.0"
 
 /* The same as a number, its three numbers a byte each. `html5_version` says it of the library that is linked. */
-#define FIRNUUBAL_VERSION_NUMBER 0x000600
+#define FIRNUUBAL_VERSION_NUMBER 0x000700
 
 #include <stdbool.h>
 #include <stddef.h>
@@ -53,7 +53,8 @@ enum html5_status {
     HTML5_POLICY_NOT_UTF8 = 11, /* the policy is no UTF-8 */
     HTML5_TAG = 12,             /* a pause: a tag to which the caller replies; what follows it waits */
     HTML5_ITEM_OPEN = 13,       /* a tag or another item is open, so no state can be set */
-    HTML5_LIMIT = 14            /* more bytes would be held than the limit: the piece was not taken */
+    HTML5_LIMIT = 14,           /* more bytes would be held than the limit: the piece was not taken */
+    HTML5_BEGUN = 15            /* bytes were fed already, so it can't be set in which encoding they are */
 };
 
 typedef enum html5_status html5_status;
@@ -66,7 +67,7 @@ static inline const char *html5_status_text(html5_status status) {
         "the page has ended, or an earlier call was refused for good", "the handle is closed",
         "an option has no such value", "a line of the policy is no rule that it takes", "the policy is no UTF-8",
         "paused after a tag to which the caller replies", "a tag or another item is open",
-        "more bytes would be held than the limit"};
+        "more bytes would be held than the limit", "bytes were fed already"};
     return (size_t)status < sizeof texts / sizeof *texts ? texts[status] : "no such status";
 }
 
@@ -146,7 +147,33 @@ html5_status html5_set_foreign(html5_handle *handle, bool foreign);
  */
 html5_status html5_set_limit(html5_handle *handle, uint64_t limit);
 
-/* Tells the end of the page. A fault that is still to be said, after a pause, is answered here too: HTML5_NOT_UTF8. */
+/*
+ * Reads the page in the encoding that it is in, of a tokenizer or of a cleaner. It is called before the first bytes are fed,
+ * else it answers HTML5_BEGUN. The label, one of the Encoding Standard, names the encoding that is said of the page, as by a
+ * header of the transport; where no encoding has it the answer is HTML5_BAD_OPTION. After any status but HTML5_DONE nothing
+ * changes. One of no bytes says nothing. The encoding is determined as by a browser: by a byte order mark; else by what is said;
+ * else by a `<meta charset=..>` in the first bytes; else it is UTF-8 where these are UTF-8, and windows-1252.
+ *
+ * Then no bytes are refused: those that are none of the encoding are read as U+FFFD. The first bytes are held
+ * until they tell the encoding: fewer than 1,024, or up to 65,536 of plain ASCII that tells nothing. They count for the limit;
+ * a byte of the page may be up to three of its text, by which what is held can go past the limit. Texts of `html5_insert` stay UTF-8. `html5_cleaner_restart` keeps what was said.
+ */
+html5_status html5_set_encoding(html5_handle *handle, const uint8_t *label, size_t len);
+#define html5_set_encoding(handle, label, len) html5_set_encoding(handle, html5_bytes_or_none(label), len)
+
+/*
+ * The name of the encoding in which the page is read since `html5_set_encoding`: "UTF-8", "Shift_JIS" and so on, with no zero
+ * byte after it. It copies as much of it as fits, 14 bytes at most, and answers how many; 0 before the first bytes of the
+ * page, or its end, told which it is.
+ */
+size_t html5_encoding(html5_handle *handle, uint8_t *out, size_t len);
+
+/*
+ * Tells the end of the page. A fault that is still to be said, after a pause, is answered here too: HTML5_NOT_UTF8.
+ *
+ * Since `html5_set_encoding` the rest of the page's text is read first, of bytes that are held. That may pause: then the answer
+ * is that of a feed, the page has not ended, and `html5_end` is called again, until it answers HTML5_DONE.
+ */
 html5_status html5_end(html5_handle *handle);
 
 /* Moves the next bytes of the records to `out`, as many as fit, and answers how many. */
@@ -178,7 +205,7 @@ void html5_free(html5_handle *handle);
  */
 html5_status html5_cleaner_new(html5_handle *handle, const uint8_t *policy, size_t len, uint64_t *place);
 
-/* Begins another page, by the same policy and limit. What was not taken is gone. */
+/* Begins another page, by the same policy, limit and encoding that was said. What was not taken is gone. */
 html5_status html5_cleaner_restart(html5_handle *handle);
 
 /*
