@@ -142,7 +142,7 @@ def refuse_each(bench, row):
 
 def fail_each_read(bench, row):
     """Lets each read of a byte fail in turn: one for each byte, and those that find the end, or none."""
-    reads = len(row.given) + row.at_end if row.failing else 0
+    reads = len(row.given) + 1 if row.failing else 0
     for place in range(1, reads + 2):
         faults = Faults(read=place, error=row.error, give=1)
         ran = bench.ran(row, faults)

@@ -57,8 +57,6 @@ class Row(NamedTuple):
     # Where a read of a byte fails, and how it does.
     failing: tuple = ()
     error: int = FAILED
-    # How many reads find the end.
-    at_end: int = 1
     # Where a write of a byte fails: how, what is said then and the status, and which writes, if not each.
     refusals: tuple = ()
     writes: tuple = ()
@@ -186,13 +184,13 @@ def refused():
 # line is closed by the next token; the last run of text ends at the end of the page; a tag brings the text in front of it.
 LINES = 'start 1 "p"\ntext "a'
 # A page whose encoding is to be found tells nothing where its first bytes can't be read: of these that is the whole page,
-# and its end, which is read again once they are told.
+# with its end.
 PAGES = [
-    (["text"], b"a<p>bc", "abc", [(0, ""), (7, "a")]),
+    (["text"], b"a<p>bc", "abc", [(0, "")]),
     (["tokens", "--fatal"], b"<p>a", LINES + '"\neof 1\n', [(0, ""), (3, 'start 1 "p"\n'), (4, LINES)]),
     (["links", "--fatal"], b"<a href=x>y<a href=z>", "1 x\n1 z\n", [(0, ""), (10, "1 x\n"), (21, "1 x\n1 z\n")]),
     (["text", "--fatal"], b"a<p>bc", "abc", [(0, ""), (4, "a")]),
-    (["text", "--encoding", "latin1"], b"a<p>b\xe9", "ab\u00e9", [(0, ""), (7, "a")]),
+    (["text", "--encoding", "latin1"], b"a<p>b\xe9", "ab\u00e9", [(0, "")]),
     (["clean", "--fatal"], b"<p>a<b x>c", "<p>a<b>c</b></p>", [(0, ""), (3, "<p>"), (9, "<p>a<b>")]),
 ]
 
@@ -201,7 +199,7 @@ def failing_reads():
     """Where a read fails."""
     for command, given, printed, after in PAGES:
         failing = tuple(Failing(reads, text, said("-", WHY_FAILED), 1) for reads, text in after)
-        yield Row(["firnuubal", *command], given, printed, failing=failing, at_end=1 if "--fatal" in command else 2)
+        yield Row(["firnuubal", *command], given, printed, failing=failing)
     yield Row(["firnuubal", "links", "--wrong"], b"a", "", said("--wrong", "no such option; try --help"), 2)
     for words, given, lines in [(PLAIN, MIXED, MIXED_LINES), (["html5tok"], META, META_LINES)]:
         yield Row(words, given, lines, failing=(Failing(0, "", UNREAD, 6),))
