@@ -1,10 +1,13 @@
 //! Where each token of a text stands, in bytes, beside the token.
 //!
 //! `read_places` reads a text and hands a `PlacedHandler` each token but the texts, with the whole run of text before it,
-//! and where both stand: the token from `begin` up to `end`, the run from `text` up to `begin`. So the source can be cut
-//! there. The definition is `placed_tokens` (specs/Placed): a token ends at the character that tells it, by the reading of
-//! the whole text, and begins at the last `<` after which markup may be open (`is_after_less_than`). The places follow
-//! one another (`places_follow`). That a token's place is the item of the grammar that tells it is tested, and not proved.
+//! and where both stand: the token from `begin` up to `end`, the run from `text` up to `begin`. The definition is
+//! `placed_tokens` (specs/Placed). A tag, a comment, an instruction and a doctype end at the character that tells them, by
+//! the reading of the whole text, and begin at the last `<` after which markup may be open (`is_after_less_than`). The
+//! places follow one another (`places_follow`).
+//!
+//! Tested, and not proved: that a token's place is the item of the grammar that tells it, and so that `text`, `begin` and
+//! `end` are in order and lie between characters of the text.
 //!
 //! The text is at hand as a whole, and is read character by character: that takes about three times as long as a reading
 //! by runs.

@@ -263,9 +263,9 @@ fn read_all<H: PlacedHandler<Token<A>>, A: Allocator + Copy>(
 /// it and where both stand. The standard's elements choose how the text after a tag is read, and `<![CDATA[` opens no
 /// section.
 ///
-/// A tag, a comment, a processing instruction and a doctype stand from their `<` up to what ends them. A run stands from
-/// where the token before it ends up to where the next one begins, as it is written, with its references and with what
-/// tells no token, such as `</>`. What the end cuts off, such as `<p cla`, stands in the last run's place. A parse error
+/// A tag, a comment, a processing instruction and a doctype stand from the last `<` after which markup may be open up to
+/// what tells them. A run stands from where the token before it ends up to where the next one begins, as it is written,
+/// with its references and with what tells no token, such as `</>`. What the end cuts off, such as `<p cla`, stands in the last run's place. A parse error
 /// stands at the character that is wrong, or at the one that decides it, as that after `&amp`; one that the end decides
 /// stands at the end.
 ///
