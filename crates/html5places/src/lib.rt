@@ -9,8 +9,8 @@
 //! Tested, and not proved: that a token's place is the item of the grammar that tells it, and so that `text`, `begin` and
 //! `end` are in order and lie between characters of the text.
 //!
-//! The text is at hand as a whole, and is read character by character: that takes about three times as long as a reading
-//! by runs.
+//! The text is at hand as a whole, and the tokenizer is fed its characters one by one, which takes it about three times as
+//! long as by runs (bench/RESULTS.md, `--cut 1`).
 #![tactic(auto)]
 
 mod handler;
