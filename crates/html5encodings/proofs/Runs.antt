@@ -7,7 +7,7 @@ use Rattle.std.proofs.lemmas.Bool.{and_parts}
 use Rattle.std.proofs.lemmas.Bool.Decides.{nat_tests}
 use Rattle.std.proofs.lemmas.Str.Ascii.{IsAscii-cons, IsAscii-nil}
 use Rattle.std.proofs.lemmas.Grind.{flat_map-append}
-use Rattle.std.proofs.lemmas.List.{take_all, take_more}
+use Rattle.std.proofs.lemmas.List.{drop_more, take_all, take_more}
 use Rattle.std.proofs.lemmas.Str.{IsUtf8-from_ascii, IsUtf8-nil, encodes-append, encodes-IsAscii}
 use lib.Utf8.{scalars}
 use Rattle.html5encodings.proofs.Utf8Texts.{given-text}
@@ -233,6 +233,27 @@ continues-byte from left (b ∷ bs) old new some is leaves valid =
           ∙ append_assoc old (encode_utf8_all h.0) (encode_utf8_all (given left bs))
           ∙ ap (λ t. old ++ t) (sym (encodes-append h.0 (given left bs)) ∙ ap (λ l. encode_utf8_all (h.0 ++ given l bs)) leaves);
       leaves = ap (λ l. state_after l bs) leaves;
+      valid = valid;
+    }
+
+-- one byte more
+pub continues-more : (from reached left : State) (bytes old mid new : List ℕ) (at : ℕ) → Continues from bytes old mid (at, reached) → at < length bytes
+    → new ≡ mid ++ encode_utf8_all (handled reached (get_or bytes at 0)).0 → left ≡ (handled reached (get_or bytes at 0)).1 → IsState left
+    → Continues from bytes old new (at + 1, left)
+continues-more from reached left bytes old mid new at before inside is leaves valid =
+    let h = handled reached (get_or bytes at 0) in
+    let rest = drop (at + 1) bytes in
+    let step = drop_more bytes at 0 inside in
+    record {
+      some = omega arith;
+      within = omega (arith, inside);
+      text =
+          ap (λ t. t ++ encode_utf8_all (given left rest)) is
+          ∙ append_assoc mid (encode_utf8_all h.0) (encode_utf8_all (given left rest))
+          ∙ ap (λ t. mid ++ t) (sym (encodes-append h.0 (given left rest)) ∙ ap (λ l. encode_utf8_all (h.0 ++ given l rest)) leaves
+          ∙ ap (λ l. encode_utf8_all (given reached l)) (sym step))
+          ∙ before.text;
+      leaves = ap (λ l. state_after l rest) leaves ∙ ap (state_after reached) (sym step) ∙ before.leaves;
       valid = valid;
     }
 

@@ -1,7 +1,10 @@
 //! Text at the front of bytes.
-ghost use Rattle.std.specs.Prelude.{◌≡◌, ◌<◌, ◌≤◌, IsAscii, IsUtf8, length, slice_index, take, true};
+ghost use Rattle.std.specs.Prelude.{◌≡◌, ◌↔◌, ◌+◌, ◌<◌, ◌≤◌, IsAscii, IsTrue, IsUtf8, length, slice_index, take, true};
 ghost use Rattle.std.specs.List.{list_all};
 ghost use Rattle.html5encodings.specs.Iso2022Jp.{is_plain};
+
+// How many bytes are looked at in one step.
+const BLOCK: usize = 64;
 
 // How many bytes at the front are ASCII.
 pub(crate) fn ascii_len(bytes: &[u8]) -> usize
@@ -9,12 +12,22 @@ pub(crate) fn ascii_len(bytes: &[u8]) -> usize
     ensures ascii { IsAscii (take result bytes.now) }
     ensures longest { result < length bytes.now → 0x80 ≤ slice_index bytes.now result }
 {
-    for (i, byte) in bytes.iter().enumerate() {
-        if *byte >= 0x80 {
-            return i;
-        }
+    let mut at = 0;
+    while bytes.len() - at >= BLOCK && bytes[at..at + BLOCK].is_ascii() {
+        at += BLOCK;
     }
-    bytes.len()
+    while at < bytes.len() && bytes[at] < 0x80 {
+        at += 1;
+    }
+    at
+}
+
+// Whether more than one byte of ASCII stands there.
+pub(crate) fn begins_ascii(bytes: &[u8], at: usize) -> bool
+    requires { at < length bytes.now }
+    ensures { IsTrue result ↔ ((at + 1 < length bytes.now) × (slice_index bytes.now at < 0x80) × (slice_index bytes.now (at + 1) < 0x80)) }
+{
+    bytes[at] < 0x80 && at + 1 < bytes.len() && bytes[at + 1] < 0x80
 }
 
 // How many bytes at the front are ASCII that neither shifts nor escapes, as ISO-2022-JP has it.

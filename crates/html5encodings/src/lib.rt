@@ -9,6 +9,7 @@ mod euc_jp;
 mod euc_kr;
 mod front;
 mod gb18030;
+mod handlers;
 mod index_big5;
 mod index_euc_kr;
 mod index_gb18030;

@@ -5,6 +5,7 @@ ghost use Rattle.html5encodings.specs.Steps.{Adds};
 
 use crate::encoding::{Encoding, SingleByte};
 use crate::front::{ascii_len, plain_len, text_len};
+use crate::handlers::{self, append_run};
 use crate::iso_2022_jp::{self, Begun, Charset, Iso2022Jp};
 use crate::miscellaneous::{append_replaced, append_user_defined};
 use crate::steps::error_if;
@@ -87,8 +88,8 @@ pub(crate) fn append<A: Allocator>(
     Ok(reached)
 }
 
-// Appends the text of bytes at the front, of all that stand for themselves or of one, and gives how many
-// they were and where they leave the decoder.
+// Appends the text of bytes at the front, of all that stand for themselves or of some that are handled one by
+// one, and gives how many they were and where they leave the decoder.
 fn append_front<A: Allocator>(
     state: State,
     bytes: &[u8],
@@ -103,7 +104,56 @@ fn append_front<A: Allocator>(
         text.push_str(unsafe { from_utf8_unchecked(&bytes[..len]) })?;
         return Ok((len, state));
     }
-    Ok((1, append_byte(state, bytes[0], text)?))
+    append_handled(state, bytes, text)
+}
+
+// Appends the text of bytes at the front that are handled one by one.
+fn append_handled<A: Allocator>(
+    state: State,
+    bytes: &[u8],
+    text: &mut String<A>,
+) -> Result<(usize, State), AllocError>
+    requires some { 0 < length bytes.now }
+    requires valid { IsState state }
+    ensures { IfOk result (Continues state bytes.now (string_bytes text.old) (string_bytes text.new)) }
+{
+    match state {
+        State::SingleByte(single) => {
+            let (len, left) = append_run::<handlers::SingleByte, A>(single, bytes, text)?;
+            Ok((len, State::SingleByte(left)))
+        }
+        State::Gb18030(lead) => {
+            let (len, left) = append_run::<handlers::Gb18030, A>(lead, bytes, text)?;
+            Ok((len, State::Gb18030(left)))
+        }
+        State::Big5(lead) => {
+            let (len, left) = append_run::<handlers::Big5, A>(lead, bytes, text)?;
+            Ok((len, State::Big5(left)))
+        }
+        State::EucJp(lead) => {
+            let (len, left) = append_run::<handlers::EucJp, A>(lead, bytes, text)?;
+            Ok((len, State::EucJp(left)))
+        }
+        State::Iso2022Jp(before) => {
+            let (len, left) = append_run::<handlers::Iso2022Jp, A>(before, bytes, text)?;
+            Ok((len, State::Iso2022Jp(left)))
+        }
+        State::ShiftJis(lead) => {
+            let (len, left) = append_run::<handlers::ShiftJis, A>(lead, bytes, text)?;
+            Ok((len, State::ShiftJis(left)))
+        }
+        State::EucKr(lead) => {
+            let (len, left) = append_run::<handlers::EucKr, A>(lead, bytes, text)?;
+            Ok((len, State::EucKr(left)))
+        }
+        State::Utf16(before) => {
+            let (len, left) = append_run::<handlers::Utf16, A>(before, bytes, text)?;
+            Ok((len, State::Utf16(left)))
+        }
+        State::Utf8(_) | State::Replacement(_) | State::UserDefined => {
+            Ok((1, append_byte(state, bytes[0], text)?))
+        }
+    }
 }
 
 // How many bytes at the front stand for themselves: ASCII in most states, and in UTF-8 all text.

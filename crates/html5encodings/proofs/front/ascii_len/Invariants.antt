@@ -1,6 +1,21 @@
-use Rattle.std.proofs.Common.{take}
+use Rattle.std.proofs.Common.{take, length, ◌-◌, ◌≤◌}
 use Rattle.std.specs.Prelude.{IsAscii}
 use Rattle.html5encodings.proofs.front.ascii_len.Given as goal
 
-abbrev pub invariant-loop-i : goal.invariant-loop-i
-invariant-loop-i l = IsAscii (take l.i l.bytes)
+abbrev pub invariant-loop-at : goal.invariant-loop-at
+invariant-loop-at l = record {
+  within : l.at ≤ length l.bytes;
+  ascii : IsAscii (take l.at l.bytes);
+}
+
+abbrev pub decreases-loop-at : goal.decreases-loop-at
+decreases-loop-at l = length l.bytes - l.at
+
+abbrev pub invariant-loop-at-2 : goal.invariant-loop-at-2
+invariant-loop-at-2 l = record {
+  within : l.at ≤ length l.bytes;
+  ascii : IsAscii (take l.at l.bytes);
+}
+
+abbrev pub decreases-loop-at-2 : goal.decreases-loop-at-2
+decreases-loop-at-2 l = length l.bytes - l.at

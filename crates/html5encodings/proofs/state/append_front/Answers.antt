@@ -1,5 +1,5 @@
 use Rattle.std.proofs.Common.{string_bytes}
-use Rattle.html5encodings.proofs.Runs.{continues-front, continues-byte}
+use Rattle.html5encodings.proofs.Runs.{continues-front}
 use Rattle.html5encodings.proofs.state.append_front.Goals as goal
 
 pub from_utf8_unchecked-requires : goal.from_utf8_unchecked-requires
@@ -10,8 +10,3 @@ returns-then-len-gt0 g c =
     continues-front c.args.state c.args.bytes.now (string_bytes c.args.text.now) (string_bytes c.push_str.new.self) _ c.front_len-len.result
     c.requires.valid c.if-len-gt0.true c.front_len-len.ensures.within c.front_len-len.ensures.stands
     c.from_utf8_unchecked.ensures c.in_ok-push_str.ensures.bytes
-
-pub returns : goal.returns
-returns g c =
-    continues-byte c.args.state c.in_ok-append_byte.field-0 c.args.bytes.now (string_bytes c.args.text.now) (string_bytes c.append_byte.new.text) c.requires.some
-    c.in_ok-append_byte.ensures.text c.in_ok-append_byte.ensures.leaves c.in_ok-append_byte.ensures.valid
