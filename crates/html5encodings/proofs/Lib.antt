@@ -1,4 +1,5 @@
 pub mod Adding
+pub mod AsciiRuns
 pub mod BeforeErrors
 pub mod LabelRows
 pub mod Lengths

@@ -18,6 +18,7 @@ pub enum Lead {
 }
 
 // Appends what a byte gives after a lead or none, and gives the lead that it leaves.
+#[inline(always)]
 pub(crate) fn append_byte<A: Allocator>(
     lead: Option<Lead>,
     byte: u8,

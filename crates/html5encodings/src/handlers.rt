@@ -66,6 +66,7 @@ impl Handler for SingleByte {
 
     ghost state = { λ h. state.SingleByte h };
 
+    #[inline(always)]
     #[tactic(auto, unfolding(crate::specs::Decoding::handled))]
     fn append_byte<A: Allocator>(
         single: encoding::SingleByte,
@@ -91,6 +92,7 @@ impl Handler for Gb18030 {
 
     ghost state = { λ h. state.Gb18030 h };
 
+    #[inline(always)]
     #[tactic(auto, unfolding(crate::specs::Decoding::handled))]
     fn append_byte<A: Allocator>(
         lead: Option<gb18030::Lead>,
@@ -115,6 +117,7 @@ impl Handler for Big5 {
 
     ghost state = { λ h. state.Big5 h };
 
+    #[inline(always)]
     #[tactic(auto, unfolding(crate::specs::Decoding::handled))]
     fn append_byte<A: Allocator>(
         lead: Option<u8>,
@@ -139,6 +142,7 @@ impl Handler for EucJp {
 
     ghost state = { λ h. state.EucJp h };
 
+    #[inline(always)]
     #[tactic(auto, unfolding(crate::specs::Decoding::handled))]
     fn append_byte<A: Allocator>(
         lead: Option<euc_jp::Lead>,
@@ -163,6 +167,7 @@ impl Handler for Iso2022Jp {
 
     ghost state = { λ h. state.Iso2022Jp h };
 
+    #[inline(always)]
     #[tactic(auto, unfolding(crate::specs::Decoding::handled))]
     fn append_byte<A: Allocator>(
         before: jis::Iso2022Jp,
@@ -187,6 +192,7 @@ impl Handler for ShiftJis {
 
     ghost state = { λ h. state.ShiftJis h };
 
+    #[inline(always)]
     #[tactic(auto, unfolding(crate::specs::Decoding::handled))]
     fn append_byte<A: Allocator>(
         lead: Option<u8>,
@@ -211,6 +217,7 @@ impl Handler for EucKr {
 
     ghost state = { λ h. state.EucKr h };
 
+    #[inline(always)]
     #[tactic(auto, unfolding(crate::specs::Decoding::handled))]
     fn append_byte<A: Allocator>(
         lead: Option<u8>,
@@ -235,6 +242,7 @@ impl Handler for Utf16 {
 
     ghost state = { λ h. state.Utf16 h };
 
+    #[inline(always)]
     #[tactic(auto, unfolding(crate::specs::Decoding::handled))]
     fn append_byte<A: Allocator>(
         before: units::SharedUtf16,

@@ -8,6 +8,7 @@ use crate::steps::append_or_restored;
 use std::alloc::{AllocError, Allocator};
 
 // Appends what a byte gives after a lead or none, and gives the lead that it leaves.
+#[inline(always)]
 pub(crate) fn append_byte<A: Allocator>(
     lead: Option<u8>,
     byte: u8,

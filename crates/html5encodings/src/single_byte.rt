@@ -47,6 +47,7 @@ fn index_of(single: SingleByte) -> &'static [char; 128]
 }
 
 // Appends the character of a byte.
+#[inline(always)]
 pub(crate) fn append_byte<A: Allocator>(
     single: SingleByte,
     byte: u8,

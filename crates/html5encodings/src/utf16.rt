@@ -15,6 +15,7 @@ pub struct SharedUtf16 {
 }
 
 // Appends what a byte gives.
+#[inline(always)]
 pub(crate) fn append_byte<A: Allocator>(
     before: SharedUtf16,
     byte: u8,

@@ -1,11 +1,10 @@
-use Rattle.std.proofs.Common.{take, length, ◌-◌, ◌≤◌}
-use Rattle.std.specs.Prelude.{IsAscii}
+use Rattle.std.proofs.Common.{ℕ, ◌-◌, ◌<◌, ◌≤◌, length, get_or}
 use Rattle.html5encodings.proofs.front.ascii_len.Given as goal
 
 abbrev pub invariant-loop-at : goal.invariant-loop-at
 invariant-loop-at l = record {
   within : l.at ≤ length l.bytes;
-  ascii : IsAscii (take l.at l.bytes);
+  ascii : (k : ℕ) → k < l.at → get_or l.bytes k 0 < 128;
 }
 
 abbrev pub decreases-loop-at : goal.decreases-loop-at
@@ -14,7 +13,7 @@ decreases-loop-at l = length l.bytes - l.at
 abbrev pub invariant-loop-at-2 : goal.invariant-loop-at-2
 invariant-loop-at-2 l = record {
   within : l.at ≤ length l.bytes;
-  ascii : IsAscii (take l.at l.bytes);
+  ascii : (k : ℕ) → k < l.at → get_or l.bytes k 0 < 128;
 }
 
 abbrev pub decreases-loop-at-2 : goal.decreases-loop-at-2

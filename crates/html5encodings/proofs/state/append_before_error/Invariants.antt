@@ -1,4 +1,4 @@
-use Rattle.std.proofs.Common.{◌≡◌, ◌+◌, ◌++◌, ◌≤◌, length, drop, string_bytes}
+use Rattle.std.proofs.Common.{◌≡◌, ◌+◌, ◌++◌, ◌≤◌, drop, string_bytes}
 use Rattle.std.specs.Prelude.{IfSome, encode_utf8_all}
 use Rattle.html5encodings.specs.Decoding.{IsState, given_before_error, len_before_error, state_before_error}
 use Rattle.html5encodings.proofs.state.append_before_error.Given as goal
