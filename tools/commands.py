@@ -11,14 +11,18 @@ before an error, the line says that as `apart`. The programs are those that `rt 
 Each run that differs is said, and then the status is 1.
 """
 
+import contextlib
 import json
 import os
 import pathlib
+import pty
 import re
 import socket
 import subprocess
 import sys
 import tempfile
+import time
+import tty
 
 import man
 import version
@@ -236,6 +240,43 @@ def writes_of(folder, words, given):
     return writes, process.returncode
 
 
+def shown_on_terminal(folder, words, pieces):
+    """What a program shows on a terminal that is its standard error, while pieces come half a second apart; what it prints."""
+    ours, its = pty.openpty()
+    tty.setraw(its)
+    with subprocess.Popen(
+        [PROGRAMS["firnuubal"], *words], cwd=folder, stdin=subprocess.PIPE, stdout=subprocess.PIPE, stderr=its
+    ) as process:
+        for piece in pieces:
+            process.stdin.write(piece)
+            process.stdin.flush()
+            time.sleep(0.5)
+        process.stdin.close()
+        printed = process.stdout.read()
+    os.close(its)
+    shown = b""
+    with open(ours, "rb", buffering=0) as terminal, contextlib.suppress(OSError):
+        while more := terminal.read(MB):
+            shown += more
+    return shown, printed
+
+
+def with_progress(folder):
+    """Megabytes and a rate on a terminal, taken away at the end; and nothing where standard error is none."""
+    pieces = [b"a" * 60_000, b"b" * 150_000]
+    line = rb"\r0\.[01] MB, [0-9]+ MB/s\x1b\[K"
+    for command in ["tokens", "links", "text", "clean"]:
+        words = [command, "--progress"]
+        alone = run(folder, ["firnuubal", command], input=b"".join(pieces))
+        shown, printed = shown_on_terminal(folder, words, pieces)
+        right = printed == alone.stdout and re.fullmatch(rb"(%s)+\r\x1b\[K" % line, shown)
+        yield "" if right else f"{words}: {shown!r}"
+        shown, printed = shown_on_terminal(folder, [command], pieces)
+        yield "" if (shown, printed) == (b"", alone.stdout) else f"{command} shows {shown!r}"
+        ran = run(folder, ["firnuubal", *words], input=b"".join(pieces))
+        yield fault(words, ran, alone.stdout.decode(), "", 0)
+
+
 def by_pages(folder):
     """A page of output is 65,536 bytes, and html5tok writes it after the piece of input that fills it."""
     plain = ["--state", "plaintext"]
@@ -267,7 +308,7 @@ def main():
     with tempfile.TemporaryDirectory() as name:
         folder = pathlib.Path(name)
         made_in(folder)
-        found = [answer for part in [*parts, to_a_closed_pipe, by_pages] for answer in part(folder)]
+        found = [answer for part in [*parts, to_a_closed_pipe, with_progress, by_pages] for answer in part(folder)]
     faults = list(filter(None, found))
     for answer in faults:
         print(f"tools/commands.py: {answer}")

@@ -21,10 +21,10 @@ _firnuubal() {
     *)
         ((COMP_CWORD == 1)) && words="tokens links text clean --help --version"
         [[ $word == -* ]] && case ${COMP_WORDS[1]} in
-        tokens) words="--encoding --fatal --entities --format --with-filename --no-filename --help --version" ;;
-        links) words="--encoding --fatal --entities --format --with-filename --no-filename --base --help --version" ;;
-        text) words="--encoding --fatal --entities --help --version" ;;
-        clean) words="--policy --print-policy --encoding --fatal --entities --help --version" ;;
+        tokens) words="--encoding --fatal --entities --progress --format --with-filename --no-filename --help --version" ;;
+        links) words="--encoding --fatal --entities --progress --format --with-filename --no-filename --base --help --version" ;;
+        text) words="--encoding --fatal --entities --progress --help --version" ;;
+        clean) words="--policy --print-policy --encoding --fatal --entities --progress --help --version" ;;
         esac
         ;;
     esac

@@ -40,7 +40,8 @@ before_word name = record { name = name; takes_word = true }
 -- those of each command
 abbrev pub reading_options : List KnownOption
 reading_options =
-    flag (codes "--help") ∷ flag (codes "--version") ∷ before_word (codes "--encoding") ∷ flag (codes "--fatal") ∷ before_word (codes "--entities") ∷ []
+    flag (codes "--help") ∷ flag (codes "--version") ∷ before_word (codes "--encoding") ∷ flag (codes "--fatal") ∷ before_word (codes "--entities")
+    ∷ flag (codes "--progress") ∷ []
 
 -- and of those that print in a format, with names in front
 abbrev pub format_options : List KnownOption

@@ -43,6 +43,11 @@ const ENTITIES: Choice<'static> = Choice {
     takes_word: true,
 };
 
+const PROGRESS: Choice<'static> = Choice {
+    name: "--progress",
+    takes_word: false,
+};
+
 const FORMAT: Choice<'static> = Choice {
     name: "--format",
     takes_word: true,
@@ -83,14 +88,15 @@ const PRINT_POLICY: Choice<'static> = Choice {
     takes_word: false,
 };
 
-static READING: [Choice<'static>; 5] = [HELP, VERSION, ENCODING, FATAL, ENTITIES];
+static READING: [Choice<'static>; 6] = [HELP, VERSION, ENCODING, FATAL, ENTITIES, PROGRESS];
 
-static FORMATTING: [Choice<'static>; 10] = [
+static FORMATTING: [Choice<'static>; 11] = [
     HELP,
     VERSION,
     ENCODING,
     FATAL,
     ENTITIES,
+    PROGRESS,
     FORMAT,
     NAMES,
     NAMES_LONG,
@@ -98,12 +104,13 @@ static FORMATTING: [Choice<'static>; 10] = [
     NO_NAMES_LONG,
 ];
 
-static LINKING: [Choice<'static>; 11] = [
+static LINKING: [Choice<'static>; 12] = [
     HELP,
     VERSION,
     ENCODING,
     FATAL,
     ENTITIES,
+    PROGRESS,
     FORMAT,
     NAMES,
     NAMES_LONG,
@@ -112,12 +119,13 @@ static LINKING: [Choice<'static>; 11] = [
     BASE,
 ];
 
-static CLEANING: [Choice<'static>; 7] = [
+static CLEANING: [Choice<'static>; 8] = [
     HELP,
     VERSION,
     ENCODING,
     FATAL,
     ENTITIES,
+    PROGRESS,
     POLICY,
     PRINT_POLICY,
 ];

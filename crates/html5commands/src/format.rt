@@ -7,7 +7,8 @@ ghost use Rattle.html5programs.specs.Words.{asked_by, known_options, words_asked
 
 use devices::{Logged, Target};
 use html5programs::{
-    Choice, Ending, Filter, Input, Messages, Output, Program, Words, filter_by_words, words_of,
+    Choice, Ending, Filter, Input, Messages, Meters, Output, Program, Words, filter_by_words,
+    words_of,
 };
 use std::alloc::Global;
 use std::fs::Files;
@@ -89,7 +90,7 @@ fn format_by_words<E: Target>(
 pub fn filter_in_format<
     F: Filter<Output<O>>,
     J: Filter<Output<O>>,
-    R: Files + Alloc<A = Global>,
+    R: Files + Alloc<A = Global> + Meters,
     I: Read,
     O: Write + Drop,
     E: Target,
@@ -97,7 +98,7 @@ pub fn filter_in_format<
     rt: &R,
     program: Program<'_>,
     words: &[String],
-    stdin: &mut Input<I>,
+    stdin: &mut Input<I, R::Meter>,
     stdout: O,
     messages: &mut Messages<'_, E>,
 ) -> (Logged<Output<O>>, Ending)

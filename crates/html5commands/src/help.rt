@@ -50,6 +50,11 @@ Without a FILE, or where it is -, standard input is read. After -- all words are
                    Example: firnuubal ",
             $command,
             " --entities names.txt page.html
+  --progress       on standard error, where that is a terminal, how many megabytes of a file were
+                   read, and how many a second
+                   Example: firnuubal ",
+            $command,
+            " --progress page.html > out
 ",
             $($more,)*
             "  --help           this text

@@ -18,7 +18,7 @@ use html5extract::token_lines::TokenLines;
 use html5json::json_links::JsonLinks;
 use html5json::json_tokens::JsonTokens;
 use html5programs::{
-    Ending, Input, Messages, Output, filter_by_words, no_such, print_text, print_version,
+    Ending, Input, Messages, Meters, Output, filter_by_words, no_such, print_text, print_version,
 };
 use std::alloc::Global;
 use std::fs::Files;
@@ -33,11 +33,11 @@ const NO_COMMAND: &str = "a command is missing: tokens, links, text or clean; tr
 const NAMES: [&str; 6] = ["tokens", "links", "text", "clean", "--help", "--version"];
 
 // Runs a command by the words after it.
-fn by_command<R: Files + Alloc<A = Global>, I: Read, O: Write + Drop, E: Target>(
+fn by_command<R: Files + Alloc<A = Global> + Meters, I: Read, O: Write + Drop, E: Target>(
     rt: &R,
     command: Command,
     words: &[String],
-    stdin: &mut Input<I>,
+    stdin: &mut Input<I, R::Meter>,
     stdout: O,
     messages: &mut Messages<'_, E>,
 ) -> (Logged<Output<O>>, Ending)
@@ -108,10 +108,10 @@ fn by_first_word<O: Write + Drop, E: Target>(
 
 /// Runs the program by the words after its name: a command, and its options and files. It gives the output
 /// back, and how it ended. What a file holds that is opened by its path no contract says.
-pub fn command_by_words<R: Files + Alloc<A = Global>, I: Read, O: Write + Drop, E: Target>(
+pub fn command_by_words<R: Files + Alloc<A = Global> + Meters, I: Read, O: Write + Drop, E: Target>(
     rt: &R,
     words: &[String],
-    stdin: &mut Input<I>,
+    stdin: &mut Input<I, R::Meter>,
     stdout: O,
     messages: &mut Messages<'_, E>,
 ) -> (Logged<Output<O>>, Ending)
@@ -157,13 +157,12 @@ pub fn command_by_words<R: Files + Alloc<A = Global>, I: Read, O: Write + Drop, 
 
 /// Runs the program by these words, as `command_by_words` says, and answers the status that the process
 /// ends with. Where the reader of the output goes away it ends without a word.
-pub fn run_by_words<R: Files + Alloc<A = Global>, I: Read + Drop, O: Write + Drop, E: Write + Drop>(
-    rt: &R,
-    words: &[String],
-    stdin: I,
-    stdout: O,
-    stderr: E,
-) -> u8
+pub fn run_by_words<
+    R: Files + Alloc<A = Global> + Meters,
+    I: Read + Drop,
+    O: Write + Drop,
+    E: Write + Drop,
+>(rt: &R, words: &[String], stdin: I, stdout: O, stderr: E) -> u8
     ensures status { Contains (0 ∷ 1 ∷ 2 ∷ []) result }
     ensures usage { IfSome (command_named (map string_bytes words.now)) (λ named.
         HasWrongWord (asked_of_command named) → Contains (1 ∷ 2 ∷ []) result) }
@@ -194,12 +193,12 @@ fn end_without_words<E: Target>(fault: Fault, messages: &mut Messages<'_, E>) ->
 
 /// Runs the program by the words that the process was given, and answers the status that it ends with.
 /// No contract says which words these are.
-pub fn run<R: Env + Files + Alloc<A = Global>, I: Read + Drop, O: Write + Drop, E: Write + Drop>(
-    rt: &R,
-    stdin: I,
-    stdout: O,
-    stderr: E,
-) -> u8
+pub fn run<
+    R: Env + Files + Alloc<A = Global> + Meters,
+    I: Read + Drop,
+    O: Write + Drop,
+    E: Write + Drop,
+>(rt: &R, stdin: I, stdout: O, stderr: E) -> u8
     ensures { Contains (0 ∷ 1 ∷ 2 ∷ []) result }
 {
     match given_words(rt) {

@@ -86,9 +86,3 @@ pub on_ok-of : {A B C D : Type 0} (r : Result A B) (q : Result C D) (P : Type 0)
 on_ok-of r (Err e) P sure holds = tt
 on_ok-of (Ok x) (Ok y) P sure holds = holds
 on_ok-of (Err d) (Ok y) P sure holds = absurd (true≢false (sym sure))
-
--- a text that was read as UTF-8
-pub reads-utf8 : {T S : Type 0} (means : Making T S) (references : List NamedReference) (unread left : Option (List ℕ)) (before after : S)
-    → ReadsPage (λ s bytes. means.handed s (means.page references s bytes)) (record { unread = unread; left = left; before = means.begun before; after = after })
-    → ReadsText means references Utf8Alone unread left before after
-reads-utf8 means references unread left before after reads = record { text = reads.bytes; utf8 = reads.utf8; told = reads.told; whole = (reads.consumed, reads.at_end) }

@@ -5,6 +5,7 @@ ghost use Rattle.html5programs.specs.Filtering.{ReadsText};
 
 use crate::filter::Filter;
 use crate::input::Input;
+use crate::progress::Meter;
 use decoded_source::DecodedSource;
 use devices::{Source, Target};
 use html5encodings::Encoding;
@@ -138,7 +139,10 @@ fn read_fatally<F: Filter<W>, W: Target + Drop, S: Source>(
 }
 
 // The same answer in words of pages, where the bytes of an input were read as UTF-8.
-fn read_of_utf8<R>(read: Result<(), StreamError>, input: &Input<R>) -> Result<(), PageError>
+fn read_of_utf8<R, M: Meter>(
+    read: Result<(), StreamError>,
+    input: &Input<R, M>,
+) -> Result<(), PageError>
     ensures { OnOk result (IsOk read) }
 {
     match read {
@@ -153,11 +157,11 @@ fn read_of_utf8<R>(read: Result<(), StreamError>, input: &Input<R>) -> Result<()
 }
 
 // Reads a page by a filter, as UTF-8.
-fn read_utf8<F: Filter<W>, W: Target + Drop, R: Read>(
+fn read_utf8<F: Filter<W>, W: Target + Drop, R: Read, M: Meter>(
     alloc: Global,
     filter: F,
     references: &NamedReferences,
-    input: &mut Input<R>,
+    input: &mut Input<R, M>,
 ) -> (F, Result<(), PageError>)
     ensures text { OnOk result.1 (ReadsText F.means references.now PageDecoding.Utf8Alone
         (R.remaining input.old.inner) (R.remaining input.new.inner) (F.state filter) (F.state result.0)) }
@@ -169,12 +173,12 @@ fn read_utf8<F: Filter<W>, W: Target + Drop, R: Read>(
 }
 
 /// Reads a page by a filter.
-pub fn read_page<F: Filter<W>, W: Target + Drop, R: Read>(
+pub fn read_page<F: Filter<W>, W: Target + Drop, R: Read, M: Meter>(
     alloc: Global,
     filter: F,
     references: &NamedReferences,
     decoding: PageDecoding,
-    input: &mut Input<R>,
+    input: &mut Input<R, M>,
 ) -> (F, Result<(), PageError>)
     ensures text { OnOk result.1 (ReadsText F.means references.now decoding
         (R.remaining input.old.inner) (R.remaining input.new.inner) (F.state filter) (F.state result.0)) }

@@ -1,7 +1,7 @@
 //! Files that a filter reads, one after the other.
 ghost use Rattle.std.specs.Prelude.{◌≡◌, ◌≢◌, true, IsOk, OnOk, map};
 ghost use Rattle.html5programs.specs.Ending.{PrintsFiles};
-ghost use Rattle.html5programs.specs.Filtering.{ReadsFile, ReadsFiles};
+ghost use Rattle.html5programs.specs.Filtering.{ReadsFile, ReadsFiles, ReadsText};
 
 use crate::encoded::{PageDecoding, PageError, read_page};
 use crate::ending::Ending;
@@ -9,6 +9,7 @@ use crate::filter::Filter;
 use crate::input::Input;
 use crate::messages::Messages;
 use crate::output::Output;
+use crate::progress::{Meter, Meters};
 use devices::{Logged, Printer, Target};
 use html5stream::StreamError;
 use markup5ever::data::NamedReferences;
@@ -76,13 +77,33 @@ fn read_or_error(read: Result<(), PageError>, fault: Option<io::Error>) -> Resul
     }
 }
 
+// Reads what is open, and shows by the meter how much of it was read.
+fn read_input<F: Filter<W>, W: Target + Drop, R: Read, M: Meter>(
+    alloc: Global,
+    filter: F,
+    references: &NamedReferences,
+    decoding: PageDecoding,
+    meter: Option<M>,
+    input: &mut Input<R, M>,
+) -> (F, Result<(), FileError>)
+    ensures text { OnOk result.1 (ReadsText F.means references.now decoding
+        (R.remaining input.old.inner) (R.remaining input.new.inner) (F.state filter) (F.state result.0)) }
+    ensures read { OnOk result.1 (decoding ≡ PageDecoding.Utf8Alone → input.new.failures ≡ input.old.failures) }
+{
+    input.begin_meter(meter);
+    let (filter, read) = read_page(alloc, filter, references, decoding, input);
+    input.end_meter();
+    (filter, read_or_error(read, input.fault()))
+}
+
 // Reads a file, or standard input where it is named `-`.
-fn read_file<F: Filter<W>, W: Target + Drop, R: Files + Alloc<A = Global>, I: Read>(
+fn read_file<F: Filter<W>, W: Target + Drop, R: Files + Alloc<A = Global> + Meters, I: Read>(
     rt: &R,
     filter: F,
     references: &NamedReferences,
     decoding: PageDecoding,
-    stdin: &mut Input<I>,
+    is_watched: bool,
+    stdin: &mut Input<I, R::Meter>,
     file: &str,
 ) -> (F, Result<(), FileError>)
     ensures file { OnOk result.1 (ReadsFile F.means references.now decoding file.now
@@ -93,27 +114,33 @@ fn read_file<F: Filter<W>, W: Target + Drop, R: Files + Alloc<A = Global>, I: Re
     if let Err(error) = filter.name_file(rt.alloc(), file) {
         return (filter, Err(FileError::Stream(error)));
     }
+    let meter = if is_watched { rt.meter() } else { None };
     if file == "-" {
-        let (filter, read) = read_page(rt.alloc(), filter, references, decoding, stdin);
-        return (filter, read_or_error(read, stdin.fault()));
+        return read_input(rt.alloc(), filter, references, decoding, meter, stdin);
     }
     match File::open(rt, file) {
         Ok(opened) => {
             let mut opened = Input::new(opened);
-            let (filter, read) = read_page(rt.alloc(), filter, references, decoding, &mut opened);
-            (filter, read_or_error(read, opened.fault()))
+            read_input(rt.alloc(), filter, references, decoding, meter, &mut opened)
         }
         Err(fault) => (filter, Err(FileError::System(fault))),
     }
 }
 
 // Reads the files, up to one that can't be printed.
-fn read_files<F: Filter<W>, W: Target + Drop, R: Files + Alloc<A = Global>, I: Read, E: Target>(
+fn read_files<
+    F: Filter<W>,
+    W: Target + Drop,
+    R: Files + Alloc<A = Global> + Meters,
+    I: Read,
+    E: Target,
+>(
     rt: &R,
     filter: F,
     references: &NamedReferences,
     decoding: PageDecoding,
-    stdin: &mut Input<I>,
+    is_watched: bool,
+    stdin: &mut Input<I, R::Meter>,
     files: &[&str],
     messages: &mut Messages<'_, E>,
 ) -> (F, Outcome)
@@ -124,7 +151,9 @@ fn read_files<F: Filter<W>, W: Target + Drop, R: Files + Alloc<A = Global>, I: R
     let mut filter = filter;
     let mut outcome = Outcome::Read;
     for file in files {
-        let (afterwards, read) = read_file(rt, filter, references, decoding, stdin, file);
+        let (afterwards, read) = read_file(
+            rt, filter, references, decoding, is_watched, stdin, file,
+        );
         filter = afterwards;
         match read {
             Ok(()) => {}
@@ -184,10 +213,10 @@ fn say_unprinted<O: Write, E: Target>(
     }
 }
 
-/// Reads the files, decoded so, and prints what the filter makes of them.
+/// Reads the files, decoded so, and prints what the filter makes of them. Where it is watched, it shows how much was read.
 pub fn filter_files<
     F: Filter<Output<O>>,
-    R: Files + Alloc<A = Global>,
+    R: Files + Alloc<A = Global> + Meters,
     I: Read,
     O: Write + Drop,
     E: Target,
@@ -195,9 +224,10 @@ pub fn filter_files<
     rt: &R,
     references: &NamedReferences,
     decoding: PageDecoding,
+    is_watched: bool,
     settings: F::Settings,
     files: &[&str],
-    stdin: &mut Input<I>,
+    stdin: &mut Input<I, R::Meter>,
     stdout: O,
     messages: &mut Messages<'_, E>,
 ) -> (Logged<Output<O>>, Ending)
@@ -208,7 +238,9 @@ pub fn filter_files<
 {
     let printer = Printer::new(rt.alloc(), Output::new(stdout));
     let filter = F::new(rt.alloc(), printer, settings);
-    let (filter, outcome) = read_files(rt, filter, references, decoding, stdin, files, messages);
+    let (filter, outcome) = read_files(
+        rt, filter, references, decoding, is_watched, stdin, files, messages,
+    );
     let (target, written) = filter.into_printer().finish();
     let ending = ending_of(outcome, written.is_ok(), target.inner().is_closed());
     say_unprinted(ending, target.inner(), messages);

@@ -2,20 +2,23 @@
 ghost use Rattle.std.specs.Prelude.{◌≡◌};
 
 use crate::lines::{CHUNK, Lines};
+use crate::progress::Meter;
 use devices::{ReadSource, Source};
 use std::io;
 use std::io::Read;
 use std::marker::Model;
 
 /// A reader as a source, which knows why a read failed, and where that is asked for the lines of what it gave.
+/// It may show how much that is.
 #[derive(Drop)]
-pub struct Input<R> {
+pub struct Input<R, M> {
     source: ReadSource<R>,
     fault: Option<io::Error>,
     lines: Option<Lines>,
+    meter: Option<M>,
 }
 
-impl<R> Model for Input<R> {
+impl<R, M> Model for Input<R, M> {
     ghost use Rattle.devices.specs.Device.{Metered};
 
     ghost Value = { Metered R };
@@ -23,8 +26,8 @@ impl<R> Model for Input<R> {
     ghost view = { λ i. record { inner = i.source.inner; failures = i.source.failures } };
 }
 
-impl<R> Input<R> {
-    pub fn new(inner: R) -> Input<R>
+impl<R, M: Meter> Input<R, M> {
+    pub fn new(inner: R) -> Input<R, M>
         ensures inner { result.inner ≡ inner }
         ensures failures { result.failures ≡ 0 }
     {
@@ -32,6 +35,7 @@ impl<R> Input<R> {
             source: ReadSource::new(inner),
             fault: None,
             lines: None,
+            meter: None,
         }
     }
 
@@ -50,13 +54,30 @@ impl<R> Input<R> {
         }
     }
 
+    /// Shows how much it gives from here on, where there is a meter.
+    pub fn begin_meter(&mut self, meter: Option<M>)
+        ensures { self.new ≡ self.old }
+    {
+        self.meter = meter;
+    }
+
+    /// Shows no more how much it gives.
+    pub fn end_meter(&mut self)
+        ensures { self.new ≡ self.old }
+    {
+        if let Some(meter) = &mut self.meter {
+            meter.clear();
+        }
+        self.meter = None;
+    }
+
     /// Why the last read that failed did.
     pub fn fault(&self) -> Option<io::Error> {
         self.fault
     }
 }
 
-impl<R: Read> Source for Input<R> {
+impl<R: Read, M: Meter> Source for Input<R, M> {
     ghost remaining = { λ i. R.remaining i.inner };
 
     ghost failures = { λ i. i.failures };
@@ -67,6 +88,9 @@ impl<R: Read> Source for Input<R> {
             Ok(n) => {
                 if let Some(lines) = &mut self.lines {
                     lines.add(&buf[..n]);
+                }
+                if let Some(meter) = &mut self.meter {
+                    meter.add(n);
                 }
                 Ok(n)
             }

@@ -14,6 +14,7 @@ use crate::input::Input;
 use crate::messages::Messages;
 use crate::output::Output;
 use crate::program::Program;
+use crate::progress::Meters;
 use crate::references::read_references;
 use crate::settings::Settings;
 use crate::suggestions::no_such;
@@ -27,7 +28,7 @@ use std::io::{Read, Write};
 use std::rt::Env;
 
 // The settings that the words ask for. Where there are none, it says why.
-fn read_settings<S: Settings, R: Files + Alloc<A = Global>, E: Target>(
+fn read_settings<S: Settings, R: Files + Alloc<A = Global> + Meters, E: Target>(
     rt: &R,
     asked: &Words<'_>,
     messages: &mut Messages<'_, E>,
@@ -67,14 +68,14 @@ fn settings_or_say<S: Settings, E: Target>(
 // Reads the files that the words ask for, or else standard input.
 fn filter_asked<
     F: Filter<Output<O>>,
-    R: Files + Alloc<A = Global>,
+    R: Files + Alloc<A = Global> + Meters,
     I: Read,
     O: Write + Drop,
     E: Target,
 >(
     rt: &R,
     asked: &Words<'_>,
-    stdin: &mut Input<I>,
+    stdin: &mut Input<I, R::Meter>,
     stdout: O,
     messages: &mut Messages<'_, E>,
 ) -> (Logged<Output<O>>, Ending)
@@ -110,6 +111,7 @@ fn filter_asked<
         rt,
         &table,
         decoding_of(asked.has("--fatal"), encoding),
+        asked.has("--progress"),
         settings,
         asked.inputs(),
         stdin,
@@ -181,7 +183,7 @@ fn say_wrong<E: Target>(
 /// how it ended. What a file holds that is opened by its path no contract says.
 pub fn filter_by_words<
     F: Filter<Output<O>>,
-    R: Files + Alloc<A = Global>,
+    R: Files + Alloc<A = Global> + Meters,
     I: Read,
     O: Write + Drop,
     E: Target,
@@ -189,7 +191,7 @@ pub fn filter_by_words<
     rt: &R,
     program: Program<'_>,
     words: &[String],
-    stdin: &mut Input<I>,
+    stdin: &mut Input<I, R::Meter>,
     stdout: O,
     messages: &mut Messages<'_, E>,
 ) -> (Logged<Output<O>>, Ending)
