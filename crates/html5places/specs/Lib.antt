@@ -1,4 +1,5 @@
 pub mod Marks
 pub mod Laws
 pub mod Placed
+pub mod Positions
 pub mod Readers

@@ -6,6 +6,8 @@
 //! the reading of the whole text, and begin at the last `<` after which markup may be open (`is_after_less_than`). The
 //! places follow one another (`places_follow`).
 //!
+//! `position_at` gives the line and the columns of a place (specs/Positions).
+//!
 //! Tested, and not proved: that a token's place is the item of the grammar that tells it, and so that `text`, `begin` and
 //! `end` are in order and lie between characters of the text.
 //!
@@ -17,9 +19,11 @@ mod handler;
 mod laws;
 mod places;
 mod placing;
+mod positions;
 mod reading;
 
 pub use crate::handler::PlacedHandler;
 pub use crate::laws::places_follow;
 pub use crate::places::Places;
+pub use crate::positions::{Position, position_at};
 pub use crate::reading::read_places;

@@ -3,3 +3,5 @@
 
 #[cfg(test)]
 mod placed;
+#[cfg(test)]
+mod positions;
