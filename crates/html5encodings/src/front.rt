@@ -4,6 +4,7 @@ ghost use Rattle.std.specs.Int.{trailing_zeros, w64};
 ghost use Rattle.std.specs.List.{list_all};
 ghost use Rattle.html5encodings.specs.Iso2022Jp.{is_plain};
 
+use simdutf8::compat;
 use std::simd::prelude::*;
 
 // How many bytes are looked at in one step.
@@ -85,7 +86,7 @@ pub(crate) fn text_len(bytes: &[u8]) -> usize
     ensures within { result ≤ length bytes.now }
     ensures text { IsUtf8 (take result bytes.now) }
 {
-    match std::str::from_utf8(bytes) {
+    match compat::from_utf8(bytes) {
         Ok(text) => text.len(),
         Err(error) => error.valid_up_to(),
     }
