@@ -1,0 +1,4 @@
+mod FixedCodes
+mod NamedStates
+mod SeenCodes
+mod Words

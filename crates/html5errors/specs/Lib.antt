@@ -1,0 +1,4 @@
+pub mod CodeNames
+pub mod Codes
+pub mod Messages
+pub mod StateNames
