@@ -1,5 +1,5 @@
 -- The codes of messages that name a state.
-use Rattle.std.proofs.Common.{rules, ◌≡◌, ℕ, ◌<◌, length, get_or, None, Some, false, List, ◌++◌, refl, sym, ap, subst, ◌∙◌, arith}
+use Rattle.std.proofs.Common.{rules, ◌≡◌, ℕ, ◌<◌, length, get_or, None, false, List, ◌++◌, refl, sym, ap, subst, ◌∙◌, arith}
 use lib.Utf8.{encode}
 use Rattle.std.specs.Prelude.{codes, encode_utf8}
 use Rattle.std.specs.Option.{option_and_then}
@@ -10,7 +10,7 @@ use Rattle.html5ever_interface.specs.States.{state_name}
 use Rattle.html5ever_interface.specs.declared.states.State.{State}
 use Rattle.html5reading.specs.ErrorText.{saw, saw_end}
 use Rattle.html5errors.specs.Codes.{code_in, end_code_in}
-use Rattle.html5errors.specs.Messages.{after_word, code_by_place, code_named, code_of_character, code_of_message, code_of_seen, code_where_end, code_where_saw, end_code_named, split_first}
+use Rattle.html5errors.specs.Messages.{after_word, code_by_place, code_named, code_of_character, code_of_message, code_of_seen, code_where_end, code_where_saw, end_code_named}
 use Rattle.html5errors.proofs.NamedStates.{state_named-name}
 use Rattle.html5errors.proofs.Words.{after_word-append, after_word-is, none_from_all, split-first}
 

@@ -4,7 +4,7 @@ use Rattle.std.specs.Prelude.{◌==◌, Option, encode_utf8, if◌then◌else◌
 use Rattle.std.specs.Borrow.{Bor}
 use Rattle.std.specs.Char.{len_utf8}
 use Rattle.std.specs.Option.{MatchOption, option_copied}
-use Rattle.std.specs.Str.{IsUtf8, chars}
+use Rattle.std.specs.Str.{IsUtf8}
 use Rattle.std.specs.Str.Pattern.{FindsTextPrefix}
 use Rattle.std.proofs.lemmas.Bool.{eqb-true, eq-eqb}
 use Rattle.std.proofs.lemmas.Option.{none-some, same_Some}

@@ -105,7 +105,7 @@ code_in (AttributeValue Unquoted) c = unquoted_code c
 code_in AfterAttributeValueQuoted c = Some code.MissingWhitespaceBetweenAttributes
 -- "Self-closing start tag state"
 code_in SelfClosingStartTag c = Some code.UnexpectedSolidusInTag
--- "Markup declaration open state", where no keyword comes
+-- "Markup declaration open state", where no keyword comes: the error names the `!` before that
 code_in MarkupDeclarationOpen c = Some code.IncorrectlyOpenedComment
 -- "Comment start state"
 code_in CommentStart c = end_or_null_code code.AbruptClosingOfEmptyComment c

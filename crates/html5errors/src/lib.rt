@@ -7,12 +7,16 @@
 //!
 //! Tested, and not proved: that these tables are the standard's. Nothing is promised of a text that is none of an error.
 //!
-//! Where the tokenizer tells less than the standard, or other things, an error has no code, or the standard's code none of
-//! these errors. With exact errors a text names no state, and no code is known of a character or the end. Of a number that no
-//! character should have the message doesn't say why, and there is no code. `<![CDATA[` outside foreign content is an
-//! incorrectly opened comment. `"`, `'`, `<`, `=` and a grave accent in a value without quotes are told with exact errors
-//! alone. `<?` begins a processing instruction, which the standard doesn't have: its end is told by an error without a code,
-//! and that it begins by none.
+//! Where the tokenizer's errors are not the standard's:
+//!
+//! - With exact errors a text names no state, and no code is known of a character or of the end.
+//! - Of a numeric reference to what no character should be the message doesn't say why, and there is no code.
+//! - `<![CDATA[` outside foreign content is an incorrectly opened comment. The standard has a code of its own for it.
+//! - `"`, `'`, `<`, `=` and a grave accent in a value without quotes are told with exact errors alone. So are controls and
+//!   noncharacters in the text, which have no code.
+//! - `<?` begins a processing instruction, and no bogus comment. That it begins is no error; that it has no `>` is one,
+//!   without a code.
+//! - That an attribute is repeated is told where the next one begins or the tag ends, so after the errors of its value.
 #![tactic(auto)]
 
 mod codes;

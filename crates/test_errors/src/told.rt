@@ -267,6 +267,9 @@ fn nulls_tell_their_code(rt: HostRuntime) {
         "<script><!--a-\0--></script>",
         // The standard tells the question mark, too.
         "<?\0>",
+        "<script><!--<script>\0</script>--></script>",
+        "<script><!--<script>-\0</script>--></script>",
+        "<script><!--<script>--\0</script>--></script>",
         "<plaintext>\0",
     ];
     for source in sources {
@@ -275,6 +278,14 @@ fn nulls_tell_their_code(rt: HostRuntime) {
             _ => "unexpected-null-character",
         };
         assert!(rt; tells(&rt, rt.alloc(), source, codes), "of {source}");
+    }
+}
+
+// The code of a token where it is an error, or else the one before.
+fn code_or<A: Allocator>(token: &Token<A>, before: &'static str) -> &'static str {
+    match token {
+        Token::ParseError(message) => code_of(message.as_str()),
+        _ => before,
     }
 }
 
@@ -289,9 +300,7 @@ fn last_in_foreign<A: Allocator + Copy>(rt: &impl Abort, alloc: A, source: &str)
         return last;
     }
     for (token, _) in sink.entries() {
-        if let Token::ParseError(message) = token {
-            last = code_of(message.as_str());
-        }
+        last = code_or(token, last);
     }
     last
 }
