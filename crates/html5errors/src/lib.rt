@@ -3,7 +3,8 @@
 //! `error_code` is told the text of an error that the tokenizer sends, where errors are not exact, and answers the code that
 //! the standard's "Parse errors" has for it, as `missing-attribute-value`. By proof this is the code in the tables of
 //! specs/Codes: of the state and the character where one was seen (`code_in`), of the state where the end was seen
-//! (`end_code_in`), and of a fixed message (`fixed_code`); and `as_str` writes the code as the standard does.
+//! (`end_code_in`), and of a message that names nothing of the text (`fixed_code`). Each error that is told without exact
+//! errors is one of these (`errors_have_forms`). `as_str` writes the code as the standard does.
 //!
 //! Tested, and not proved: that these tables are the standard's. Nothing is promised of a text that is none of an error.
 //!
@@ -20,9 +21,11 @@
 #![tactic(auto)]
 
 mod codes;
+mod laws;
 mod messages;
 mod state_names;
 mod tables;
 
 pub use crate::codes::ErrorCode;
+pub use crate::laws::errors_have_forms;
 pub use crate::messages::error_code;
