@@ -1,5 +1,5 @@
 //! The codes of parse errors.
-ghost use Rattle.std.specs.Prelude.{◌≡◌};
+ghost use Rattle.std.specs.Prelude.{◌≡◌, Some};
 ghost use Rattle.html5errors.specs.CodeNames.{code_name};
 
 use std::fmt;
@@ -111,6 +111,8 @@ impl ErrorCode {
 }
 
 impl Display for ErrorCode {
+    ghost output = { λ code. Some (code_name code) };
+
     fn fmt<W: Write>(&self, f: &mut Formatter<W>) -> fmt::Result {
         f.write_str(self.as_str())
     }
