@@ -4,8 +4,7 @@
 //! the standard's "Parse errors" has for it, as `missing-attribute-value`. By proof this is the code in the tables of
 //! specs/Codes: of the state and the character where one was seen (`code_in`), of the state where the end was seen
 //! (`end_code_in`), and of a message that names nothing of the text (`fixed_code`). Each error that is told without exact
-//! errors is one of these (`errors_have_forms`). `as_str` and `Display` write the code as the standard
-//! does.
+//! errors is one of these (`errors_have_forms`). `as_str` and `Display` write the code as the standard does.
 //!
 //! Tested, and not proved: that these tables are the standard's. Nothing is promised of a text that is none of an error.
 //!
