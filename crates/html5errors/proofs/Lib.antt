@@ -1,0 +1,7 @@
+mod FixedCodes
+mod Formed
+mod FormedReading
+mod FormedSteps
+mod NamedStates
+mod SeenCodes
+mod Words

@@ -1,0 +1,5 @@
+pub mod CodeNames
+pub mod Codes
+pub mod Forms
+pub mod Messages
+pub mod StateNames
