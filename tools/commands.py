@@ -244,27 +244,25 @@ def shown_on_terminal(folder, words, pieces):
     """What a program shows on a terminal that is its standard error, while pieces come half a second apart; what it prints."""
     ours, its = pty.openpty()
     tty.setraw(its)
-    with subprocess.Popen(
-        [PROGRAMS["firnuubal"], *words], cwd=folder, stdin=subprocess.PIPE, stdout=subprocess.PIPE, stderr=its
-    ) as process:
-        for piece in pieces:
-            process.stdin.write(piece)
-            process.stdin.flush()
-            time.sleep(0.5)
-        process.stdin.close()
-        printed = process.stdout.read()
+    command = [PROGRAMS["firnuubal"], *words]
+    with open(folder / "printed", "wb") as printed:
+        with subprocess.Popen(command, cwd=folder, stdin=subprocess.PIPE, stdout=printed, stderr=its) as process:
+            for piece in pieces:
+                process.stdin.write(piece)
+                process.stdin.flush()
+                time.sleep(0.5)
     os.close(its)
     shown = b""
     with open(ours, "rb", buffering=0) as terminal, contextlib.suppress(OSError):
         while more := terminal.read(MB):
             shown += more
-    return shown, printed
+    return shown, (folder / "printed").read_bytes()
 
 
 def with_progress(folder):
     """Megabytes and a rate on a terminal, where the system has terminals, taken away at the end; and nothing on another file."""
-    pieces = [b"a" * 60_000, b"b" * 150_000]
-    line = rb"\r0\.[01] MB, [0-9]+ MB/s\x1b\[K"
+    pieces = [b"a" * 150_000, b"b" * 1000]
+    lines = rb"(\r0\.[01] MB, [0-9]+ MB/s\x1b\[K)*\r0\.1 MB, [0-9]+ MB/s\x1b\[K\r\x1b\[K"
     for command in ["tokens", "links", "text", "clean"]:
         words = [command, "--progress"]
         alone = run(folder, ["firnuubal", command], input=b"".join(pieces))
@@ -273,7 +271,7 @@ def with_progress(folder):
         if not os.path.exists("/dev/ptmx"):
             continue
         shown, printed = shown_on_terminal(folder, words, pieces)
-        right = printed == alone.stdout and re.fullmatch(rb"(%s)+\r\x1b\[K" % line, shown)
+        right = printed == alone.stdout and re.fullmatch(lines, shown)
         yield "" if right else f"{words}: {shown!r}"
         shown, printed = shown_on_terminal(folder, [command], pieces)
         yield "" if (shown, printed) == (b"", alone.stdout) else f"{command} shows {shown!r}"
