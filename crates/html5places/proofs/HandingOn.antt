@@ -87,3 +87,7 @@ pub place-after : {S : Type 0} (step : S → Placed → S) (t u : Reader) (h i :
 place-after step t u h i c reads =
     let one = reads t.position [] (sym (after-nil standard.step standard.reply standard.foreign t.rules t.position tt)) in
     ap (λ (m : Marks). m.to) one.marks ∙ to-past t.rules t.position t.sink.marks [] c
+
+pub handed-nothing : {S : Type 0} (step : S → Placed → S) (h : S) → handed_on step h [] ≡ h
+unfolding handed_on
+handed-nothing step h = refl

@@ -3,6 +3,17 @@ pub mod Stepping
 pub mod OneCharacter
 pub mod ManyCharacters
 pub mod Walking
+pub mod Advancing
 pub mod HandingOn
 pub mod TextLoop
 pub mod Following
+pub mod KeepsRun
+pub mod MarkupSteps
+pub mod MarkupCharacters
+pub mod MarkupAtEnd
+pub mod MarkupPlaces
+pub mod Standing
+pub mod Spanning
+pub mod RawEnds
+pub mod OneItem
+pub mod Written

@@ -14,12 +14,12 @@ use Rattle.html5places.proofs.Stepping.{handed_on-append, part-later}
 
 -- ---- where the last character ends
 
-to-after : (s : Marks) (told : Told) → (marks_after s told).to ≡ s.to
+pub to-after : (s : Marks) (told : Told) → (marks_after s told).to ≡ s.to
 to-after s (Text text) = refl
 to-after s (Error message) = refl
 to-after s other = refl
 
-to-after_all : (s : Marks) (M : List Message) → (marks_after_all s M).to ≡ s.to
+pub to-after_all : (s : Marks) (M : List Message) → (marks_after_all s M).to ≡ s.to
 unfolding marks_after_all
 to-after_all s [] = refl
 to-after_all s (m ∷ M) = to-after_all (marks_after s m.token) M ∙ to-after s m.token

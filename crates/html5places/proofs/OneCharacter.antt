@@ -34,7 +34,7 @@ after-here : (rules : Rules) (K : Start) (before : List ℕ) (c : ℕ)
 after-here rules K before c = sym (after-append standard.step standard.reply standard.foreign rules K tt before (c ∷ []))
 
 -- the messages that the end tells beyond a text
-end-messages : (rules : Rules) (K : Start) (before : List ℕ)
+pub end-messages : (rules : Rules) (K : Start) (before : List ℕ)
     → told_at_end standard rules K tt before
     ≡ on_line (line_after K.input (normalised K.input before)) (tokens_at_end rules (start_after standard rules K tt before).opened)
 end-messages rules K before =
@@ -45,7 +45,7 @@ end-messages rules K before =
     ∙ drop-append_seam (messages_so_far standard rules K tt before) E
     ∙ messages-at_end standard.step standard.reply standard.foreign rules K tt before
 
-line-here : (K : Start) (rules : Rules) (before : List ℕ)
+pub line-here : (K : Start) (rules : Rules) (before : List ℕ)
     → line_after (start_after standard rules K tt before).input [] ≡ line_after K.input (normalised K.input before)
 line-here K rules before = input_after-line_none K.input before ∙ sym (line_after-lines_past K.input [] (normalised K.input before))
 

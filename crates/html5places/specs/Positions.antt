@@ -32,6 +32,10 @@ position_after text = past_characters first_position (with_line_feeds false text
 
 -- ---- words of the proofs
 
+-- the place after so many characters of ASCII that end no line
+abbrev pub along : Position → ℕ → Position
+along p count = record { line = p.line; column = min (p.column + count) highest; utf16_column = min (p.utf16_column + count) highest }
+
 -- the same after one more character, where `after_cr` says that a CR stands before it
 abbrev pub walked : Position → Bool → ℕ → Position
 walked p after_cr c = if after_cr && (c == line_feed) then p else (past_character p (if c == carriage_return then line_feed else c))

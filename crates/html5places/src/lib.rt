@@ -6,10 +6,11 @@
 //! the reading of the whole text, and begin at the last `<` after which markup may be open (`is_after_less_than`). The
 //! places follow one another (`places_follow`).
 //!
-//! `position_at` gives the line and the columns of a place (specs/Positions).
+//! The characters between the places of such a token are one item of the grammar, as it is written, which tells the token
+//! last. At the end of the text they may be an unfinished item, whose token the end tells. The places of each token are in
+//! order and lie between characters of the text (`tokens_are_items`, with specs/Written).
 //!
-//! Tested, and not proved: that a token's place is the item of the grammar that tells it, and so that `text`, `begin` and
-//! `end` are in order and lie between characters of the text.
+//! `position_at` gives the line and the columns of a place (specs/Positions), and `Positions` those of many in one pass.
 //!
 //! The text is at hand as a whole, and the tokenizer is fed its characters one by one, which takes it about three times as
 //! long as by runs (bench/RESULTS.md, `--cut 1`).
@@ -18,12 +19,14 @@
 mod handler;
 mod laws;
 mod places;
+mod places_in_order;
 mod placing;
 mod positions;
 mod reading;
 
 pub use crate::handler::PlacedHandler;
-pub use crate::laws::places_follow;
+pub use crate::laws::{places_follow, tokens_are_items};
 pub use crate::places::Places;
+pub use crate::places_in_order::Positions;
 pub use crate::positions::{Position, position_at};
 pub use crate::reading::read_places;

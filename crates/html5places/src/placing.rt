@@ -1,5 +1,5 @@
 //! The sink that keeps tokens with their places.
-ghost use Rattle.std.specs.Prelude.{◌≡◌, ◌++◌, ◌∷◌, [], map, string_bytes, IfOk, OnErr, OnOk};
+ghost use Rattle.std.specs.Prelude.{◌≡◌, ◌++◌, ◌∷◌, [], true, map, string_bytes, IfOk, OnErr, OnOk};
 ghost use Rattle.html5ever_interface.specs.Token.{told_by, reply_of};
 ghost use Rattle.html5ever_interface.specs.Token.Reply.{KeepOn};
 ghost use Rattle.html5places.specs.Marks.{kept, placed_by, placed_of, placed_step, places_of, placing_of, waits};
@@ -106,6 +106,13 @@ impl<A: Allocator + Copy> PlacedTokens<A> {
         ensures { result ≡ self.now.marks.to }
     {
         self.to
+    }
+
+    /// Whether no token waits.
+    pub fn is_empty(&self) -> bool
+        ensures { result ≡ true → self.now.handler ≡ [] }
+    {
+        self.tokens.is_empty()
     }
 
     /// Takes the tokens that wait.

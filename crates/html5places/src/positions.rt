@@ -1,7 +1,7 @@
 //! Lines and columns.
 ghost use Rattle.std.specs.Prelude.{◌≡◌, ◌↔◌, ◌≤◌, IfSome, IsSome, IsUtf8, length, take};
 ghost use Rattle.std.specs.Str.{chars};
-ghost use Rattle.html5places.specs.Positions.{past_character, position_after, walked};
+ghost use Rattle.html5places.specs.Positions.{along, past_character, position_after, walked};
 
 /// A place in a text as editors count: lines and columns, each from 1.
 #[derive(Clone, Copy, Debug, PartialEq, Eq)]
@@ -15,7 +15,7 @@ pub struct Position {
 
 impl Position {
     // The first place of a text.
-    const FIRST: Position = Position {
+    pub(crate) const FIRST: Position = Position {
         line: 1,
         column: 1,
         utf16_column: 1,
@@ -39,8 +39,19 @@ impl Position {
         }
     }
 
+    // The place after so many characters of ASCII that end no line.
+    pub(crate) fn along(self, count: usize) -> Position
+        ensures { result ≡ along self count }
+    {
+        Position {
+            line: self.line,
+            column: self.column.saturating_add(count),
+            utf16_column: self.utf16_column.saturating_add(count),
+        }
+    }
+
     // The place after a character, where each CR LF, and each other CR, is a line break as LF is.
-    fn walked(self, after_cr: bool, c: char) -> Position
+    pub(crate) fn walked(self, after_cr: bool, c: char) -> Position
         ensures { result ≡ walked self after_cr c }
     {
         if after_cr && c == '\n' {

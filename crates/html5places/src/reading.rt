@@ -1,5 +1,5 @@
 //! Texts that are read with the places of their tokens.
-ghost use Rattle.std.specs.Prelude.{◌≡◌, ◌+◌, ◌<◌, ◌^◌, [], false, length, encode_utf8, map, IfErr, OnErr, OnOk};
+ghost use Rattle.std.specs.Prelude.{◌≡◌, ◌+◌, ◌<◌, ◌^◌, [], false, true, length, encode_utf8, map, IfErr, OnErr, OnOk};
 ghost use Rattle.std.specs.Str.{chars};
 ghost use Rattle.html5ever.specs.Tokenizer.{rules_of};
 ghost use Rattle.html5ever_interface.specs.Options.{options_of};
@@ -73,6 +73,13 @@ fn begin_markup<A: Allocator + Copy>(tokenizer: &mut Tokenizer<'_, PlacedTokens<
     }
 }
 
+// Whether no token waits in the sink.
+fn are_none_waiting<A: Allocator + Copy>(tokenizer: &Tokenizer<'_, PlacedTokens<A>, A>) -> bool
+    ensures { result ≡ true → tokenizer.now.sink.handler ≡ [] }
+{
+    tokenizer.sink.is_empty()
+}
+
 // Takes the tokens that wait in the sink.
 fn take_tokens<A: Allocator + Copy>(
     tokenizer: &mut Tokenizer<'_, PlacedTokens<A>, A>,
@@ -94,6 +101,9 @@ fn hand_on_waiting<H: PlacedHandler<Token<A>>, A: Allocator + Copy>(
     ensures errors { IfErr result IsRefusal }
     ensures left { tokenizer.new ≡ record tokenizer.old { sink = record tokenizer.old.sink { handler = [] } } }
 {
+    if are_none_waiting(tokenizer) {
+        return Ok(());
+    }
     let tokens = take_tokens(tokenizer);
     hand_on(handler, tokens)
 }
