@@ -12,9 +12,9 @@ PART = 65_536  # bytes of output that are read at once
 
 
 def check_status(process, status):
-    """Ends the script where a program failed."""
+    """Ends the script where a program failed. The command `check` ends with 1 where it found something."""
     process.returncode = os.waitstatus_to_exitcode(status)
-    if process.returncode != 0:
+    if process.returncode > (list(process.args)[1:2] == ["check"]) or process.returncode < 0:
         sys.exit(f"{' '.join(map(str, process.args))} ended with status {process.returncode}")
 
 

@@ -1,9 +1,10 @@
 #!/usr/bin/env python3
-"""Times the commands links, text and clean of firnuubal beside programs of the same work over html5ever, and prints a table.
+"""Times the commands of firnuubal, of which links, text and clean stand beside programs of the same work over html5ever,
+and prints a table.
 
     python3 bench/programs.py [--quick] [--real]
 
-All read pages as they arrive. A time is the processor time of a process, user and system, the best of some runs in
+All but `check` read pages as they arrive. A time is the processor time of a process, user and system, the best of some runs in
 which the programs take turns. The peak of memory is read where all but the end of the input was handed in. MB are
 1,000,000 bytes. Where html5ever can't be built the programs are timed alone. What cleans over html5ever makes no tree, so
 beside it stands `clean` by the standard policy without the rule `tree`, and `clean` with it alone.
@@ -23,7 +24,7 @@ import measure
 PROGRAM = pathlib.Path(__file__).resolve().parent.parent / "crates/firnuubal/out/firnuubal"
 NO_TREE = "clean without tree"
 # What does the same work over html5ever: a program of beside/ and its words.
-COMMANDS = {"links": ["pages", "links"], "text": ["pages", "text"], NO_TREE: ["clean"], "clean": None}
+COMMANDS = {"links": ["pages", "links"], "text": ["pages", "text"], NO_TREE: ["clean"], "clean": None, "tokens": None, "check": None}
 
 
 def words_of(name, folder):

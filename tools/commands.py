@@ -51,6 +51,7 @@ FILES = {
     "middle.bad": b"<a href=m>\n<p>\xc3<a href=y>",
     "last.bad": b"<a href=x>\xe2\x98",
     "-x": PAGE,
+    "wrong": b"</b>",
     "entities": b"own=2603\r\nnGt;=226B+20D2\r\n",
     "entities.commas": b"own=2603,nGt;=226B+20D2",
     "entities.bad": b"own=2603\nown=41\n",
@@ -65,7 +66,7 @@ PARTS = [
         130_000,
         {"links": "1 y\n", "text": "a & b c", "clean": '<p>a &#38; b <a href="y">c</a></p>'},
     ),
-    ("abcdefghij", 100_000, {"links": "", "text": "abcdefghij", "clean": "abcdefghij"}),
+    ("abcdefghij", 100_000, {"links": "", "text": "abcdefghij", "clean": "abcdefghij", "check": ""}),
 ]
 
 
@@ -151,11 +152,19 @@ def of_json(_folder):
         yield "" if again == line else f"{line}: Python writes {again}"
 
 
+def of_logs(_folder):
+    """What Python reads of the logs of SARIF that these runs print: a result for each line of them."""
+    for row in filter(lambda row: "sarif" in row["run"] and "out" in row, rows()):
+        (ran,) = json.loads(row["out"])["runs"]
+        rules = [line.split('"')[3] for line in row["out"].splitlines() if line.startswith('{"ruleId"')]
+        yield "" if [result["ruleId"] for result in ran["results"]] == rules else f"{row['run']}: {ran}"
+
+
 def of_itself(folder):
     """What a program says of itself, whatever else its words say."""
     firnuubal = "firnuubal"
     cases = [([firnuubal, "--help"], HELP["help"]), ([firnuubal, "--version", "-"], VERSION)]
-    for command in ["tokens", "links", "text", "clean"]:
+    for command in ["tokens", "links", "text", "clean", "check"]:
         cases += [([firnuubal, command, "--help"], HELP[command]), ([firnuubal, command, "--version"], VERSION)]
     cases += [([firnuubal, "links", "--version", word], VERSION) for word in ("missing", "--wrong")]
     cases += [([firnuubal, "clean", "--print-policy"], POLICY)]
@@ -207,9 +216,9 @@ def of_long_pages(folder):
 
 def to_a_full_device(folder):
     """An output that takes nothing."""
-    for command in ["tokens", "links", "text", "clean"]:
+    for command, name in [*((command, "page") for command in ["tokens", "links", "text", "clean"]), ("check", "wrong")]:
         with open("/dev/full", "wb") as full:
-            ran = run(folder, ["firnuubal", command, "page"], stdout=full)
+            ran = run(folder, ["firnuubal", command, name], stdout=full)
         told = "firnuubal: output: No space left on device (os error 28)\n"
         right = ran.returncode == 1 and ran.stderr.decode() == told
         yield "" if right else f"{command} to /dev/full: {ran!r}"
@@ -263,7 +272,7 @@ def with_progress(folder):
     """Megabytes and a rate on a terminal, where the system has terminals, taken away at the end; and nothing on another file."""
     pieces = [b"a" * 150_000, b"b" * 1000]
     lines = rb"(\r0\.[01] MB, [0-9]+ MB/s\x1b\[K)*\r0\.1 MB, [0-9]+ MB/s\x1b\[K\r\x1b\[K"
-    for command in ["tokens", "links", "text", "clean"]:
+    for command in ["tokens", "links", "text", "clean", "check"]:
         words = [command, "--progress"]
         alone = run(folder, ["firnuubal", command], input=b"".join(pieces))
         ran = run(folder, ["firnuubal", *words], input=b"".join(pieces))
@@ -304,7 +313,7 @@ def by_pages(folder):
 
 
 def main():
-    parts = [by_lines, of_json, of_itself, without_permission, of_many_files, of_long_pages, to_a_full_device]
+    parts = [by_lines, of_json, of_logs, of_itself, without_permission, of_many_files, of_long_pages, to_a_full_device]
     with tempfile.TemporaryDirectory() as name:
         folder = pathlib.Path(name)
         made_in(folder)

@@ -84,10 +84,10 @@ def of_policy(name, *lines):
     return (End(said(name), 2), *(End(said(name, f"line {line}: out of memory"), 2) for line in lines))
 
 
-def by_own(command, given, printed, *ends):
+def by_own(command, given, printed, *ends, status=0):
     """A run by the small table."""
     words = ["firnuubal", command[0], "--entities", "own", *command[1:]]
-    return Row(words, given, printed, ends=(NO_WORDS, *NO_OWN_TABLE, *ends))
+    return Row(words, given, printed, status=status, ends=(NO_WORDS, *NO_OWN_TABLE, *ends))
 
 
 def filters():
@@ -122,6 +122,10 @@ def filters():
     kept = "<p>1</p><table><tbody><tr><td>2</td></tr></tbody></table>"
     page = b"<p>1<table><td>2"
     yield by_own(["clean", "--policy", "tree"], page, kept, *of_policy("tree", 1, 2, 3), *of_page(kept))
+    found = "-:1:9: error: end-tag-without-start: i\n-:1:13: error: misspelled-element: dvi; did you mean div?\n"
+    found += "-:1:13: error: unclosed-element: dvi\n"
+    page = b"<p>&own;</i><dvi id=x>"
+    yield by_own(["check"], page, found, *of_page(found), status=1)
 
 
 def messages():

@@ -18,13 +18,18 @@ _firnuubal() {
     clean:--policy) words="" ;;
     clean:--encoding) words="" ;;
     clean:--entities) words="" ;;
+    check:--encoding) words="" ;;
+    check:--entities) words="" ;;
+    check:--format) words="lines json" ;;
+    check:--template) words="" ;;
     *)
-        ((COMP_CWORD == 1)) && words="tokens links text clean --help --version"
+        ((COMP_CWORD == 1)) && words="tokens links text clean check --help --version"
         [[ $word == -* ]] && case ${COMP_WORDS[1]} in
         tokens) words="--encoding --fatal --entities --progress --format --with-filename --no-filename --help --version" ;;
         links) words="--encoding --fatal --entities --progress --format --with-filename --no-filename --base --help --version" ;;
         text) words="--encoding --fatal --entities --progress --help --version" ;;
         clean) words="--policy --print-policy --encoding --fatal --entities --progress --help --version" ;;
+        check) words="--encoding --fatal --entities --progress --format --template --help --version" ;;
         esac
         ;;
     esac

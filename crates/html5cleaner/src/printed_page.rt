@@ -1,5 +1,5 @@
 //! Pages that are cleaned and printed as they arrive.
-ghost use Rattle.std.specs.Prelude.{◌≡◌, ◌≢◌, ℕ, ◌+◌, ◌-◌, ◌^◌, List, Err, OnOk, OnErr, true};
+ghost use Rattle.std.specs.Prelude.{◌≡◌, ◌≢◌, ℕ, ◌+◌, ◌-◌, ◌^◌, List, Err, OnOk, OnErr, false, true};
 ghost use Rattle.html5stream.specs.Pages.{ReadsPage, ReadsPageItems, StopsPage, passage_of, runs_page, runs_handed, runs_after};
 ghost use Rattle.html5stream.specs.Streams.{GivesNoText, GivesNoFault, GivesAtLeast, failed_reads};
 ghost use Rattle.html5ever_interface.specs.Sink.{Message};
@@ -85,6 +85,8 @@ impl<W: Target + Drop> Filter<W> for CleanPrinter<W> {
 
     ghost State = { Standing };
 
+    ghost Part = { Message };
+
     ghost state = { standing_of };
 
     ghost means = { record {
@@ -94,6 +96,7 @@ impl<W: Target + Drop> Filter<W> for CleanPrinter<W> {
       page = page_messages;
       handed = printed_of;
       printed = λ s. s.printed;
+      found = λ s. false;
     } };
 
     fn new(alloc: Global, printer: Printer<W>, settings: PolicySettings) -> CleanPrinter<W>
@@ -115,9 +118,13 @@ impl<W: Target + Drop> Filter<W> for CleanPrinter<W> {
         print_cleaned(alloc, source, self, references)
     }
 
-    fn into_printer(self) -> Printer<W>
-        ensures { result.printed ≡ self.printer.printed }
+    fn has_found(&self) -> bool {
+        false
+    }
+
+    fn finish(self, _alloc: Global) -> (Printer<W>, Result<(), StreamError>)
+        ensures { result.0.printed ≡ self.printer.printed }
     {
-        self.into_inner()
+        (self.into_inner(), Ok(()))
     }
 }

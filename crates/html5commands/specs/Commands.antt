@@ -1,15 +1,22 @@
 -- The commands of the program, the options that each knows, and what each prints.
-use Rattle.std.specs.Prelude.{◌≡◌, ℕ, Bool, true, false, List, [], ◌∷◌, ◌++◌, Option, None, Some, codes, option_map, if◌then◌else◌, IsNone}
+use Rattle.std.specs.Prelude.{◌≡◌, ℕ, Bool, true, false, List, [], ◌∷◌, ◌++◌, ◌&&◌, Option, None, Some, codes, option_map, if◌then◌else◌, IsNone}
 use Rattle.std.specs.Str.{bytes_eq}
+use Rattle.html5check.specs.Asked.{check_settings_said}
+use Rattle.html5check.specs.Lines.{lines_of}
+use Rattle.html5check.specs.Located.{Located}
+use Rattle.html5check.specs.Making.{Checks, check_made}
+use Rattle.html5check.specs.declared.settings.CheckSettings.{CheckSettings}
 use Rattle.html5cleaner.specs.Cleaning.{Standing, page_messages, policy_by, printed_of}
+use Rattle.html5ever_interface.specs.Sink.{Message}
 use Rattle.html5cleaner.specs.declared.settings.PolicySettings.{PolicySettings}
 use Rattle.html5commands.specs.declared.command.Command.{Command}
-use Rattle.html5commands.specs.declared.command.Command.TheVariants.{Tokens, Links, Text, Clean}
+use Rattle.html5commands.specs.declared.command.Command.TheVariants.{Check, Clean, Links, Text, Tokens}
 use Rattle.html5commands.specs.declared.format.Format.{Format}
-use Rattle.html5commands.specs.declared.format.Format.TheVariants.{Lines, Json}
+use Rattle.html5commands.specs.declared.format.Format.TheVariants.{Json, Lines, Sarif}
 use Rattle.html5extract.specs.Asked.{link_settings_said, token_settings_said}
 use Rattle.html5extract.specs.Bases.{bases_asked}
 use Rattle.html5extract.specs.Makings.{links_made, text_made, tokens_made}
+use Rattle.html5json.specs.Findings.{finding_lines, log_ended, results_of}
 use Rattle.html5json.specs.Makings.{json_links_made, json_tokens_made}
 use Rattle.html5programs.specs.Ending.{AsksNoText, PrintsAsked}
 use Rattle.html5programs.specs.Filtering.{Making}
@@ -26,6 +33,7 @@ command_of word =
     else if bytes_eq word (codes "links") then Some Links
     else if bytes_eq word (codes "text") then Some Text
     else if bytes_eq word (codes "clean") then Some Clean
+    else if bytes_eq word (codes "check") then Some Check
     else None
 
 -- ---- the options
@@ -59,6 +67,7 @@ options_of Tokens = format_options
 options_of Links = link_options
 options_of Text = reading_options
 options_of Clean = reading_options ++ before_word (codes "--policy") ∷ flag (codes "--print-policy") ∷ []
+options_of Check = reading_options ++ before_word (codes "--format") ∷ before_word (codes "--template") ∷ []
 
 -- ---- the words
 
@@ -93,27 +102,28 @@ asked_of_command named = words_asked (options_of named.command) named.words
 
 -- ---- the format
 
--- the format of this name
-unfoldable pub format_named : List ℕ → Option Format
-format_named word =
+-- the format of this name, where a log of SARIF is one or not
+unfoldable pub format_named : Bool → List ℕ → Option Format
+format_named logs word =
     if bytes_eq word (codes "lines") then Some Lines
     else if bytes_eq word (codes "json") then Some Json
+    else if logs && bytes_eq word (codes "sarif") then Some Sarif
     else None
 
 -- lines, where no name is given
-abbrev pub format_of : Option (List ℕ) → Option Format
-format_of None = Some Lines
-format_of (Some word) = format_named word
+abbrev pub format_of : Bool → Option (List ℕ) → Option Format
+format_of logs None = Some Lines
+format_of logs (Some word) = format_named logs word
 
 -- the format that words ask for, if there is such a one
-abbrev pub format_asked : Asked → Option Format
-format_asked asked = format_of (value_of (codes "--format") asked.given)
+abbrev pub format_asked : Bool → Asked → Option Format
+format_asked logs asked = format_of logs (value_of (codes "--format") asked.given)
 
 -- they ask for no text and none is wrong, but there is no format of the name that they give
-pub record NamesNoFormat (asked : Asked) : Type 0 where
+pub record NamesNoFormat (logs : Bool) (asked : Asked) : Type 0 where
   pub no_text : AsksNoText asked
   pub no_wrong : IsNone asked.wrong
-  pub unknown : format_asked asked ≡ None
+  pub unknown : format_asked logs asked ≡ None
 
 -- the commands that print in a format
 abbrev pub has_formats : Command → Bool
@@ -121,11 +131,17 @@ has_formats Tokens = true
 has_formats Links = true
 has_formats Text = false
 has_formats Clean = false
+has_formats Check = true
+
+-- and of those such that do as a log of SARIF, too
+abbrev pub has_logs : Command → Bool
+has_logs Check = true
+has_logs other = false
 
 -- ---- what is printed
 
 -- pages that are cleaned by a policy, after what was printed before
-abbrev pub clean_made : Making PolicySettings Standing
+abbrev pub clean_made : Making PolicySettings Message Standing
 clean_made = record {
   started = λ settings printed. record { policy = settings.policy; printed = printed };
   named = λ file s. s;
@@ -133,7 +149,24 @@ clean_made = record {
   page = page_messages;
   handed = printed_of;
   printed = λ s. s.printed;
+  found = λ s. false;
 }
+
+-- what is found in pages, as lines, as JSON, and as a log of SARIF
+abbrev pub check_made_lines : Making CheckSettings Located Checks
+check_made_lines = check_made (λ found file located. lines_of file located) (λ found. [])
+
+abbrev pub check_made_json : Making CheckSettings Located Checks
+check_made_json = check_made (λ found file located. finding_lines file located) (λ found. [])
+
+abbrev pub check_made_log : Making CheckSettings Located Checks
+check_made_log = check_made results_of log_ended
+
+-- they ask for no text and none is wrong, but the template language that they name is none
+pub record NamesNoTemplate (asked : Asked) : Type 0 where
+  pub no_text : AsksNoText asked
+  pub no_wrong : IsNone asked.wrong
+  pub unknown : check_settings_said asked None ≡ None
 
 -- the policy of a text, or where there is none the standard policy
 abbrev pub settings_by : Option (List ℕ) → Option PolicySettings
@@ -157,18 +190,24 @@ pub record NamesNoBase (asked : Asked) : Type 0 where
   pub no_url : bases_asked asked ≡ None
 
 -- by the format that is asked for
-abbrev pub InFormat : Option Format → Type 0 → Type 0 → Type 0
-InFormat None lines json = ⊥
-InFormat (Some Lines) lines json = lines
-InFormat (Some Json) lines json = json
+abbrev pub InFormat : Option Format → Type 0 → Type 0 → Type 0 → Type 0
+InFormat None lines json log = ⊥
+InFormat (Some Lines) lines json log = lines
+InFormat (Some Json) lines json log = json
+InFormat (Some Sarif) lines json log = log
 
--- all files that the words ask for were read, and what was written is what the command prints of them
-abbrev pub PrintsBy : Command → Asked → Option (List ℕ) → Option (List ℕ) → List ℕ → Type 0
-PrintsBy Tokens asked unread left written = InFormat (format_asked asked)
-    (PrintsAsked tokens_made no_file token_settings_said asked unread left written)
-    (PrintsAsked json_tokens_made no_file token_settings_said asked unread left written)
-PrintsBy Links asked unread left written = InFormat (format_asked asked)
-    (PrintsAsked links_made no_file link_settings_said asked unread left written)
-    (PrintsAsked json_links_made no_file link_settings_said asked unread left written)
-PrintsBy Text asked unread left written = PrintsAsked text_made no_file no_settings asked unread left written
-PrintsBy Clean asked unread left written = PrintsAsked clean_made settings_asked policy_settings asked unread left written
+-- all files that the words ask for were read, and what was written is what the command prints of them. `found` says whether
+-- it found something that the status tells.
+abbrev pub PrintsBy : Command → Asked → Option (List ℕ) → Option (List ℕ) → List ℕ → Bool → Type 0
+PrintsBy Tokens asked unread left written found = InFormat (format_asked false asked)
+    (PrintsAsked tokens_made no_file token_settings_said asked unread left written found)
+    (PrintsAsked json_tokens_made no_file token_settings_said asked unread left written found) ⊥
+PrintsBy Links asked unread left written found = InFormat (format_asked false asked)
+    (PrintsAsked links_made no_file link_settings_said asked unread left written found)
+    (PrintsAsked json_links_made no_file link_settings_said asked unread left written found) ⊥
+PrintsBy Text asked unread left written found = PrintsAsked text_made no_file no_settings asked unread left written found
+PrintsBy Clean asked unread left written found = PrintsAsked clean_made settings_asked policy_settings asked unread left written found
+PrintsBy Check asked unread left written found = InFormat (format_asked true asked)
+    (PrintsAsked check_made_lines no_file check_settings_said asked unread left written found)
+    (PrintsAsked check_made_json no_file check_settings_said asked unread left written found)
+    (PrintsAsked check_made_log no_file check_settings_said asked unread left written found)

@@ -5,7 +5,7 @@ ghost use Rattle.html5policy.specs.Standard.{standard_policy};
 ghost use Rattle.html5policy.specs.Text.{policy_said};
 ghost use Rattle.html5programs.specs.Words.{known_options};
 
-use crate::help::{CLEAN, LINKS, TEXT, TOKENS};
+use crate::help::{CHECK, CLEAN, LINKS, TEXT, TOKENS};
 use crate::policy::policy_text;
 use html5programs::{Choice, Program};
 
@@ -16,6 +16,7 @@ pub enum Command {
     Links,
     Text,
     Clean,
+    Check,
 }
 
 const HELP: Choice<'static> = Choice {
@@ -83,6 +84,11 @@ const POLICY: Choice<'static> = Choice {
     takes_word: true,
 };
 
+const TEMPLATE: Choice<'static> = Choice {
+    name: "--template",
+    takes_word: true,
+};
+
 const PRINT_POLICY: Choice<'static> = Choice {
     name: "--print-policy",
     takes_word: false,
@@ -130,6 +136,10 @@ static CLEANING: [Choice<'static>; 8] = [
     PRINT_POLICY,
 ];
 
+static CHECKING: [Choice<'static>; 8] = [
+    HELP, VERSION, ENCODING, FATAL, ENTITIES, PROGRESS, FORMAT, TEMPLATE,
+];
+
 /// The command of this name.
 #[tactic(auto, unfolding(crate::specs::Commands::command_of))]
 pub fn command_of(word: &str) -> Option<Command>
@@ -140,6 +150,7 @@ pub fn command_of(word: &str) -> Option<Command>
         "links" => Some(Command::Links),
         "text" => Some(Command::Text),
         "clean" => Some(Command::Clean),
+        "check" => Some(Command::Check),
         _ => None,
     }
 }
@@ -154,6 +165,7 @@ fn choices_of(command: Command) -> &'static [Choice<'static>]
         Command::Links => LINKING.as_slice(),
         Command::Text => READING.as_slice(),
         Command::Clean => CLEANING.as_slice(),
+        Command::Check => CHECKING.as_slice(),
     }
 }
 
@@ -164,6 +176,7 @@ fn help_of(command: Command) -> &'static str {
         Command::Links => LINKS,
         Command::Text => TEXT,
         Command::Clean => CLEAN,
+        Command::Check => CHECK,
     }
 }
 

@@ -9,6 +9,7 @@ Commands:
   links   the links, a line each
   text    the text, without scripts and styles
   clean   the pages, with only allowed elements and attributes in them
+  check   what is wrong in the pages or templates, a line each, with lines and columns
 
 Without a FILE, or where it is -, standard input is read. After -- all words are files.
 'firnuubal COMMAND --help' says more of a command.
@@ -16,8 +17,9 @@ Without a FILE, or where it is -, standard input is read. After -- all words are
   --version  the program's name and its version
 
 The status is 0 where all was done, or nobody reads the output any more; 1 where something could
-not be read or printed, and each such file is named; 2 where words, the label of an encoding, the
-name of a format, the URL of pages, or a file that they name for entities or a policy, are wrong.
+not be read or printed, and each such file is named, or where check found something; 2 where words,
+the label of an encoding, the name of a format or of a template language, the URL of pages, or a
+file that they name for entities or a policy, are wrong.
 ";
 
 // How a command is used that reads pages: what it does, its own options that stand first, those of each command, and
@@ -168,4 +170,31 @@ browser builds it as it is nested.
 "
     ],
     []
+);
+
+/// How `check` is used.
+pub const CHECK: &str = reading_help!(
+    "check",
+    "usage: firnuubal check [OPTION...] [FILE...]
+Prints what is wrong in HTML pages, a line each: the name of the file, the line and the column, and
+the code of it, as page.html:12:5: error: unexpected-null-character. Parse errors have the codes of
+the HTML Standard. The others are: end-tag-without-start, end-tag-of-void-element,
+unclosed-element, non-void-html-element-start-tag-with-trailing-solidus, duplicate-id,
+misspelled-element, misspelled-attribute. Each page is read whole before it is checked. The status
+is 1 where something was found.
+  Example: firnuubal check page.html
+",
+    [],
+    [
+        "  --format FORMAT  lines, as where it isn't given; json: an object of JSON on each line, with the
+                   column by UTF-16 code units, too, and the bytes of the page's text in UTF-8
+                   where it begins and ends; or sarif: a log of SARIF 2.1.0, as code hosts read
+                   it
+                   Example: firnuubal check --format json page.html
+  --template NAME  pages are in a template language, whose constructs are masked: jinja ({{ }},
+                   {% %}, {# #}), mustache ({{ }}, {{{ }}}) or erb (<% %>). Elements that branches
+                   of a construct open or close are counted as they stand
+                   Example: firnuubal check --template jinja page.html
+"
+    ]
 );

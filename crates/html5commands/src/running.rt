@@ -1,6 +1,6 @@
 //! A run of the program, by the words after its name.
-ghost use Rattle.std.specs.Prelude.{◌≡◌, ◌⊎◌, ◌∷◌, [], true, Contains, IfSome, IsNone, Ok, codes, map, string_bytes};
-ghost use Rattle.html5commands.specs.Commands.{IsUnknownWord, NamesNoBase, NamesNoFormat, NamesNothing, PrintsBy, asked_of_command, command_named, has_formats, options_of, program_name};
+ghost use Rattle.std.specs.Prelude.{◌≡◌, ◌⊎◌, ◌∷◌, [], false, true, Contains, IfSome, IsNone, Ok, codes, map, string_bytes};
+ghost use Rattle.html5commands.specs.Commands.{IsUnknownWord, NamesNoBase, NamesNoFormat, NamesNoTemplate, NamesNothing, PrintsBy, asked_of_command, command_named, has_formats, has_logs, options_of, program_name};
 ghost use Rattle.html5policy.specs.Standard.{standard_policy};
 ghost use Rattle.html5policy.specs.Text.{policy_said};
 ghost use Rattle.html5programs.specs.Ending.{AsksNoText, AsksSettings, AsksVersion, HasWrongWord, NamesNoEncoding, status_of};
@@ -11,12 +11,15 @@ use crate::command::{Command, command_of, program_of};
 use crate::format::filter_in_format;
 use crate::help::HELP;
 use devices::{Fault, Logged, Target, WriteTarget, given_words};
+use html5check::{Check, Lines};
 use html5cleaner::CleanPrinter;
 use html5extract::links::Links;
 use html5extract::page_text::PageText;
 use html5extract::token_lines::TokenLines;
+use html5json::findings::JsonFindings;
 use html5json::json_links::JsonLinks;
 use html5json::json_tokens::JsonTokens;
+use html5json::sarif::SarifLog;
 use html5programs::{
     Ending, Input, Messages, Meters, Output, filter_by_words, no_such, print_text, print_version,
 };
@@ -27,10 +30,18 @@ use std::rt::Env;
 
 const NAME: &str = "firnuubal";
 
-const NO_COMMAND: &str = "a command is missing: tokens, links, text or clean; try --help";
+const NO_COMMAND: &str = "a command is missing: tokens, links, text, clean or check; try --help";
 
 // What may stand in front.
-const NAMES: [&str; 6] = ["tokens", "links", "text", "clean", "--help", "--version"];
+const NAMES: [&str; 7] = [
+    "tokens",
+    "links",
+    "text",
+    "clean",
+    "check",
+    "--help",
+    "--version",
+];
 
 // Runs a command by the words after it.
 fn by_command<R: Files + Alloc<A = Global> + Meters, I: Read, O: Write + Drop, E: Target>(
@@ -43,7 +54,10 @@ fn by_command<R: Files + Alloc<A = Global> + Meters, I: Read, O: Write + Drop, E
 ) -> (Logged<Output<O>>, Ending)
     ensures done { AsksNoText (words_asked (options_of command) (map string_bytes words.now)) → result.1 ≡ Ending.Done
         → PrintsBy command (words_asked (options_of command) (map string_bytes words.now))
-        (I.remaining stdin.old.inner) (I.remaining stdin.new.inner) result.0.taken }
+        (I.remaining stdin.old.inner) (I.remaining stdin.new.inner) result.0.taken false }
+    ensures found { AsksNoText (words_asked (options_of command) (map string_bytes words.now)) → result.1 ≡ Ending.Found
+        → PrintsBy command (words_asked (options_of command) (map string_bytes words.now))
+        (I.remaining stdin.old.inner) (I.remaining stdin.new.inner) result.0.taken true }
     ensures version { AsksVersion (words_asked (options_of command) (map string_bytes words.now)) → result.1 ≡ Ending.Done
         → result.0.taken ≡ version_line program_name }
     ensures policy { AsksSettings (words_asked (options_of command) (map string_bytes words.now)) → result.1 ≡ Ending.Done
@@ -51,9 +65,11 @@ fn by_command<R: Files + Alloc<A = Global> + Meters, I: Read, O: Write + Drop, E
     ensures closed { result.1 ≡ Ending.Closed → result.0.inner.is_closed ≡ true }
     ensures encoding { NamesNoEncoding (words_asked (options_of command) (map string_bytes words.now))
         → ((result.1 ≡ Ending.WrongValue) ⊎ (result.1 ≡ Ending.NoMemory)) × (stdin.new ≡ stdin.old) × (result.0.taken ≡ []) }
-    ensures format { has_formats command ≡ true → NamesNoFormat (words_asked (options_of command) (map string_bytes words.now))
+    ensures format { has_formats command ≡ true → NamesNoFormat (has_logs command) (words_asked (options_of command) (map string_bytes words.now))
         → ((result.1 ≡ Ending.WrongValue) ⊎ (result.1 ≡ Ending.NoMemory)) × (stdin.new ≡ stdin.old) × (result.0.taken ≡ []) }
     ensures base { command ≡ Command.Links → NamesNoBase (words_asked (options_of command) (map string_bytes words.now))
+        → ((status_of result.1 ≡ 2) ⊎ (result.1 ≡ Ending.NoMemory)) × (stdin.new ≡ stdin.old) × (result.0.taken ≡ []) }
+    ensures template { command ≡ Command.Check → NamesNoTemplate (words_asked (options_of command) (map string_bytes words.now))
         → ((status_of result.1 ≡ 2) ⊎ (result.1 ≡ Ending.NoMemory)) × (stdin.new ≡ stdin.old) × (result.0.taken ≡ []) }
     ensures wrong { result.1 ≡ Ending.WrongWord
         → HasWrongWord (words_asked (options_of command) (map string_bytes words.now)) }
@@ -65,13 +81,13 @@ fn by_command<R: Files + Alloc<A = Global> + Meters, I: Read, O: Write + Drop, E
     let program = program_of(command);
     match command {
         Command::Tokens => {
-            filter_in_format::<TokenLines<_>, JsonTokens<_>, R, I, O, E>(
-                rt, program, words, stdin, stdout, messages,
+            filter_in_format::<TokenLines<_>, JsonTokens<_>, JsonTokens<_>, R, I, O, E>(
+                rt, false, program, words, stdin, stdout, messages,
             )
         }
         Command::Links => {
-            filter_in_format::<Links<_>, JsonLinks<_>, R, I, O, E>(
-                rt, program, words, stdin, stdout, messages,
+            filter_in_format::<Links<_>, JsonLinks<_>, JsonLinks<_>, R, I, O, E>(
+                rt, false, program, words, stdin, stdout, messages,
             )
         }
         Command::Text => {
@@ -81,6 +97,17 @@ fn by_command<R: Files + Alloc<A = Global> + Meters, I: Read, O: Write + Drop, E
             filter_by_words::<CleanPrinter<_>, R, I, O, E>(
                 rt, program, words, stdin, stdout, messages,
             )
+        }
+        Command::Check => {
+            filter_in_format::<
+                Check<_, Lines>,
+                Check<_, JsonFindings>,
+                Check<_, SarifLog>,
+                R,
+                I,
+                O,
+                E,
+            >(rt, true, program, words, stdin, stdout, messages)
         }
     }
 }
@@ -115,11 +142,14 @@ pub fn command_by_words<R: Files + Alloc<A = Global> + Meters, I: Read, O: Write
     stdout: O,
     messages: &mut Messages<'_, E>,
 ) -> (Logged<Output<O>>, Ending)
-    // What `Done` says: all files that the words ask for were read to their ends, and what was written is
-    // what the command prints of them.
+    // What `Done` and `Found` say: all files that the words ask for were read to their ends, and what was
+    // written is what the command prints of them.
     ensures done { IfSome (command_named (map string_bytes words.now)) (λ named.
         AsksNoText (asked_of_command named) → result.1 ≡ Ending.Done
-        → PrintsBy named.command (asked_of_command named) (I.remaining stdin.old.inner) (I.remaining stdin.new.inner) result.0.taken) }
+        → PrintsBy named.command (asked_of_command named) (I.remaining stdin.old.inner) (I.remaining stdin.new.inner) result.0.taken false) }
+    ensures found { IfSome (command_named (map string_bytes words.now)) (λ named.
+        AsksNoText (asked_of_command named) → result.1 ≡ Ending.Found
+        → PrintsBy named.command (asked_of_command named) (I.remaining stdin.old.inner) (I.remaining stdin.new.inner) result.0.taken true) }
     ensures version { IfSome (command_named (map string_bytes words.now)) (λ named.
         AsksVersion (asked_of_command named) → result.1 ≡ Ending.Done → result.0.taken ≡ version_line program_name) }
     ensures policy { IfSome (command_named (map string_bytes words.now)) (λ named.
@@ -131,10 +161,13 @@ pub fn command_by_words<R: Files + Alloc<A = Global> + Meters, I: Read, O: Write
         NamesNoEncoding (asked_of_command named)
         → ((result.1 ≡ Ending.WrongValue) ⊎ (result.1 ≡ Ending.NoMemory)) × (stdin.new ≡ stdin.old) × (result.0.taken ≡ [])) }
     ensures format { IfSome (command_named (map string_bytes words.now)) (λ named.
-        has_formats named.command ≡ true → NamesNoFormat (asked_of_command named)
+        has_formats named.command ≡ true → NamesNoFormat (has_logs named.command) (asked_of_command named)
         → ((result.1 ≡ Ending.WrongValue) ⊎ (result.1 ≡ Ending.NoMemory)) × (stdin.new ≡ stdin.old) × (result.0.taken ≡ [])) }
     ensures base { IfSome (command_named (map string_bytes words.now)) (λ named.
         named.command ≡ Command.Links → NamesNoBase (asked_of_command named)
+        → ((status_of result.1 ≡ 2) ⊎ (result.1 ≡ Ending.NoMemory)) × (stdin.new ≡ stdin.old) × (result.0.taken ≡ [])) }
+    ensures template { IfSome (command_named (map string_bytes words.now)) (λ named.
+        named.command ≡ Command.Check → NamesNoTemplate (asked_of_command named)
         → ((status_of result.1 ≡ 2) ⊎ (result.1 ≡ Ending.NoMemory)) × (stdin.new ≡ stdin.old) × (result.0.taken ≡ [])) }
     ensures usage { IfSome (command_named (map string_bytes words.now)) (λ named.
         HasWrongWord (asked_of_command named) → (result.1 ≡ Ending.WrongWord) ⊎ (result.1 ≡ Ending.NoMemory)) }

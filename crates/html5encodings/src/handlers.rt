@@ -37,8 +37,8 @@ pub(crate) trait Handler {
         ensures { result ≡ (reads_ascii (state held) || reads_plain (state held)) };
 }
 
-// Appends the text of bytes, of the first one at least, up to ASCII that stands for itself. It gives how many
-// they were and what is held after them.
+// Appends the text of bytes, of the first one at least, up to two bytes of ASCII that stand for themselves, or to the
+// end. It gives how many they were and what is held after them.
 pub(crate) fn append_run<H: Handler, A: Allocator>(
     held: H::Held,
     bytes: &[u8],

@@ -115,8 +115,9 @@ fn code_of_message(message: &str) -> Option<ErrorCode>
     }
 }
 
-/// The standard's code of an error by its message, where errors are not exact.
+/// The standard's code of an error by its message, where errors are not exact. One message has one code.
 pub fn error_code(message: &str) -> Option<ErrorCode>
+    ensures value { result ≡ code_of_message message.now }
     ensures saw { (S : State) (c : ℕ) → message.now ≡ saw false c (state_name S) → result ≡ code_in S c }
     ensures end { (S : State) → message.now ≡ saw_end false (state_name S) → result ≡ end_code_in S }
     ensures fixed { (m : FixedMessage) → message.now ≡ fixed_text m → result ≡ fixed_code m }

@@ -41,12 +41,15 @@ pub fn read_links<R: Source, W: Target, A: Allocator + Copy>(
 }
 
 impl<W: Target + Drop> Filter<W> for Links<W> {
+    ghost use Rattle.html5ever_interface.specs.Sink.{Message};
     ghost use Rattle.html5extract.specs.LinkReading.{LinkReading, link_reading, links_started};
     ghost use Rattle.html5extract.specs.Makings.{links_made};
 
     type Settings = LinkSettings;
 
     ghost State = { LinkReading };
+
+    ghost Part = { Message };
 
     ghost state = { λ l. link_reading l.bases l.front l.printer.printed };
 
@@ -76,9 +79,13 @@ impl<W: Target + Drop> Filter<W> for Links<W> {
         read_links(alloc, source, self, references)
     }
 
-    fn into_printer(self) -> Printer<W>
-        ensures { result.printed ≡ self.printer.printed }
+    fn has_found(&self) -> bool {
+        false
+    }
+
+    fn finish(self, _alloc: Global) -> (Printer<W>, Result<(), StreamError>)
+        ensures { result.0.printed ≡ self.printer.printed }
     {
-        self.printer
+        (self.printer, Ok(()))
     }
 }

@@ -36,12 +36,15 @@ pub fn read_text<R: Source, W: Target, A: Allocator + Copy>(
 }
 
 impl<W: Target + Drop> Filter<W> for PageText<W> {
+    ghost use Rattle.html5ever_interface.specs.Sink.{Message};
     ghost use Rattle.html5extract.specs.Makings.{text_made};
     ghost use Rattle.html5extract.specs.PageText.{Reading, reading_of};
 
     type Settings = ();
 
     ghost State = { Reading };
+
+    ghost Part = { Message };
 
     ghost state = { reading_of };
 
@@ -66,9 +69,13 @@ impl<W: Target + Drop> Filter<W> for PageText<W> {
         read_text(alloc, source, self, references)
     }
 
-    fn into_printer(self) -> Printer<W>
-        ensures { result.printed ≡ self.printer.printed }
+    fn has_found(&self) -> bool {
+        false
+    }
+
+    fn finish(self, _alloc: Global) -> (Printer<W>, Result<(), StreamError>)
+        ensures { result.0.printed ≡ self.printer.printed }
     {
-        self.into_inner()
+        (self.into_inner(), Ok(()))
     }
 }

@@ -37,6 +37,7 @@ pub fn read_lines<R: Source, W: Target, A: Allocator + Copy>(
 }
 
 impl<W: Target + Drop> Filter<W> for TokenLines<W> {
+    ghost use Rattle.html5ever_interface.specs.Sink.{Message};
     ghost use Rattle.html5extract.specs.Makings.{tokens_made};
     ghost use Rattle.html5extract.specs.TokenLines.{TokenReading, lines_of};
     ghost use Rattle.html5programs.specs.Fronts.{front_at_start};
@@ -44,6 +45,8 @@ impl<W: Target + Drop> Filter<W> for TokenLines<W> {
     type Settings = TokenSettings;
 
     ghost State = { TokenReading };
+
+    ghost Part = { Message };
 
     ghost state = { lines_of };
 
@@ -69,9 +72,13 @@ impl<W: Target + Drop> Filter<W> for TokenLines<W> {
         read_lines(alloc, source, self, references)
     }
 
-    fn into_printer(self) -> Printer<W>
-        ensures { result.printed ≡ self.printer.printed }
+    fn has_found(&self) -> bool {
+        false
+    }
+
+    fn finish(self, _alloc: Global) -> (Printer<W>, Result<(), StreamError>)
+        ensures { result.0.printed ≡ self.printer.printed }
     {
-        self.into_inner()
+        (self.into_inner(), Ok(()))
     }
 }

@@ -5,7 +5,7 @@ use Rattle.html5ever_interface.specs.Token.Told.{Text, Null, Error, Tag, Comment
 use Rattle.html5json.specs.Lines.{text_of}
 use Rattle.html5json.specs.Links.{json_of_link, link_members}
 use Rattle.html5json.specs.Reading.{ReadsBack}
-use Rattle.html5json.specs.Tokens.{attribute_items, json_of_option, json_of_token, of_file, token_members}
+use Rattle.html5json.specs.Tokens.{attribute_items, code_word, json_of_option, json_of_token, of_file, token_members}
 use Rattle.html5json.proofs.InLine.{HasDecimals, ItemsHaveDecimals, MembersHaveDecimals, print_in_line}
 use Rattle.json.specs.Json.{Json, null, boolean, number, string, array, object, Items, no_items, item, Members, no_members, member, value, if_last}
 use Rattle.json.specs.Print.{print}
@@ -97,7 +97,7 @@ attribute_depth (attribute ∷ attributes) = omega (arith, attribute_depth attri
 token_decimals : (told : Told) (line : ℕ) → line < 2 ^ 64 → MembersHaveDecimals (token_members told line)
 token_decimals (Text text) line h = (tt, (tt, tt))
 token_decimals Null line h = (tt, ((line, h, refl), tt))
-token_decimals (Error message) line h = (tt, ((line, h, refl), (tt, tt)))
+token_decimals (Error message) line h = (tt, ((line, h, refl), (tt, (option_decimals (code_word message), tt))))
 token_decimals (Tag tag) line h = (tt, ((line, h, refl), (tt, (attribute_decimals tag.attributes, (tt, tt)))))
 token_decimals (Comment text) line h = (tt, ((line, h, refl), (tt, tt)))
 token_decimals (Instruction text) line h = (tt, ((line, h, refl), (tt, tt)))
@@ -108,7 +108,7 @@ token_decimals End line h = (tt, ((line, h, refl), tt))
 token_depth : (told : Told) (line : ℕ) → members_depth (token_members told line) ≤ 2
 token_depth (Text text) line = omega arith
 token_depth Null line = omega arith
-token_depth (Error message) line = omega arith
+token_depth (Error message) line = omega (arith, option_depth (code_word message))
 token_depth (Tag tag) line = omega (arith, attribute_depth tag.attributes)
 token_depth (Comment text) line = omega arith
 token_depth (Instruction text) line = omega arith

@@ -1,4 +1,6 @@
 pub mod Adding
+pub mod Findings
+pub mod Laws
 pub mod Lines
 pub mod Links
 pub mod Makings

@@ -1,5 +1,5 @@
 -- Lines of JSON.
-use Rattle.std.specs.Prelude.{ℕ, List, [], ◌∷◌, ◌++◌, Option, None, Some, codes}
+use Rattle.std.specs.Prelude.{ℕ, List, [], ◌∷◌, ◌++◌, Option, codes}
 use Rattle.html5ever_interface.specs.Token.{TagOf, Told}
 use Rattle.html5ever_interface.specs.Token.Told.{Text}
 use Rattle.html5extract.specs.LinkReading.{LinkReading, link_step}

@@ -1,5 +1,7 @@
 -- The tokens of a page as JSON: an object each.
-use Rattle.std.specs.Prelude.{ℕ, List, [], ◌∷◌, Option, None, Some, codes, decimal}
+use Rattle.std.specs.Prelude.{ℕ, List, [], ◌∷◌, Option, None, Some, codes, decimal, option_map}
+use Rattle.html5errors.specs.CodeNames.{code_name}
+use Rattle.html5errors.specs.Messages.{code_of_message}
 use Rattle.html5ever_interface.specs.Token.{DoctypeOf, TagOf, Told}
 use Rattle.html5ever_interface.specs.Token.Told.{Text, Null, Error, Tag, Comment, Instruction, Doctype, End}
 use Rattle.html5ever_interface.specs.declared.interface.token.TagKind.{TagKind}
@@ -30,9 +32,9 @@ of_type kind members = member (codes "type") (string kind) members
 abbrev pub on_line : List ℕ → ℕ → Members → Members
 on_line kind line members = of_type kind (member (codes "line") (number (decimal line)) members)
 
--- a member that is a text, after all others
-abbrev pub last_text : List ℕ → List ℕ → Members
-last_text name text = member name (string text) no_members
+-- what a text holds, and what else has a text and no more
+abbrev pub text_members : List ℕ → Members
+text_members text = member (codes "text") (string text) no_members
 
 -- the type of a tag
 abbrev pub kind_word : TagKind → List ℕ
@@ -54,14 +56,24 @@ doctype_members doctype =
     member (codes "system_id") (json_of_option doctype.system_id) (
     member (codes "force_quirks") (boolean doctype.force_quirks) no_members)))
 
+-- the standard's code of a parse error by its message, where it has one
+abbrev pub code_word : List ℕ → Option (List ℕ)
+code_word message = option_map code_name (code_of_message message)
+
+-- what a parse error holds: its message, and its code, or null
+abbrev pub error_members : List ℕ → Members
+error_members message =
+    member (codes "message") (string message) (
+    member (codes "code") (json_of_option (code_word message)) no_members)
+
 -- what a token holds, on the line that the tokenizer has reached. A text has no line: it may stand on many.
 abbrev pub token_members : Told → ℕ → Members
-token_members (Text text) line = of_type (codes "text") (last_text (codes "text") text)
+token_members (Text text) line = of_type (codes "text") (text_members text)
 token_members Null line = on_line (codes "null") line no_members
-token_members (Error message) line = on_line (codes "error") line (last_text (codes "message") message)
+token_members (Error message) line = on_line (codes "error") line (error_members message)
 token_members (Tag tag) line = on_line (kind_word tag.kind) line (tag_members tag)
-token_members (Comment text) line = on_line (codes "comment") line (last_text (codes "text") text)
-token_members (Instruction text) line = on_line (codes "instruction") line (last_text (codes "text") text)
+token_members (Comment text) line = on_line (codes "comment") line (text_members text)
+token_members (Instruction text) line = on_line (codes "instruction") line (text_members text)
 token_members (Doctype doctype) line = on_line (codes "doctype") line (doctype_members doctype)
 token_members End line = on_line (codes "end_of_page") line no_members
 

@@ -57,12 +57,15 @@ impl<W: Target, A: Allocator + Copy> TagHandler<Tag<A>> for JsonLinks<W, A> {
 }
 
 impl<W: Target + Drop> Filter<W> for JsonLinks<W> {
+    ghost use Rattle.html5ever_interface.specs.Sink.{Message};
     ghost use Rattle.html5extract.specs.LinkReading.{LinkReading, link_reading, links_started};
     ghost use Rattle.html5json.specs.Makings.{json_links_made};
 
     type Settings = LinkSettings;
 
     ghost State = { LinkReading };
+
+    ghost Part = { Message };
 
     ghost state = { λ l. link_reading l.bases l.front l.printer.printed };
 
@@ -98,9 +101,13 @@ impl<W: Target + Drop> Filter<W> for JsonLinks<W> {
         read_tags(alloc, source, links, references)
     }
 
-    fn into_printer(self) -> Printer<W>
-        ensures { result.printed ≡ self.printer.printed }
+    fn has_found(&self) -> bool {
+        false
+    }
+
+    fn finish(self, _alloc: Global) -> (Printer<W>, Result<(), StreamError>)
+        ensures { result.0.printed ≡ self.printer.printed }
     {
-        self.printer
+        (self.printer, Ok(()))
     }
 }

@@ -46,6 +46,7 @@ impl<W: Target, A: Allocator + Copy> TokenHandler<Token<A>> for JsonTokens<W, A>
 }
 
 impl<W: Target + Drop> Filter<W> for JsonTokens<W> {
+    ghost use Rattle.html5ever_interface.specs.Sink.{Message};
     ghost use Rattle.html5json.specs.Lines.{JsonReading, json_reading};
     ghost use Rattle.html5json.specs.Makings.{json_tokens_made};
     ghost use Rattle.html5programs.specs.Fronts.{front_at_start};
@@ -53,6 +54,8 @@ impl<W: Target + Drop> Filter<W> for JsonTokens<W> {
     type Settings = TokenSettings;
 
     ghost State = { JsonReading };
+
+    ghost Part = { Message };
 
     ghost state = { λ t. json_reading t.front t.printer.printed };
 
@@ -82,9 +85,13 @@ impl<W: Target + Drop> Filter<W> for JsonTokens<W> {
         read_tokens(alloc, source, self, references)
     }
 
-    fn into_printer(self) -> Printer<W>
-        ensures { result.printed ≡ self.printer.printed }
+    fn has_found(&self) -> bool {
+        false
+    }
+
+    fn finish(self, _alloc: Global) -> (Printer<W>, Result<(), StreamError>)
+        ensures { result.0.printed ≡ self.printer.printed }
     {
-        self.printer
+        (self.printer, Ok(()))
     }
 }

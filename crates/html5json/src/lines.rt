@@ -16,7 +16,7 @@ use std::alloc::{AllocError, Allocator};
 
 // The line of a value that was written, after what stood before.
 #[tactic(auto, unfolding(crate::specs::Lines::text_of))]
-fn ended<A: Allocator>(writer: Writer<A>) -> Result<Vec<u8, A>, AllocError>
+pub(crate) fn ended<A: Allocator>(writer: Writer<A>) -> Result<Vec<u8, A>, AllocError>
     ensures { IfOk result (λ lines. (json : Json) → writer.tokens ≡ json_tokens json → lines.items ≡ writer.before ++ line_of json) }
 {
     let mut lines = writer.into_inner();

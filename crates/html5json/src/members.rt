@@ -2,8 +2,9 @@
 ghost use Rattle.std.specs.Prelude.{◌≡◌, [], ◌∷◌, ◌++◌, codes, decimal, option_map, string_bytes};
 ghost use Rattle.html5json.specs.Adding.{Adds};
 ghost use Rattle.html5json.specs.Tokens.{file_tokens, json_of_option};
+ghost use Rattle.json.specs.Json.{member, no_members};
 ghost use Rattle.json.specs.Token.{begin_object, key, string, number, boolean, end_object};
-ghost use Rattle.json.specs.Tree.{json_tokens};
+ghost use Rattle.json.specs.Tree.{json_tokens, members_tokens};
 
 use json::Writer;
 use std::alloc::{AllocError, Allocator};
@@ -91,6 +92,23 @@ pub(crate) fn end_with_text<A: Allocator>(
     ensures { Adds result writer.old writer.new (key name.now ∷ string text.now ∷ end_object ∷ []) }
 {
     write_text(writer, name, text)?;
+    writer.end_object()
+}
+
+// Writes the last member of an object, a text or null.
+pub(crate) fn end_with_option<A: Allocator>(
+    writer: &mut Writer<A>,
+    name: &str,
+    text: Option<&str>,
+) -> Result<(), AllocError>
+    ensures { Adds result writer.old writer.new (members_tokens
+        (member name.now (json_of_option (option_map (λ text. text.now) text.entry)) no_members)) }
+{
+    writer.key(name)?;
+    match text {
+        Some(text) => writer.string(text)?,
+        None => writer.null()?,
+    }
     writer.end_object()
 }
 

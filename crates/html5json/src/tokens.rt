@@ -1,17 +1,19 @@
 //! A token as JSON.
-ghost use Rattle.std.specs.Prelude.{◌≡◌, [], ◌∷◌, ◌++◌, codes, decimal, map};
+ghost use Rattle.std.specs.Prelude.{◌≡◌, [], ◌∷◌, ◌++◌, codes, decimal, map, option_map};
 ghost use Rattle.html5ever_interface.specs.Token.{doctype_of, tag_of, told_by};
-ghost use Rattle.html5ever_interface.specs.Token.Told.{Doctype as ToldDoctype, Tag as ToldTag, Text};
+ghost use Rattle.html5ever_interface.specs.Token.Told.{Doctype as ToldDoctype, Error, Tag as ToldTag, Text};
 ghost use Rattle.html5json.specs.Adding.{Adds};
-ghost use Rattle.html5json.specs.Tokens.{attribute_items, json_of_attribute, kind_word, last_text, on_line, tag_members, token_members};
+ghost use Rattle.html5json.specs.Tokens.{attribute_items, code_word, json_of_attribute, kind_word, on_line, tag_members, text_members, token_members};
 ghost use Rattle.json.specs.Json.{no_members};
 ghost use Rattle.json.specs.Token.{begin_array, key};
 ghost use Rattle.json.specs.Tree.{items_tokens, json_tokens, members_tokens};
 ghost use Rattle.markup5ever.specs.Names.{attribute_of};
 
 use crate::members::{
-    end_with_flag, end_with_text, write_option, write_text, write_type, write_type_and_line,
+    end_with_flag, end_with_option, end_with_text, write_option, write_text, write_type,
+    write_type_and_line,
 };
+use html5errors::error_code;
 use html5ever_interface::interface::token::{Doctype, Tag, TagKind, Token};
 use json::Writer;
 use markup5ever::interface::Attribute;
@@ -102,13 +104,12 @@ fn write_texted<A: Allocator>(
     writer: &mut Writer<A>,
     kind: &str,
     line: u64,
-    name: &str,
     text: &str,
 ) -> Result<(), AllocError>
-    ensures { Adds result writer.old writer.new (members_tokens (on_line kind.now line (last_text name.now text.now))) }
+    ensures { Adds result writer.old writer.new (members_tokens (on_line kind.now line (text_members text.now))) }
 {
     write_type_and_line(writer, kind, line)?;
-    end_with_text(writer, name, text)
+    end_with_text(writer, "text", text)
 }
 
 // Writes the members of a tag, and the end of its object.
@@ -138,6 +139,29 @@ fn write_doctype<A: Allocator, B: Allocator>(
     end_with_flag(writer, "force_quirks", doctype.force_quirks)
 }
 
+// The standard's code of a parse error by its message, where it has one.
+fn code_word(message: &str) -> Option<&'static str>
+    ensures { option_map (λ code. code.now) result ≡ code_word message.now }
+{
+    match error_code(message) {
+        Some(code) => Some(code.as_str()),
+        None => None,
+    }
+}
+
+// Writes the members of a parse error, and the end of its object.
+fn write_error<A: Allocator>(
+    writer: &mut Writer<A>,
+    message: &str,
+    line: u64,
+) -> Result<(), AllocError>
+    ensures { Adds result writer.old writer.new (members_tokens (token_members (Error message.now) line)) }
+{
+    write_type_and_line(writer, "error", line)?;
+    write_text(writer, "message", message)?;
+    end_with_option(writer, "code", code_word(message))
+}
+
 /// Writes the members of a text, and the end of its object.
 pub fn write_run<A: Allocator>(writer: &mut Writer<A>, text: &str) -> Result<(), AllocError>
     ensures { Adds result writer.old writer.new (members_tokens (token_members (Text text.now) 0)) }
@@ -157,18 +181,10 @@ pub fn write_token<A: Allocator, B: Allocator>(
     match token {
         Token::CharacterTokens(text) => write_run(writer, text),
         Token::NullCharacterToken => write_bare(writer, "null", line),
-        Token::ParseError(message) => write_texted(
-            writer,
-            "error",
-            line,
-            "message",
-            message.as_str(),
-        ),
+        Token::ParseError(message) => write_error(writer, message, line),
         Token::TagToken(tag) => write_tag(writer, tag, line),
-        Token::CommentToken(text) => write_texted(writer, "comment", line, "text", text),
-        Token::ProcessingInstructionToken(text) => {
-            write_texted(writer, "instruction", line, "text", text)
-        }
+        Token::CommentToken(text) => write_texted(writer, "comment", line, text),
+        Token::ProcessingInstructionToken(text) => write_texted(writer, "instruction", line, text),
         Token::DoctypeToken(doctype) => write_doctype(writer, doctype, line),
         Token::EOFToken => write_bare(writer, "end_of_page", line),
     }

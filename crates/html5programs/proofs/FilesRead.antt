@@ -6,7 +6,7 @@ use Rattle.html5programs.specs.declared.encoded.PageDecoding.{PageDecoding}
 use Rattle.html5programs.specs.Filtering.{Making, ReadsFile, ReadsFiles}
 use Rattle.markup5ever.specs.NamedReferences.{NamedReference}
 
-module _ {T S : Type 0} (means : Making T S) (references : List NamedReference) (decoding : PageDecoding) where
+module _ {T M S : Type 0} (means : Making T M S) (references : List NamedReference) (decoding : PageDecoding) where
   pub reads-none : (known : Option (List ℕ)) (s : S) → ReadsFiles means references decoding [] known known s s
   unfolding ReadsFiles
   reads-none known s = (refl, refl)

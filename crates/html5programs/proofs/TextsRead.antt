@@ -23,7 +23,7 @@ whole-text (Some x) (Some y) text bytes is given end =
     let same : x ≡ text = cc is in
     sym (append-nil bytes) ∙ ap (λ l. bytes ++ l) (sym end) ∙ sym given ∙ same
 
-module _ {T S : Type 0} (means : Making T S) (references : List NamedReference) (said : Option Encoding) where
+module _ {T M S : Type 0} (means : Making T M S) (references : List NamedReference) (said : Option Encoding) where
   page-text : (known unread left : Option (List ℕ)) (bytes : List ℕ) → IfSome known (λ all. unread ≡ Some (text_of_page references said None all))
       → Consumes unread left bytes → IsAtEnd left → IfSome known (λ all. bytes ≡ text_of_page references said None all)
   page-text None unread left bytes is given end = tt
@@ -59,7 +59,7 @@ text-opened_fatally (Some bytes) (Some rest) fronted front encoding encoding_by 
     subst (λ (k : Option (List ℕ)). IfSome k (λ bytes. unread ≡ Some (text_up_to_error (start encoding) bytes))) same text in
     text_is ∙ ap (λ e. Some (text_up_to_error (start e) (front ++ rest))) is ∙ ap (λ l. Some (text_up_to_error (start (encoding_by bytes)) l)) (sym given)
 
-module _ {T S : Type 0} (means : Making T S) (references : List NamedReference) (said : Encoding) where
+module _ {T M S : Type 0} (means : Making T M S) (references : List NamedReference) (said : Encoding) where
   whole-fatally : (known unread left : Option (List ℕ)) (text : List ℕ) → IfSome known (λ all. unread ≡ Some (text_up_to_error (start (encoding_by references (Some said) None all)) all))
       → Consumes unread left text → IsAtEnd left → IsUtf8 text
       → IfSome known (λ all. IsTextIn (encoding_by references (Some said) None all) all text)

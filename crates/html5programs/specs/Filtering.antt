@@ -1,34 +1,36 @@
 -- What a program makes of the files that it reads, one after the other.
-use Rattle.std.specs.Prelude.{◌≡◌, ℕ, List, [], ◌∷◌, Option, None, Some, codes}
+use Rattle.std.specs.Prelude.{◌≡◌, ℕ, Bool, List, [], ◌∷◌, Option, None, Some, codes}
 use Rattle.std.specs.Str.{IsUtf8}
-use Rattle.html5ever_interface.specs.Sink.{Message}
 use Rattle.html5programs.specs.declared.encoded.PageDecoding.{PageDecoding}
 use Rattle.html5programs.specs.Encodings.{IsTextOf}
 use Rattle.html5programs.specs.Words.{Asked}
 use Rattle.markup5ever.specs.NamedReferences.{NamedReference}
 
--- what a filter makes of settings, which are of type T, and of pages, where its states are of type S
-pub record Making (T S : Type 0) : Type 0 where
+-- what a filter makes of settings, which are of type T, and of pages, which it reads into a list of type M, as their messages. Its states
+-- are of type S.
+pub record Making (T M S : Type 0) : Type 0 where
   -- a filter with these settings, to whose printer this was printed
   pub started : T → List ℕ → S
   -- where a file of this name is next
   pub named : List ℕ → S → S
   -- where a page begins, after what was read before
   pub begun : S → S
-  -- the messages of a page whose bytes are given, by a table of names
-  pub page : List NamedReference → S → List ℕ → List Message
-  -- a filter after some of them
-  pub handed : S → List Message → S
-  -- what was printed
+  -- what a page whose bytes are given is read into, by a table of names
+  pub page : List NamedReference → S → List ℕ → List M
+  -- a filter after some of it
+  pub handed : S → List M → S
+  -- what is printed in the end
   pub printed : S → List ℕ
+  -- whether something was found that the status of the run tells
+  pub found : S → Bool
 
 -- a file that is standard input
 abbrev pub IsInput : List ℕ → Type 0
 IsInput file = file ≡ codes "-"
 
 -- how pages are read: by a table of references, and decoded so
-module _ {T S : Type 0} (means : Making T S) (references : List NamedReference) (decoding : PageDecoding) where
-  -- a page was read to its end, its text is UTF-8, and the filter was handed all of its messages. The source of the page had this left
+module _ {T M S : Type 0} (means : Making T M S) (references : List NamedReference) (decoding : PageDecoding) where
+  -- a page was read to its end, its text is UTF-8, and the filter was handed all that it is read into. The source of the page had this left
   -- before and after it.
   pub record ReadsText (unread left : Option (List ℕ)) (before after : S) : Type 0 where
     pub text : List ℕ

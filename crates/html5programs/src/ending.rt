@@ -7,6 +7,8 @@ ghost use Rattle.html5programs.specs.Ending.{status_of};
 pub enum Ending {
     /// All was done that was asked for.
     Done,
+    /// All was done, and something was found that the status tells, as faults of pages.
+    Found,
     /// The reader of the output went away.
     Closed,
     /// A file could not be read to its end, and what was made of the others was printed.
@@ -27,14 +29,14 @@ pub enum Ending {
 
 impl Ending {
     /// The status that the process ends with: 0 where all was done or nobody reads the output, 1 where
-    /// something could not be read or printed, and 2 where the words, the label of the encoding, or a file
+    /// something was found, or could not be read or printed, and 2 where the words, the label of the encoding, or a file
     /// that they name for the table or the settings, are wrong.
     pub fn status(self) -> u8
         ensures { result ≡ status_of self }
     {
         match self {
             Ending::Done | Ending::Closed => 0,
-            Ending::Missed | Ending::Unprinted | Ending::NoMemory => 1,
+            Ending::Found | Ending::Missed | Ending::Unprinted | Ending::NoMemory => 1,
             Ending::WrongWord | Ending::WrongValue | Ending::NoTable | Ending::NoSettings => 2,
         }
     }

@@ -1,5 +1,5 @@
 //! Files that a filter reads, one after the other.
-ghost use Rattle.std.specs.Prelude.{◌≡◌, ◌≢◌, true, IsOk, OnOk, map};
+ghost use Rattle.std.specs.Prelude.{◌≡◌, ◌≢◌, false, true, IsOk, OnOk, map};
 ghost use Rattle.html5programs.specs.Ending.{PrintsFiles};
 ghost use Rattle.html5programs.specs.Filtering.{ReadsFile, ReadsFiles, ReadsText};
 
@@ -167,9 +167,10 @@ fn read_files<
     (filter, outcome)
 }
 
-// How a run over files ends, where what was made of them was written or not.
-fn ending_of(outcome: Outcome, is_written: bool, is_closed: bool) -> Ending
-    ensures done { result ≡ Ending.Done → (outcome ≡ Outcome.Read) × (is_written ≡ true) }
+// How a run over files ends, where what was made of them was written or not, and something was found or not.
+fn ending_of(outcome: Outcome, is_written: bool, is_closed: bool, has_found: bool) -> Ending
+    ensures done { result ≡ Ending.Done → (outcome ≡ Outcome.Read) × (is_written ≡ true) × (has_found ≡ false) }
+    ensures found { result ≡ Ending.Found → (outcome ≡ Outcome.Read) × (is_written ≡ true) × (has_found ≡ true) }
     ensures closed { (result ≡ Ending.Closed) → is_closed ≡ true }
     ensures words { (result ≢ Ending.WrongWord) × (result ≢ Ending.NoMemory) }
 {
@@ -177,6 +178,7 @@ fn ending_of(outcome: Outcome, is_written: bool, is_closed: bool) -> Ending
         return Ending::Closed;
     }
     match outcome {
+        Outcome::Read if is_written && has_found => Ending::Found,
         Outcome::Read if is_written => Ending::Done,
         Outcome::Missed if is_written => Ending::Missed,
         _ => Ending::Unprinted,
@@ -193,7 +195,7 @@ pub fn ending_of_text<O: Write, E: Target>(
     ensures closed { result ≡ Ending.Closed → output.now.is_closed ≡ true }
     ensures words { (result ≢ Ending.WrongWord) × (result ≢ Ending.NoMemory) }
 {
-    let ending = ending_of(Outcome::Read, is_written, output.is_closed());
+    let ending = ending_of(Outcome::Read, is_written, output.is_closed(), false);
     say_unprinted(ending, output, messages);
     ending
 }
@@ -232,7 +234,9 @@ pub fn filter_files<
     messages: &mut Messages<'_, E>,
 ) -> (Logged<Output<O>>, Ending)
     ensures done { result.1 ≡ Ending.Done → PrintsFiles F.means references.now decoding settings (map (λ file. file.now) files.now)
-        (I.remaining stdin.old.inner) (I.remaining stdin.new.inner) result.0.taken }
+        (I.remaining stdin.old.inner) (I.remaining stdin.new.inner) result.0.taken false }
+    ensures found { result.1 ≡ Ending.Found → PrintsFiles F.means references.now decoding settings (map (λ file. file.now) files.now)
+        (I.remaining stdin.old.inner) (I.remaining stdin.new.inner) result.0.taken true }
     ensures closed { result.1 ≡ Ending.Closed → result.0.inner.is_closed ≡ true }
     ensures words { (result.1 ≢ Ending.WrongWord) × (result.1 ≢ Ending.NoMemory) }
 {
@@ -241,8 +245,11 @@ pub fn filter_files<
     let (filter, outcome) = read_files(
         rt, filter, references, decoding, is_watched, stdin, files, messages,
     );
-    let (target, written) = filter.into_printer().finish();
-    let ending = ending_of(outcome, written.is_ok(), target.inner().is_closed());
+    let has_found = filter.has_found();
+    let (printer, ended) = filter.finish(rt.alloc());
+    let (target, written) = printer.finish();
+    let is_written = ended.is_ok() && written.is_ok();
+    let ending = ending_of(outcome, is_written, target.inner().is_closed(), has_found);
     say_unprinted(ending, target.inner(), messages);
     (target, ending)
 }

@@ -15,12 +15,14 @@ pub trait Filter<W: Target + Drop>: Drop {
     /// What it goes by.
     type Settings: Settings;
 
-    // The abstract state of a filter, and what it makes of settings and pages.
+    // The abstract state of a filter, what it reads pages into, and what it makes of settings and pages.
     ghost State: { Type 0 };
+
+    ghost Part: { Type 0 };
 
     ghost state: { Self → State };
 
-    ghost means: { Making Self.Settings State };
+    ghost means: { Making Self.Settings Part State };
 
     /// A filter that has read nothing, and prints to this printer.
     fn new(alloc: Global, printer: Printer<W>, settings: Self::Settings) -> Self
@@ -45,7 +47,11 @@ pub trait Filter<W: Target + Drop>: Drop {
             (passage_of R.remaining source.old source.new (means.begun (state self)) (state result.0))) }
         ensures read { R.failures source.new ≡ R.failures source.old + failed_reads result.1 };
 
-    /// The printer, with what was printed.
-    fn into_printer(self) -> Printer<W>
-        ensures { result.printed ≡ means.printed (state self) };
+    /// Whether it found something that the status of the run tells, as faults of pages.
+    fn has_found(&self) -> bool
+        ensures { result ≡ means.found (state self.now) };
+
+    /// Ends what it prints, and gives the printer back.
+    fn finish(self, alloc: Global) -> (Printer<W>, Result<(), StreamError>)
+        ensures { OnOk result.1 (result.0.printed ≡ means.printed (state self)) };
 }

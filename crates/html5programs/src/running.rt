@@ -1,5 +1,5 @@
 //! Programs that read pages, and print what they make of them.
-ghost use Rattle.std.specs.Prelude.{◌≡◌, ◌≢◌, ◌⊎◌, ◌∷◌, [], true, Contains, IfSome, Ok, map, option_map, string_bytes};
+ghost use Rattle.std.specs.Prelude.{◌≡◌, ◌≢◌, ◌⊎◌, ◌∷◌, [], false, true, Contains, IfSome, Ok, map, option_map, string_bytes};
 ghost use Rattle.html5programs.specs.Encodings.{IsUnknownLabel};
 ghost use Rattle.html5programs.specs.Ending.{AsksHelp, AsksNoSettings, AsksNoText, AsksSettings, AsksVersion, HasWrongWord, NamesNoEncoding, PrintsAsked, asked_of, status_of};
 ghost use Rattle.html5programs.specs.Filtering.{AreSettingsAsked, SaysNoSettings};
@@ -80,7 +80,9 @@ fn filter_asked<
     messages: &mut Messages<'_, E>,
 ) -> (Logged<Output<O>>, Ending)
     ensures done { result.1 ≡ Ending.Done → PrintsAsked F.means F.Settings.file F.Settings.said (asked_by asked.now)
-        (I.remaining stdin.old.inner) (I.remaining stdin.new.inner) result.0.taken }
+        (I.remaining stdin.old.inner) (I.remaining stdin.new.inner) result.0.taken false }
+    ensures found { result.1 ≡ Ending.Found → PrintsAsked F.means F.Settings.file F.Settings.said (asked_by asked.now)
+        (I.remaining stdin.old.inner) (I.remaining stdin.new.inner) result.0.taken true }
     ensures closed { result.1 ≡ Ending.Closed → result.0.inner.is_closed ≡ true }
     ensures words { (result.1 ≢ Ending.WrongWord) × (result.1 ≢ Ending.NoMemory) }
     ensures encoding { IsUnknownLabel (label_asked (asked_by asked.now))
@@ -195,11 +197,14 @@ pub fn filter_by_words<
     stdout: O,
     messages: &mut Messages<'_, E>,
 ) -> (Logged<Output<O>>, Ending)
-    // What `Done` says: all files that the words ask for were read to their ends, and what was written is
-    // what the filter printed of them.
+    // What `Done` and `Found` say: all files that the words ask for were read to their ends, and what was
+    // written is what the filter printed of them.
     ensures done { AsksNoText (asked_of program.entry (map string_bytes words.now)) → result.1 ≡ Ending.Done
         → PrintsAsked F.means F.Settings.file F.Settings.said (asked_of program.entry (map string_bytes words.now))
-        (I.remaining stdin.old.inner) (I.remaining stdin.new.inner) result.0.taken }
+        (I.remaining stdin.old.inner) (I.remaining stdin.new.inner) result.0.taken false }
+    ensures found { AsksNoText (asked_of program.entry (map string_bytes words.now)) → result.1 ≡ Ending.Found
+        → PrintsAsked F.means F.Settings.file F.Settings.said (asked_of program.entry (map string_bytes words.now))
+        (I.remaining stdin.old.inner) (I.remaining stdin.new.inner) result.0.taken true }
     ensures help { AsksHelp (asked_of program.entry (map string_bytes words.now)) → result.1 ≡ Ending.Done
         → result.0.taken ≡ program.entry.help.now }
     ensures version { AsksVersion (asked_of program.entry (map string_bytes words.now)) → result.1 ≡ Ending.Done

@@ -51,14 +51,14 @@ pub record ReadsPageItems {S : Type 0} (composes : S → List ℕ → List Messa
   pub items : composes known.before bytes tells ends
   pub told : known.after ≡ handed known.before (tells ++ ends)
 
--- the source gave a text first, and the state became what a beginning of that text's messages makes of it
-pub record StopsPage {S : Type 0} (page : S → List ℕ → List Message) (handed : S → List Message → S) (known : Passage S) : Type 0 where
+-- the source gave a text first, and the state became what a beginning of that text's messages makes of it, or of what else it is read into
+pub record StopsPage {M S : Type 0} (page : S → List ℕ → List M) (handed : S → List M → S) (known : Passage S) : Type 0 where
   pub text : List ℕ
   pub rest : List ℕ
   pub consumed : Consumes known.unread known.left (text ++ rest)
   pub utf8 : IsUtf8 text
-  pub told : List Message
-  pub untold : List Message
+  pub told : List M
+  pub untold : List M
   pub parts : page known.before text ≡ told ++ untold
   pub state : known.after ≡ handed known.before told
 

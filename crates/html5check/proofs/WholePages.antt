@@ -1,0 +1,56 @@
+-- A source that was read to its end.
+use Rattle.std.proofs.Common.{◌≡◌, ℕ, Bool, true, false, List, [], ◌++◌, Option, None, Some, refl, sym, ap, ◌∙◌, append-nil}
+use Rattle.std.specs.Prelude.{◌||◌, IfSome}
+use Rattle.std.specs.Io.KnownBytes.{Consumes, IsAtEnd}
+use Rattle.std.proofs.lemmas.Str.{IsUtf8-nil}
+use Rattle.devices.specs.Device.{ConsumesBeginning}
+use Rattle.html5check.specs.Located.{Located, located_in}
+use Rattle.html5check.specs.Making.{Checks, checks_after}
+use Rattle.html5check.specs.Whole.{IsWhole, StopsWhole}
+use Rattle.html5stream.specs.Pages.{ReadsPage, StopsPage}
+use Rattle.markup5ever.specs.NamedReferences.{NamedReference}
+
+pub consumes-all : (unread left : Option (List ℕ)) (bytes : List ℕ) → IfSome unread (λ all. bytes ≡ all) → IsAtEnd left → ConsumesBeginning unread left
+    → Consumes unread left bytes
+consumes-all None left bytes is end given = tt
+consumes-all (Some all) None bytes is end given = given.1
+consumes-all (Some all) (Some rest) bytes is end given = sym is ∙ sym (append-nil bytes) ∙ ap (λ l. bytes ++ l) (sym end)
+
+or-false : (b : Bool) → (b || false) ≡ b
+or-false true = refl
+or-false false = refl
+
+-- after nothing that was found
+pub after-none : (lines : Bool → List ℕ → List Located → List ℕ) (s : Checks) → lines s.found s.file [] ≡ [] → checks_after lines s [] ≡ s
+after-none lines s none =
+    ap (λ l. record s { printed = s.printed ++ l; found = s.found || false }) none
+    ∙ ap (λ l. record s { printed = l; found = s.found || false }) (append-nil s.printed)
+    ∙ ap (λ b. record s { found = b }) (or-false s.found)
+
+-- a page that was read whole, and checked
+pub page-checked : (lines : Bool → List ℕ → List Located → List ℕ) (references : List NamedReference) (unread left : Option (List ℕ)) (text : List ℕ)
+    (before after : Checks)
+    → IsWhole unread left text → after ≡ checks_after lines before (located_in references before.template text)
+    → ReadsPage (λ s bytes. checks_after lines s (located_in references s.template bytes))
+    (record { unread = unread; left = left; before = before; after = after })
+page-checked lines references unread left text before after whole checked =
+    record { bytes = text; consumed = whole.consumed; at_end = whole.at_end; utf8 = whole.utf8; told = checked }
+
+-- a page of which nothing was printed
+pub page-unchecked : (lines : Bool → List ℕ → List Located → List ℕ) (references : List NamedReference) (unread left : Option (List ℕ)) (before after : Checks)
+    → lines before.found before.file [] ≡ [] → StopsWhole unread left → after ≡ before
+    → StopsPage (λ s bytes. located_in references s.template bytes) (checks_after lines)
+    (record { unread = unread; left = left; before = before; after = after })
+page-unchecked lines references unread left before after none stops same = record {
+  text = [];
+  rest = stops.bytes;
+  consumed = stops.consumed;
+  utf8 = IsUtf8-nil;
+  told = [];
+  untold = located_in references before.template [];
+  parts = refl;
+  state = same ∙ sym (after-none lines before none);
+}
+
+pub stops-whole : (unread left : Option (List ℕ)) (text : List ℕ) → IsWhole unread left text → StopsWhole unread left
+stops-whole unread left text whole = record { bytes = text; consumed = whole.consumed }

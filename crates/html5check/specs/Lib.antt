@@ -1,0 +1,15 @@
+pub mod Seen
+pub mod Elements
+pub mod Faults
+pub mod Ids
+pub mod Opened
+pub mod Order
+pub mod Checking
+pub mod Places
+pub mod Templates
+pub mod Located
+pub mod Lines
+pub mod Laws
+pub mod Asked
+pub mod Making
+pub mod Whole

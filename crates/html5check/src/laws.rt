@@ -1,0 +1,18 @@
+//! Where what is found stands.
+ghost use Rattle.std.specs.Prelude.{All, List, ℕ};
+ghost use Rattle.std.specs.Str.{chars};
+ghost use Rattle.html5check.specs.Checking.{findings_in};
+ghost use Rattle.html5check.specs.Places.{StandsAtToken, StandsInText};
+ghost use Rattle.html5check.specs.Seen.{Seen, seen_in};
+ghost use Rattle.markup5ever.specs.NamedReferences.{NamedReference};
+
+/// What is found stands at a token that has its fault: it begins and ends where that does. An error has its code, an end
+/// tag may be stray or of a void element, and what else is wrong is so of a start tag; of an id, another start tag before
+/// has it.
+///
+/// In a text that is read from its first byte its places are in order and lie between characters.
+pub fn findings_stand_at_tokens()
+    ensures tokens { (tokens : List Seen) → All (StandsAtToken tokens) (findings_in tokens) }
+    ensures text { (references : List NamedReference) (text : List ℕ)
+        → All (StandsInText (chars text)) (findings_in (seen_in references text)) }
+{}

@@ -1,0 +1,12 @@
+-- where no log of SARIF is a format, none is printed
+use Rattle.std.proofs.Common.{◌≡◌, List, false, map, string_bytes, subst, sym, ◌∙◌}
+use Rattle.html5commands.proofs.NoLogs.{prints-links, prints-tokens}
+use Rattle.html5commands.proofs.running.by_command.Goals as goal
+
+pub returns-in-Tokens-clause-done : goal.returns-in-Tokens-clause-done
+returns-in-Tokens-clause-done g c =
+    prints-tokens c.args.command (map string_bytes c.args.words.now) _ _ _ _ _ c.in-Tokens.is c.program_of-program.ensures.options c.filter_in_format.ensures.done
+
+pub returns-in-Links-clause-done : goal.returns-in-Links-clause-done
+returns-in-Links-clause-done g c =
+    prints-links c.args.command (map string_bytes c.args.words.now) _ _ _ _ _ c.in-Links.is c.program_of-program.ensures.options c.filter_in_format-in-Links.ensures.done

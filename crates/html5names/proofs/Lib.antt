@@ -1,0 +1,3 @@
+mod Rests
+mod Searches
+mod Written

@@ -1,0 +1,4 @@
+pub mod Attributes
+pub mod Elements
+pub mod Listed
+pub mod Slips
