@@ -10,7 +10,7 @@ use crate::finding::{Fault, Finding};
 use crate::ids::{Ids, id_of};
 use crate::open_elements::{OpenElement, OpenElements};
 use crate::seen::SeenToken;
-use crate::shapes::{at_token, of_error, push_start_tag};
+use crate::token_findings::{at_token, of_error, push_start_tag};
 use html5elements::{is_foreign, is_void};
 use html5ever_interface::interface::token::{Tag, TagKind, Token};
 use std::alloc::{AllocError, Global};

@@ -18,8 +18,8 @@ mod open_elements;
 mod report;
 mod seen;
 mod settings;
-mod shapes;
 mod template;
+mod token_findings;
 
 pub use crate::check::Check;
 pub use crate::finding::{Fault, Finding};

@@ -1,7 +1,9 @@
 -- A value whose numbers are decimal, and that nests no deeper than a reader goes, is read back.
-use Rattle.std.proofs.Common.{◌≡◌, ℕ, ◌<◌, ◌≤◌, ◌^◌, List, [], ◌∷◌, Option, None, Some, option_map, option_and_then, refl, sym, ap, ◌∙◌, arith, append-nil}
+use Rattle.std.proofs.Common.{◌≡◌, ℕ, ◌-◌, ◌<◌, ◌≤◌, ◌^◌, List, [], ◌∷◌, Option, None, Some, option_map, option_and_then, refl, sym, ap, ◌∙◌, arith, append-nil}
 use Rattle.html5ever_interface.specs.Token.{Told}
 use Rattle.html5ever_interface.specs.Token.Told.{Text, Null, Error, Tag, Comment, Instruction, Doctype, End}
+use Rattle.html5check.specs.Located.{Located}
+use Rattle.html5json.specs.Findings.{IsCounted, finding_members, json_of_finding, result_json}
 use Rattle.html5json.specs.Lines.{text_of}
 use Rattle.html5json.specs.Links.{json_of_link, link_members}
 use Rattle.html5json.specs.Reading.{ReadsBack}
@@ -132,3 +134,57 @@ token_reads_back file told line h = file_reads_back file (token_members told lin
 
 pub link_reads_back : (file : Option (List ℕ)) (line : ℕ) (link : List ℕ) → line < 2 ^ 64 → ReadsBack (json_of_link file line link)
 link_reads_back file line link h = file_reads_back file (link_members line link) ((line, h, refl), (tt, tt)) (omega arith)
+
+-- ---- what is found
+
+finding_decimals : (l : Located) → IsCounted l → MembersHaveDecimals (finding_members l)
+finding_decimals l h = (
+  (l.position.line, h.line, refl),
+  (
+    (l.position.column, h.column, refl),
+    (
+      (l.position.utf16_column, h.utf16_column, refl),
+      ((l.finding.begin, h.begin, refl), ((l.finding.end, h.end, refl), (tt, (tt, (option_decimals l.finding.meant, tt))))),
+    ),
+  ),
+)
+
+pub finding_reads_back : (file : List ℕ) (l : Located) → IsCounted l → ReadsBack (json_of_finding file l)
+finding_reads_back file l h = file_reads_back (Some file) (finding_members l) (finding_decimals l h) (omega (arith, option_depth l.finding.meant))
+
+result_decimals : (file : List ℕ) (l : Located) → IsCounted l → HasDecimals (result_json file l)
+result_decimals file l h =
+    let len : l.finding.end - l.finding.begin < 2 ^ 64 = grind (arith, h.end) in (
+      tt,
+      (
+        tt,
+        (
+          (tt, tt),
+          (
+            (
+              (
+                (
+                  (tt, tt),
+                  (
+                    (
+                      (l.position.line, h.line, refl),
+                      (
+                        (l.position.column, h.column, refl),
+                        ((l.finding.begin, h.begin, refl), ((l.finding.end - l.finding.begin, len, refl), tt)),
+                      ),
+                    ),
+                    tt,
+                  ),
+                ),
+                tt,
+              ),
+              tt,
+            ),
+            tt,
+          ),
+        ),
+      ),
+    )
+
+pub result_reads_back : (file : List ℕ) (l : Located) → IsCounted l → ReadsBack (result_json file l)
+result_reads_back file l h = reads_back (result_json file l) (result_decimals file l h) (omega arith)

@@ -1,5 +1,5 @@
 -- What is found in pages, as JSON.
-use Rattle.std.specs.Prelude.{ℕ, ◌-◌, Bool, true, false, List, [], ◌∷◌, ◌++◌, Some, codes, decimal}
+use Rattle.std.specs.Prelude.{ℕ, ◌-◌, ◌<◌, ◌^◌, Bool, true, false, List, [], ◌∷◌, ◌++◌, Some, codes, decimal}
 use Rattle.html5check.specs.Faults.{Finding, fault_code}
 use Rattle.html5check.specs.Located.{Located}
 use Rattle.html5json.specs.Lines.{line_of, text_of}
@@ -35,6 +35,14 @@ finding_members l = position_members l.position (span_members l.finding (fault_m
 -- something found in a file of this name
 abbrev pub json_of_finding : List ℕ → Located → Json
 json_of_finding file l = of_file (Some file) (finding_members l)
+
+-- its numbers are of 64 bits
+pub record IsCounted (l : Located) : Type 0 where
+  pub line : l.position.line < 2 ^ 64
+  pub column : l.position.column < 2 ^ 64
+  pub utf16_column : l.position.utf16_column < 2 ^ 64
+  pub begin : l.finding.begin < 2 ^ 64
+  pub end : l.finding.end < 2 ^ 64
 
 unfoldable pub finding_lines : List ℕ → List Located → List ℕ
 finding_lines file [] = []
