@@ -1,5 +1,5 @@
 -- Walks through a text, from place to place.
-use Rattle.std.proofs.Common.{◌≡◌, ℕ, ◌+◌, ◌-◌, ◌<◌, ◌≤◌, ◌&&◌, Bool, true, false, not, List, [], ◌∷◌, ◌++◌, length, refl, sym, ap, ◌∙◌, subst, arith}
+use Rattle.std.proofs.Common.{◌≡◌, ℕ, ◌+◌, ◌-◌, ◌<◌, ◌≤◌, ◌&&◌, Bool, true, false, not, List, [], ◌∷◌, ◌++◌, length, refl, sym, ap, ◌∙◌, arith}
 use Rattle.std.specs.Prelude.{◌==◌, encode_utf8, get_or, if◌then◌else◌, min, take}
 use Rattle.std.specs.Str.{IsUtf8, chars}
 use Rattle.std.proofs.lemmas.List.{take_more}
@@ -8,9 +8,9 @@ use Rattle.std.specs.Bool.{nat_le, nat_lt}
 use Rattle.std.specs.List.{list_all}
 use Rattle.std.specs.Char.{len_utf8}
 use Rattle.std.proofs.lemmas.Str.{IsUtf8-past_char, chars_past_char, encode_ascii, len_utf8_ascii, len_utf8_bounds}
-use Rattle.std.proofs.lemmas.Bool.{leb-true, true≢false}
+use Rattle.std.proofs.lemmas.Bool.{true≢false}
 use Rattle.html5places.proofs.Walking.{walk-more, walk-none}
-use Rattle.html5places.specs.Cursor.{Cursor, advanced, characters_before, cursor_at, is_plain, onward, position_before}
+use Rattle.html5places.specs.Cursor.{advanced, characters_before, cursor_at, is_plain, onward, position_before}
 use Rattle.html5places.specs.declared.positions.Position.{Position}
 use Rattle.html5places.specs.Positions.{along, first_position, highest, past_character, past_characters, walked}
 use Rattle.html5reading.specs.Characters.{carriage_return, line_feed}

@@ -1,14 +1,12 @@
 -- Tokens that are handed on, one after the other.
-use Rattle.std.proofs.Common.{◌≡◌, ℕ, ◌+◌, List, [], ◌∷◌, ◌++◌, length, refl, ap, sym, ◌∙◌, subst}
+use Rattle.std.proofs.Common.{◌≡◌, ℕ, ◌+◌, Bool, List, [], ◌∷◌, ◌++◌, length, refl, ap, sym, ◌∙◌, subst}
 use Rattle.std.specs.Prelude.{encode_utf8}
-use Rattle.html5feed.specs.Feed.{told_at_end}
-use Rattle.html5reading.specs.Start.{Start}
-use Rattle.html5reading.proofs.ReadingLemmas.{after-nil}
 use Rattle.std.proofs.lemmas.List.{append-nil, append_assoc}
 use Rattle.html5places.specs.Marks.{Marks, Placed, waits}
-use Rattle.html5places.specs.Placed.{all_handed, at_character, at_end, handed_on, standard, told_at}
-use Rattle.html5places.specs.Readers.{CharacterRead, IsAfter, IsPart, Reader, ReadsCharacter}
-use Rattle.html5places.proofs.ManyCharacters.{to-past, waiting-all}
+use Rattle.html5places.specs.Placed.{Beginning, handed_on, has_token, placed_at_end, placed_by}
+use Rattle.html5places.specs.Readers.{IsPart, Reader, Reading, Reads, ReadsEnd, StandsAfter, StopsAtEnd, StopsWithin, TellsToken, reading_of}
+use Rattle.html5places.proofs.Pieces.{marks_from-one}
+use Rattle.html5places.proofs.ManyCharacters.{stands-at_beginning, to-past, waiting-all}
 use Rattle.html5places.proofs.Stepping.{handed_on-append, part-none}
 
 -- some of all tokens were handed on, and the rest is left
@@ -16,6 +14,18 @@ pub record HandedSome {S : Type 0} (step : S → Placed → S) (h i : S) (all re
   pub front : List Placed
   pub parts : all ≡ front ++ rest
   pub state : i ≡ handed_on step h front
+
+-- ---- what waited in the sink
+
+waited : (t0 : Reader) (tokens all : List Placed) → tokens ≡ handed_on waits t0.sink.handler all → t0.sink.handler ≡ [] → tokens ≡ all
+waited t0 tokens all kept none = kept ∙ ap (λ l. handed_on waits l all) none ∙ waiting-all [] all
+
+-- whether a token is among what waited
+pub token-handed : (t0 u : Reader) (text : List ℕ) (told : Bool)
+    → Reads waits (reading_of t0) (reading_of u) t0.sink.handler u.sink.handler text → t0.sink.handler ≡ []
+    → told ≡ has_token u.sink.handler → TellsToken (reading_of t0) text told
+token-handed t0 u text told reads none is B before there =
+    is ∙ ap has_token (waited t0 u.sink.handler (placed_by t0.rules B before text) (reads B before there).handler none)
 
 module _ {S : Type 0} (step : S → Placed → S) where
   pub handed-none : (h : S) (all : List Placed) → HandedSome step h h all all
@@ -37,44 +47,36 @@ module _ {S : Type 0} (step : S → Placed → S) where
   pub handed-all : (h i : S) (all : List Placed) → HandedSome step h i all [] → i ≡ handed_on step h all
   handed-all h i all some = some.state ∙ ap (handed_on step h) (sym (append-nil some.front) ∙ sym some.parts)
 
-  pub handed-part : (h i j : S) (all rest : List Placed) → HandedSome step h i all rest → j ≡ i → IsPart step h all j
-  handed-part h i j all rest some same = record { front = some.front; back = rest; parts = some.parts; state = same ∙ some.state }
+  -- ---- what waited in the sink is handed on
 
-  -- ---- a character, whose tokens waited in the sink
-
-  waited : (t0 : Reader) (tokens all : List Placed) → tokens ≡ handed_on waits t0.sink.handler all → t0.sink.handler ≡ [] → tokens ≡ all
-  waited t0 tokens all kept none = kept ∙ ap (λ l. handed_on waits l all) none ∙ waiting-all [] all
-
-  pub character-handed : (t0 u v : Reader) (h i : S) (K : Start) (before : List ℕ) (c : ℕ)
-      → CharacterRead waits t0 u t0.sink.handler u.sink.handler K before c → t0.sink.handler ≡ []
+  pub reads-handed : (t0 u v : Reader) (h i : S) (text : List ℕ)
+      → Reads waits (reading_of t0) (reading_of u) t0.sink.handler u.sink.handler text → t0.sink.handler ≡ []
       → i ≡ handed_on step h u.sink.handler → v ≡ record u { sink = record u.sink { handler = [] } }
-      → CharacterRead step t0 v h i K before c
-  character-handed t0 u v h i K before c one none all left = record {
-    after = subst (λ t. IsAfter t K (before ++ c ∷ [])) (sym left) one.after;
-    handler = all ∙ ap (handed_on step h) (waited t0 u.sink.handler _ one.handler none);
-    marks = ap (λ (t : Reader). t.sink.marks) left ∙ one.marks;
-  }
+      → Reads step (reading_of t0) (reading_of v) h i text
+  reads-handed t0 u v h i text reads none all left B before there =
+      let one = reads B before there in
+      record {
+        stands = subst (λ (w : Reader). StandsAfter (reading_of w) B (before ++ text)) (sym left) (record { position = one.stands.position; marks = one.stands.marks });
+        handler = all ∙ ap (handed_on step h) (waited t0 u.sink.handler (placed_by t0.rules B before text) one.handler none);
+      }
 
-  pub character-part : (t0 u : Reader) (h i : S) (K : Start) (before : List ℕ) (c : ℕ)
-      → CharacterRead waits t0 u t0.sink.handler u.sink.handler K before c → t0.sink.handler ≡ []
-      → IsPart step h u.sink.handler i
-      → IsPart step h (all_handed (at_character t0.sink.marks c) (told_at t0.rules K before c)) i
-  character-part t0 u h i K before c one none part =
-      subst (λ l. IsPart step h l i) (waited t0 u.sink.handler (all_handed (at_character t0.sink.marks c) (told_at t0.rules K before c)) one.handler none) part
+  pub stops-handed : (t0 u : Reader) (h i : S) (text : List ℕ)
+      → Reads waits (reading_of t0) (reading_of u) t0.sink.handler u.sink.handler text → t0.sink.handler ≡ []
+      → IsPart step h u.sink.handler i → StopsWithin step (reading_of t0) h i text
+  stops-handed t0 u h i text reads none part B before there =
+      subst (λ l. IsPart step h l i) (waited t0 u.sink.handler (placed_by t0.rules B before text) (reads B before there).handler none) part
 
   -- the end, likewise
 
-  pub end-handed : (t0 : Reader) (tokens : List Placed) (h i : S) (K : Start) (before : List ℕ)
-      → tokens ≡ handed_on waits t0.sink.handler (all_handed (at_end t0.sink.marks) (told_at_end standard t0.rules K tt before)) → t0.sink.handler ≡ []
-      → i ≡ handed_on step h tokens
-      → i ≡ handed_on step h (all_handed (at_end t0.sink.marks) (told_at_end standard t0.rules K tt before))
-  end-handed t0 tokens h i K before kept none all = all ∙ ap (handed_on step h) (waited t0 tokens _ kept none)
+  pub end-handed : (t0 : Reader) (tokens : List Placed) (h i : S) → ReadsEnd waits (reading_of t0) t0.sink.handler tokens → t0.sink.handler ≡ []
+      → i ≡ handed_on step h tokens → ReadsEnd step (reading_of t0) h i
+  end-handed t0 tokens h i reads none all B before there =
+      all ∙ ap (handed_on step h) (waited t0 tokens (placed_at_end t0.rules B before) (reads B before there) none)
 
-  pub end-part : (t0 : Reader) (tokens : List Placed) (h i : S) (K : Start) (before : List ℕ)
-      → tokens ≡ handed_on waits t0.sink.handler (all_handed (at_end t0.sink.marks) (told_at_end standard t0.rules K tt before)) → t0.sink.handler ≡ []
-      → IsPart step h tokens i
-      → IsPart step h (all_handed (at_end t0.sink.marks) (told_at_end standard t0.rules K tt before)) i
-  end-part t0 tokens h i K before kept none part = subst (λ l. IsPart step h l i) (waited t0 tokens _ kept none) part
+  pub end-part : (t0 : Reader) (tokens : List Placed) (h i : S) → ReadsEnd waits (reading_of t0) t0.sink.handler tokens → t0.sink.handler ≡ []
+      → IsPart step h tokens i → StopsAtEnd step (reading_of t0) h i
+  end-part t0 tokens h i reads none part B before there =
+      subst (λ l. IsPart step h l i) (waited t0 tokens (placed_at_end t0.rules B before) (reads B before there) none) part
 
   -- nothing was handed on
   pub nothing-handed : (h i : S) (all : List Placed) → i ≡ h → IsPart step h all i
@@ -82,11 +84,12 @@ module _ {S : Type 0} (step : S → Placed → S) where
 
 -- ---- the place after a character
 
-pub place-after : {S : Type 0} (step : S → Placed → S) (t u : Reader) (h i : S) (c : ℕ) → ReadsCharacter step t u h i c
-    → u.sink.marks.to ≡ t.sink.marks.to + length (encode_utf8 c)
-place-after step t u h i c reads =
-    let one = reads t.position [] (sym (after-nil standard.step standard.reply standard.foreign t.rules t.position tt)) in
-    ap (λ (m : Marks). m.to) one.marks ∙ to-past t.rules t.position t.sink.marks [] c
+pub place-after : {S : Type 0} (step : S → Placed → S) (r q : Reading) (h i : S) (c : ℕ) → Reads step r q h i (c ∷ [])
+    → q.marks.to ≡ r.marks.to + length (encode_utf8 c)
+place-after step r q h i c reads =
+    let B : Beginning = record { start = r.position; marks = r.marks } in
+    let one = reads B [] (stands-at_beginning r B refl refl) in
+    ap (λ (m : Marks). m.to) (one.stands.marks ∙ marks_from-one q.rules r.position r.marks [] c) ∙ to-past q.rules r.position r.marks [] c
 
 pub handed-nothing : {S : Type 0} (step : S → Placed → S) (h : S) → handed_on step h [] ≡ h
 unfolding handed_on

@@ -1,11 +1,13 @@
 pub mod SameReplies
 pub mod Stepping
+pub mod Pieces
 pub mod OneCharacter
 pub mod ManyCharacters
 pub mod Walking
 pub mod Advancing
 pub mod HandingOn
 pub mod TextLoop
+pub mod WholeText
 pub mod Following
 pub mod KeepsRun
 pub mod MarkupSteps
@@ -17,3 +19,4 @@ pub mod Spanning
 pub mod RawEnds
 pub mod OneItem
 pub mod Written
+pub mod OriginBytes

@@ -1,15 +1,17 @@
 -- What a tokenizer does with a text, character after character, and with the end after it.
-use Rattle.std.proofs.Common.{◌≡◌, ℕ, ◌+◌, List, [], ◌∷◌, ◌++◌, length, refl, ap, sym, ◌∙◌, subst}
-use Rattle.std.specs.Prelude.{Bool, true, false, encode_utf8}
-use Rattle.std.proofs.lemmas.List.{append-nil, append_assoc}
+use Rattle.std.proofs.Common.{◌≡◌, ℕ, ◌+◌, List, [], ◌∷◌, ◌++◌, length, refl, ap, sym, ◌∙◌, subst, arith}
+use Rattle.std.specs.Prelude.{Bool, true, false, encode_utf8, encode_utf8_all}
+use Rattle.std.proofs.lemmas.List.{append-nil, append_assoc, length-append}
 use Rattle.html5ever_interface.specs.Sink.{Message}
 use Rattle.html5ever_interface.specs.Token.{Told}
 use Rattle.html5ever_interface.specs.Token.Told.{Text, Error}
-use Rattle.html5feed.specs.Feed.{told_at_end}
 use Rattle.html5reading.specs.Start.{Rules, Start}
 use Rattle.html5places.specs.Marks.{Marks, Placed, marks_after, waits}
-use Rattle.html5places.specs.Placed.{all_handed, at_character, at_end, begun_where, handed_on, marks_after_all, marks_past, placed_from, standard, told_at}
-use Rattle.html5places.specs.Readers.{CharacterRead, IsAfter, IsPart, Reader, TextRead}
+use Rattle.html5places.specs.Placed.{Beginning, at_character, begun_where, handed_on, marks_after_all, marks_from, marks_past, placed_by, standard, told_at}
+use Rattle.html5places.specs.Written.{place_after}
+use Rattle.html5places.specs.Readers.{IsPart, Reading, Reads, StandsAfter, StopsWithin}
+use Rattle.html5reading.proofs.ReadingLemmas.{after-nil}
+use Rattle.html5places.proofs.Pieces.{marks_of-nil, placed_by-append, placed_by-nil}
 use Rattle.html5places.proofs.Stepping.{handed_on-append, part-later}
 
 -- ---- where the last character ends
@@ -35,82 +37,40 @@ to-past rules K s before c =
 -- ---- texts
 
 module _ {S : Type 0} (step : S → Placed → S) where
-  pub text-none : (t : Reader) (h : S) (K : Start) (before : List ℕ) → IsAfter t K before → TextRead step t t h h K before []
+  pub reads-none : (r : Reading) (h : S) → Reads step r r h h []
   unfolding handed_on
-  text-none t h K before after = record {
-    after = subst (λ l. IsAfter t K l) (sym (append-nil before)) after;
-    placed = [];
-    handler = refl;
-    later = λ more. ap (λ l. placed_from t.rules K t.sink.marks l more) (sym (append-nil before));
+  reads-none r h B before there = record {
+    stands = subst (StandsAfter r B) (sym (append-nil before)) there;
+    handler = sym (ap (handed_on step h) (placed_by-nil r.rules B before));
   }
 
-  pub text-more : (t0 t u : Reader) (h0 h i : S) (K : Start) (before text : List ℕ) (c : ℕ) → t.rules ≡ t0.rules
-      → TextRead step t0 t h0 h K before text → CharacterRead step t u h i K (before ++ text) c
-      → TextRead step t0 u h0 i K before (text ++ c ∷ [])
-  unfolding placed_from
-  text-more t0 t u h0 h i K before text c rules read one =
-      let here : List Placed = all_handed (at_character t.sink.marks c) (told_at t.rules K (before ++ text) c) in record {
-        after = subst (λ l. IsAfter u K l) (append_assoc before text (c ∷ [])) one.after;
-        placed = read.placed ++ here;
+  -- one text after the other
+  pub reads-append : (r0 r q : Reading) (h0 h i : S) (a b : List ℕ) → r.rules ≡ r0.rules → Reads step r0 r h0 h a → Reads step r q h i b
+      → Reads step r0 q h0 i (a ++ b)
+  reads-append r0 r q h0 h i a b rules first second B before there =
+      let one = first B before there in
+      let two = second B (before ++ a) one.stands in record {
+        stands = subst (StandsAfter q B) (append_assoc before a b) two.stands;
         handler =
-            one.handler
-            ∙ ap (λ s. handed_on step s here) read.handler
-            ∙ sym (handed_on-append step h0 read.placed here);
-        later = λ more.
-            ap (λ l. placed_from t0.rules K t0.sink.marks before l) (append_assoc text (c ∷ []) more)
-            ∙ read.later (c ∷ more)
-            ∙ ap (λ l. read.placed ++ l) (past more)
-            ∙ sym (append_assoc read.placed here (placed_from t0.rules K u.sink.marks (before ++ (text ++ c ∷ [])) more));
+            two.handler
+            ∙ ap (λ s. handed_on step s (placed_by r.rules B (before ++ a) b)) one.handler
+            ∙ ap (λ rs. handed_on step (handed_on step h0 (placed_by r0.rules B before a)) (placed_by rs B (before ++ a) b)) rules
+            ∙ sym (handed_on-append step h0 (placed_by r0.rules B before a) (placed_by r0.rules B (before ++ a) b))
+            ∙ ap (handed_on step h0) (sym (placed_by-append r0.rules B before a b));
       }
-    where
-      past : (more : List ℕ) → placed_from t0.rules K t.sink.marks (before ++ text) (c ∷ more)
-          ≡ all_handed (at_character t.sink.marks c) (told_at t.rules K (before ++ text) c) ++ placed_from t0.rules K u.sink.marks (before ++ (text ++ c ∷ [])) more
-      past more =
-          ap (λ r. all_handed (at_character t.sink.marks c) (told_at r K (before ++ text) c) ++ placed_from t0.rules K (marks_past r K t.sink.marks (before ++ text) c) ((before ++ text) ++ c ∷ []) more) (sym rules)
-          ∙ ap (λ m. all_handed (at_character t.sink.marks c) (told_at t.rules K (before ++ text) c) ++ placed_from t0.rules K m ((before ++ text) ++ c ∷ []) more) (sym one.marks)
-          ∙ ap (λ l. all_handed (at_character t.sink.marks c) (told_at t.rules K (before ++ text) c) ++ placed_from t0.rules K u.sink.marks l more) (append_assoc before text (c ∷ []))
 
-  pub text-stopped : (t0 t : Reader) (h0 h : S) (K : Start) (before text : List ℕ) (c : ℕ) (rest : List ℕ) (v : S) → t.rules ≡ t0.rules
-      → TextRead step t0 t h0 h K before text
-      → IsPart step h (all_handed (at_character t.sink.marks c) (told_at t.rules K (before ++ text) c)) v
-      → IsPart step h0 (placed_from t0.rules K t0.sink.marks before (text ++ c ∷ rest)) v
-  unfolding placed_from
-  text-stopped t0 t h0 h K before text c rest v rules read part =
-      let here : List Placed = all_handed (at_character t.sink.marks c) (told_at t.rules K (before ++ text) c) in
-      let back : List Placed = placed_from t0.rules K (marks_past t0.rules K t.sink.marks (before ++ text) c) ((before ++ text) ++ c ∷ []) rest in
-      subst (λ l. IsPart step h0 l v)
-      (ap (λ r. read.placed ++ (all_handed (at_character t.sink.marks c) (told_at r K (before ++ text) c) ++ back)) rules
-      ∙ sym (read.later (c ∷ rest)))
-      (part-later step h0 h v read.placed here back read.handler part)
-
-  -- the end after a text
-
-  pub text-ended : (t0 t : Reader) (h0 h i : S) (K : Start) (before text : List ℕ) → t.rules ≡ t0.rules → TextRead step t0 t h0 h K before text
-      → i ≡ handed_on step h (all_handed (at_end t.sink.marks) (told_at_end standard t.rules K tt (before ++ text)))
-      → i ≡ handed_on step h0 (placed_from t0.rules K t0.sink.marks before text)
-  unfolding placed_from
-  text-ended t0 t h0 h i K before text rules read ended =
-      let last : List Placed = all_handed (at_end t.sink.marks) (told_at_end standard t.rules K tt (before ++ text)) in
-      ended
-      ∙ ap (λ s. handed_on step s last) read.handler
-      ∙ sym (handed_on-append step h0 read.placed last)
-      ∙ ap (λ r. handed_on step h0 (read.placed ++ all_handed (at_end t.sink.marks) (told_at_end standard r K tt (before ++ text)))) rules
-      ∙ ap (handed_on step h0) (sym (read.later []))
-      ∙ ap (λ l. handed_on step h0 (placed_from t0.rules K t0.sink.marks before l)) (append-nil text)
-
-  pub text-end_stopped : (t0 t : Reader) (h0 h : S) (K : Start) (before text : List ℕ) (v : S) → t.rules ≡ t0.rules
-      → TextRead step t0 t h0 h K before text
-      → IsPart step h (all_handed (at_end t.sink.marks) (told_at_end standard t.rules K tt (before ++ text))) v
-      → IsPart step h0 (placed_from t0.rules K t0.sink.marks before text) v
-  unfolding placed_from
-  text-end_stopped t0 t h0 h K before text v rules read part =
-      let last : List Placed = all_handed (at_end t.sink.marks) (told_at_end standard t.rules K tt (before ++ text)) in
-      subst (λ l. IsPart step h0 l v)
-      (ap (λ l. read.placed ++ l) (append-nil last)
-      ∙ ap (λ r. read.placed ++ all_handed (at_end t.sink.marks) (told_at_end standard r K tt (before ++ text))) rules
-      ∙ sym (read.later [])
-      ∙ ap (placed_from t0.rules K t0.sink.marks before) (append-nil text))
-      (part-later step h0 h v read.placed last [] read.handler part)
+  -- a text of which the first piece was read, and the second stopped
+  pub stops-append : (r0 r : Reading) (h0 h i : S) (a b rest : List ℕ) → r.rules ≡ r0.rules → Reads step r0 r h0 h a → StopsWithin step r h i b
+      → StopsWithin step r0 h0 i (a ++ (b ++ rest))
+  stops-append r0 r h0 h i a b rest rules first stops B before there =
+      let one = first B before there in
+      let part : IsPart step h (placed_by r0.rules B (before ++ a) b) i =
+      subst (λ rs. IsPart step h (placed_by rs B (before ++ a) b) i) rules (stops B (before ++ a) one.stands) in
+      subst (λ l. IsPart step h0 l i)
+      (ap (λ l. placed_by r0.rules B before a ++ l) (sym (placed_by-append r0.rules B (before ++ a) b rest))
+      ∙ sym (placed_by-append r0.rules B before a (b ++ rest)))
+      (part-later step h0 h i (placed_by r0.rules B before a) (placed_by r0.rules B (before ++ a) b) (placed_by r0.rules B ((before ++ a) ++ b) rest)
+      one.handler part)
 
 -- ---- what waits in the sink
 
@@ -119,3 +79,25 @@ pub waiting-all : (tokens placed : List Placed) → handed_on waits tokens place
 unfolding handed_on
 waiting-all tokens [] = sym (append-nil tokens)
 waiting-all tokens (p ∷ placed) = waiting-all (waits tokens p) placed ∙ append_assoc tokens (p ∷ []) placed
+
+-- ---- the bytes of a text
+
+pub to-from : (rules : Rules) (K : Start) (s : Marks) (before text : List ℕ) → (marks_from rules K s before text).to ≡ s.to + place_after text
+unfolding marks_from
+to-from rules K s before [] = omega arith
+to-from rules K s before (c ∷ text) =
+    let more = to-from rules K (marks_past rules K s before c) (before ++ c ∷ []) text in
+    let one = to-past rules K s before c in
+    let len = length-append (encode_utf8 c) (encode_utf8_all text) in
+    omega (arith, more, one, len)
+
+-- a reading stands so many bytes after where it began
+pub to-stands : (r : Reading) (B : Beginning) (before : List ℕ) → StandsAfter r B before → r.marks.to ≡ B.marks.to + place_after before
+to-stands r B before there = ap (λ (m : Marks). m.to) there.marks ∙ to-from r.rules B.start B.marks [] before
+
+-- a reading stands where it begins
+pub stands-at_beginning : (r : Reading) (B : Beginning) → r.position ≡ B.start → r.marks ≡ B.marks → StandsAfter r B []
+stands-at_beginning r B position marks = record {
+  position = position ∙ sym (after-nil standard.step standard.reply standard.foreign r.rules B.start tt);
+  marks = marks ∙ sym (marks_of-nil r.rules B);
+}

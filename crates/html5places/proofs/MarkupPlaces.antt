@@ -14,16 +14,19 @@ use Rattle.html5reading.specs.Reading.{start_after}
 use Rattle.html5reading.specs.Start.{Open, Rules, Start, nothing_open}
 use Rattle.html5reading.proofs.ReadingLemmas.{after-append, after-nil, between-mode}
 use Rattle.html5places.specs.Markup.{ends_run, in_markup, start_at_less_than}
-use Rattle.html5places.specs.Marks.{Marks, marks_after, no_marks}
-use Rattle.html5places.specs.Placed.{at_character, begun_where, marks_after_all, marks_past, standard, told_at}
-use Rattle.html5places.specs.Written.{place_after}
+use Rattle.html5places.specs.Marks.{Marks, marks_after}
+use Rattle.html5places.specs.Placed.{Beginning, at_character, at_first_byte, begun_where, marks_after_all, marks_from, marks_of, marks_past, standard, told_at}
+use Rattle.html5places.specs.Readers.{Reading, StandsAfter}
+use Rattle.html5feed.specs.Starting.{in_state}
+use Rattle.html5ever_interface.specs.declared.states.State.{State}
+use Rattle.html5places.specs.Written.{BeginsAfter, place_after}
 use Rattle.html5places.proofs.ManyCharacters.{to-after, to-after_all}
 use Rattle.html5places.proofs.MarkupSteps.{inside-within, is_inside, outside-not_begun}
 use Rattle.html5places.proofs.MarkupCharacters.{EndsAt, GoesOnAt, KeepRun, Ready, at-character, led, ready-after, tells}
 
 -- ---- places
 
-place_after-append : (a b : List ℕ) → place_after (a ++ b) ≡ place_after a + place_after b
+pub place_after-append : (a b : List ℕ) → place_after (a ++ b) ≡ place_after a + place_after b
 place_after-append a b = ap length (encodes-append a b) ∙ length-append (encode_utf8_all a) (encode_utf8_all b)
 
 place_after-one : (c : ℕ) → place_after (c ∷ []) ≡ length (encode_utf8 c)
@@ -127,179 +130,222 @@ module _ (rules : Rules) where
       pub stays : StaysIn (led rules (start_at front) less_than) more
       pub leads : start_after standard rules (led rules (start_at front) less_than) tt more ≡ P
 
-    -- markup is open after `before`: where the run before it begins, and its `<` stands
-    pub record Inside (s : Marks) (before : List ℕ) : Type 0 where
-      pub text : List ℕ
-      pub run : List ℕ
-      pub more : List ℕ
-      pub parts : before ≡ text ++ (run ++ less_than ∷ more)
-      pub text_place : s.text ≡ place_after text
-      pub begun : s.begun ≡ place_after (text ++ run)
-      pub opens : OpenItem (text ++ run) more (at before)
+    -- the text `base` stands before what is read from K on
+    module _ (base : List ℕ) where
+      -- markup is open after `before`: where the run before it begins, and where its `<` stands after `front`
+      pub record Inside (s : Marks) (before : List ℕ) : Type 0 where
+        pub text : List ℕ
+        pub run : List ℕ
+        pub front : List ℕ
+        pub more : List ℕ
+        pub runs : base ++ front ≡ text ++ run
+        pub parts : before ≡ front ++ less_than ∷ more
+        pub text_place : s.text ≡ place_after text
+        pub begun : s.begun ≡ place_after (text ++ run)
+        pub opens : OpenItem front more (at before)
 
-    -- what is known of the marks after `before`
-    pub record Known (s : Marks) (before : List ℕ) : Type 0 where
-      pub to : s.to ≡ place_after before
-      pub text : List ℕ
-      pub run : List ℕ
-      pub parts : before ≡ text ++ run
-      pub text_place : s.text ≡ place_after text
-      pub ready : is_after_less_than (at before).opened ≡ true → Ready (at before).input
-      pub inside : is_inside (at before).opened ≡ true → Inside s before
+      -- what is known of the marks after `before`
+      pub record Known (s : Marks) (before : List ℕ) : Type 0 where
+        pub to : s.to ≡ place_after (base ++ before)
+        pub text : List ℕ
+        pub run : List ℕ
+        pub parts : base ++ before ≡ text ++ run
+        pub text_place : s.text ≡ place_after text
+        pub ready : is_after_less_than (at before).opened ≡ true → Ready (at before).input
+        pub inside : is_inside (at before).opened ≡ true → Inside s before
 
-    -- an item that begins at the last character
-    begins-here : (s : Marks) (text run : List ℕ) → s.text ≡ place_after text → s.begun ≡ place_after (text ++ run)
-        → is_after_less_than (led rules (at (text ++ run)) less_than).opened ≡ true
-        → led rules (at (text ++ run)) less_than ≡ led rules (start_at (text ++ run)) less_than
-        → Inside s ((text ++ run) ++ less_than ∷ [])
-    begins-here s text run text_place begun opened same = record {
-      text = text;
-      run = run;
-      more = [];
-      parts = append_assoc text run (less_than ∷ []);
-      text_place = text_place;
-      begun = begun;
-      opens = record {
-        first = ap (λ (Q : Start). is_after_less_than Q.opened) (sym same) ∙ opened;
-        stays = stays-none (led rules (start_at (text ++ run)) less_than);
-        leads = after-nil standard.step standard.reply standard.foreign rules (led rules (start_at (text ++ run)) less_than) tt ∙ sym same ∙ sym (at-more (text ++ run) less_than);
-      };
-    }
+      -- an item that begins at the last character
+      begins-here : (s : Marks) (text run front : List ℕ) → base ++ front ≡ text ++ run → s.text ≡ place_after text → s.begun ≡ place_after (text ++ run)
+          → is_after_less_than (led rules (at front) less_than).opened ≡ true
+          → led rules (at front) less_than ≡ led rules (start_at front) less_than
+          → Inside s (front ++ less_than ∷ [])
+      begins-here s text run front runs text_place begun opened same = record {
+        text = text;
+        run = run;
+        front = front;
+        more = [];
+        runs = runs;
+        parts = refl;
+        text_place = text_place;
+        begun = begun;
+        opens = record {
+          first = ap (λ (Q : Start). is_after_less_than Q.opened) (sym same) ∙ opened;
+          stays = stays-none (led rules (start_at front) less_than);
+          leads = after-nil standard.step standard.reply standard.foreign rules (led rules (start_at front) less_than) tt ∙ sym same ∙ sym (at-more front less_than);
+        };
+      }
 
-    -- one that was open goes on
-    stays-open : (s t : Marks) (before : List ℕ) (c : ℕ) → Inside s before → t.text ≡ s.text → t.begun ≡ s.begun → in_markup (led rules (at before) c).opened ≡ true
-        → Inside t (before ++ c ∷ [])
-    stays-open s t before c inside same_text same_begun opened =
-        let first : Start = led rules (start_at (inside.text ++ inside.run)) less_than in
-        record {
-          text = inside.text;
-          run = inside.run;
-          more = inside.more ++ c ∷ [];
-          parts =
-              ap (λ l. l ++ c ∷ []) inside.parts
-              ∙ append_assoc inside.text (inside.run ++ less_than ∷ inside.more) (c ∷ [])
-              ∙ ap (λ l. inside.text ++ l) (append_assoc inside.run (less_than ∷ inside.more) (c ∷ []));
-          text_place = same_text ∙ inside.text_place;
-          begun = same_begun ∙ inside.begun;
-          opens = record {
-            first = inside.opens.first;
-            stays = stays-more first inside.more c inside.opens.stays (ap (λ (Q : Start). in_markup (led rules Q c).opened) inside.opens.leads ∙ opened);
-            leads =
-                after-append standard.step standard.reply standard.foreign rules first tt inside.more (c ∷ [])
-                ∙ ap (λ (Q : Start). led rules Q c) inside.opens.leads
-                ∙ sym (at-more before c);
-          };
-        }
-
-    -- ---- one character further
-
-    -- no markup is open
-    nothing-inside : (t : Marks) (text : List ℕ) → is_inside (at text).opened ≡ false → is_inside (at text).opened ≡ true → Inside t text
-    nothing-inside t text outside h = absurd (false≢true (sym outside ∙ h))
-
-    -- the run begins after some beginning of the text
-    run-past : (s t : Marks) (before : List ℕ) (c : ℕ) → Known s before → (t.text ≡ s.text) ⊎ (t.text ≡ s.to + length (encode_utf8 c))
-        → (text : List ℕ) × (run : List ℕ) × (before ++ c ∷ [] ≡ text ++ run) × (t.text ≡ place_after text)
-    run-past s t before c known (inl same) = (
-      known.text,
-      known.run ++ c ∷ [],
-      ap (λ l. l ++ c ∷ []) known.parts ∙ append_assoc known.text known.run (c ∷ []),
-      same ∙ known.text_place,
-    )
-    run-past s t before c known (inr here) = (
-      before ++ c ∷ [],
-      [],
-      sym (append-nil (before ++ c ∷ [])),
-      here ∙ ap (λ n. n + length (encode_utf8 c)) known.to ∙ sym (place_after-more before c),
-    )
-
-    -- the marks after a character, by whether it is a `<` that may begin markup
-    module _ (s : Marks) (before : List ℕ) (c : ℕ) (known : Known s before) where
-      abbrev told_here : Marks
-      told_here = marks_after_all (at_character s c) (told_at rules K before c)
-
-      abbrev past : Bool → Marks
-      past b = begun_where b told_here
-
-      past-to : (b : Bool) → (past b).to ≡ s.to + length (encode_utf8 c)
-      past-to true = to-after_all (at_character s c) (told_at rules K before c)
-      past-to false = to-after_all (at_character s c) (told_at rules K before c)
-
-      past-text : (b : Bool) → (past b).text ≡ told_here.text
-      past-text true = refl
-      past-text false = refl
-
-      kept-text : KeepRun (tells rules (at before) c) → told_here.text ≡ s.text
-      kept-text keeps = text-kept (at_character s c) (told_at rules K before c) (subst KeepRun (sym (told-more before c)) keeps)
-
-      ready-next : (b : Bool) → is_after_less_than (at (before ++ c ∷ [])).opened ≡ b → (b ≡ true → (c ≡ less_than) × (led rules (at before) c ≡ led rules (start_at before) less_than))
-          → is_after_less_than (at (before ++ c ∷ [])).opened ≡ true → Ready (at (before ++ c ∷ [])).input
-      ready-next true e begins h =
-          subst (λ (Q : Start). Ready Q.input) (sym (at-more before c ∙ (begins refl).1)) (ready-after rules (start_at before))
-      ready-next false e begins h = absurd (false≢true (sym e ∙ h))
-
-      inside-goes : (b : Bool) → is_after_less_than (at (before ++ c ∷ [])).opened ≡ b → GoesOnAt rules (at before) c
-          → is_inside (at (before ++ c ∷ [])).opened ≡ true → Inside (past b) (before ++ c ∷ [])
-      inside-goes true e goes h =
-          let opened : is_after_less_than (led rules (at before) c).opened ≡ true = ap (λ (Q : Start). is_after_less_than Q.opened) (sym (at-more before c)) ∙ e in
-          let w = goes.begins opened in
-          let front : List ℕ = known.text ++ known.run in
-          let same : led rules (at before) less_than ≡ led rules (start_at before) less_than = ap (led rules (at before)) (sym w.0) ∙ w.1 in
-          subst (λ l. Inside (past true) l) (ap (λ l. l ++ less_than ∷ []) (sym known.parts) ∙ ap (λ d. before ++ d ∷ []) (sym w.0))
-          (begins-here (past true) known.text known.run
-          (kept-text goes.keeps ∙ known.text_place)
-          (from-all (at_character s c) (told_at rules K before c) ∙ known.to ∙ ap place_after known.parts)
-          (subst (λ l. is_after_less_than (led rules (at l) less_than).opened ≡ true) known.parts (ap (λ d. is_after_less_than (led rules (at before) d).opened) (sym w.0) ∙ opened))
-          (subst (λ l. led rules (at l) less_than ≡ led rules (start_at l) less_than) known.parts same))
-      inside-goes false e goes h =
-          let opened : in_markup (led rules (at before) c).opened ≡ true =
-          ap (λ (Q : Start). in_markup Q.opened) (sym (at-more before c)) ∙ inside-within (at (before ++ c ∷ [])).opened e h in
-          stays-open s (past false) before c (known.inside (goes.within opened)) (kept-text goes.keeps) (begun-all (at_character s c) (told_at rules K before c)) opened
-
-      known-next_by : (b : Bool) → is_after_less_than (at (before ++ c ∷ [])).opened ≡ b → GoesOnAt rules (at before) c ⊎ EndsAt rules (at before) c → Known (past b) (before ++ c ∷ [])
-      known-next_by b e step =
-          let w = run-past s (past b) before c known (moved (text-all (at_character s c) (told_at rules K before c))) in
+      -- one that was open goes on
+      stays-open : (s t : Marks) (before : List ℕ) (c : ℕ) → Inside s before → t.text ≡ s.text → t.begun ≡ s.begun → in_markup (led rules (at before) c).opened ≡ true
+          → Inside t (before ++ c ∷ [])
+      stays-open s t before c inside same_text same_begun opened =
+          let first : Start = led rules (start_at inside.front) less_than in
           record {
-            to = past-to b ∙ ap (λ n. n + length (encode_utf8 c)) known.to ∙ sym (place_after-more before c);
-            text = w.0;
-            run = w.1;
-            parts = w.2;
-            text_place = w.3;
-            ready = readies step;
-            inside = insides step;
+            text = inside.text;
+            run = inside.run;
+            front = inside.front;
+            more = inside.more ++ c ∷ [];
+            runs = inside.runs;
+            parts = ap (λ l. l ++ c ∷ []) inside.parts ∙ append_assoc inside.front (less_than ∷ inside.more) (c ∷ []);
+            text_place = same_text ∙ inside.text_place;
+            begun = same_begun ∙ inside.begun;
+            opens = record {
+              first = inside.opens.first;
+              stays = stays-more first inside.more c inside.opens.stays (ap (λ (Q : Start). in_markup (led rules Q c).opened) inside.opens.leads ∙ opened);
+              leads =
+                  after-append standard.step standard.reply standard.foreign rules first tt inside.more (c ∷ [])
+                  ∙ ap (λ (Q : Start). led rules Q c) inside.opens.leads
+                  ∙ sym (at-more before c);
+            };
+          }
+
+      -- ---- one character further
+
+      -- no markup is open
+      nothing-inside : (t : Marks) (text : List ℕ) → is_inside (at text).opened ≡ false → is_inside (at text).opened ≡ true → Inside t text
+      nothing-inside t text outside h = absurd (false≢true (sym outside ∙ h))
+
+      -- the text with one character more
+      one-more : (before : List ℕ) (c : ℕ) → base ++ (before ++ c ∷ []) ≡ (base ++ before) ++ c ∷ []
+      one-more before c = sym (append_assoc base before (c ∷ []))
+
+      place-more : (before : List ℕ) (c : ℕ) → place_after (base ++ (before ++ c ∷ [])) ≡ place_after (base ++ before) + length (encode_utf8 c)
+      place-more before c = ap place_after (one-more before c) ∙ place_after-more (base ++ before) c
+
+      -- the run begins after some beginning of the text
+      run-past : (s t : Marks) (before : List ℕ) (c : ℕ) → Known s before → (t.text ≡ s.text) ⊎ (t.text ≡ s.to + length (encode_utf8 c))
+          → (text : List ℕ) × (run : List ℕ) × (base ++ (before ++ c ∷ []) ≡ text ++ run) × (t.text ≡ place_after text)
+      run-past s t before c known (inl same) = (
+        known.text,
+        known.run ++ c ∷ [],
+        one-more before c ∙ ap (λ l. l ++ c ∷ []) known.parts ∙ append_assoc known.text known.run (c ∷ []),
+        same ∙ known.text_place,
+      )
+      run-past s t before c known (inr here) = (
+        base ++ (before ++ c ∷ []),
+        [],
+        sym (append-nil (base ++ (before ++ c ∷ []))),
+        here ∙ ap (λ n. n + length (encode_utf8 c)) known.to ∙ sym (place-more before c),
+      )
+
+      -- the marks after a character, by whether it is a `<` that may begin markup
+      module _ (s : Marks) (before : List ℕ) (c : ℕ) (known : Known s before) where
+        abbrev told_here : Marks
+        told_here = marks_after_all (at_character s c) (told_at rules K before c)
+
+        abbrev past : Bool → Marks
+        past b = begun_where b told_here
+
+        past-to : (b : Bool) → (past b).to ≡ s.to + length (encode_utf8 c)
+        past-to true = to-after_all (at_character s c) (told_at rules K before c)
+        past-to false = to-after_all (at_character s c) (told_at rules K before c)
+
+        past-text : (b : Bool) → (past b).text ≡ told_here.text
+        past-text true = refl
+        past-text false = refl
+
+        kept-text : KeepRun (tells rules (at before) c) → told_here.text ≡ s.text
+        kept-text keeps = text-kept (at_character s c) (told_at rules K before c) (subst KeepRun (sym (told-more before c)) keeps)
+
+        ready-next : (b : Bool) → is_after_less_than (at (before ++ c ∷ [])).opened ≡ b → (b ≡ true → (c ≡ less_than) × (led rules (at before) c ≡ led rules (start_at before) less_than))
+            → is_after_less_than (at (before ++ c ∷ [])).opened ≡ true → Ready (at (before ++ c ∷ [])).input
+        ready-next true e begins h =
+            subst (λ (Q : Start). Ready Q.input) (sym (at-more before c ∙ (begins refl).1)) (ready-after rules (start_at before))
+        ready-next false e begins h = absurd (false≢true (sym e ∙ h))
+
+        inside-goes : (b : Bool) → is_after_less_than (at (before ++ c ∷ [])).opened ≡ b → GoesOnAt rules (at before) c
+            → is_inside (at (before ++ c ∷ [])).opened ≡ true → Inside (past b) (before ++ c ∷ [])
+        inside-goes true e goes h =
+            let opened : is_after_less_than (led rules (at before) c).opened ≡ true = ap (λ (Q : Start). is_after_less_than Q.opened) (sym (at-more before c)) ∙ e in
+            let w = goes.begins opened in
+            let same : led rules (at before) less_than ≡ led rules (start_at before) less_than = ap (led rules (at before)) (sym w.0) ∙ w.1 in
+            subst (λ l. Inside (past true) l) (ap (λ d. before ++ d ∷ []) (sym w.0))
+            (begins-here (past true) known.text known.run before known.parts
+            (kept-text goes.keeps ∙ known.text_place)
+            (from-all (at_character s c) (told_at rules K before c) ∙ known.to ∙ ap place_after known.parts)
+            (ap (λ d. is_after_less_than (led rules (at before) d).opened) (sym w.0) ∙ opened)
+            same)
+        inside-goes false e goes h =
+            let opened : in_markup (led rules (at before) c).opened ≡ true =
+            ap (λ (Q : Start). in_markup Q.opened) (sym (at-more before c)) ∙ inside-within (at (before ++ c ∷ [])).opened e h in
+            stays-open s (past false) before c (known.inside (goes.within opened)) (kept-text goes.keeps) (begun-all (at_character s c) (told_at rules K before c)) opened
+
+        known-next_by : (b : Bool) → is_after_less_than (at (before ++ c ∷ [])).opened ≡ b → GoesOnAt rules (at before) c ⊎ EndsAt rules (at before) c → Known (past b) (before ++ c ∷ [])
+        known-next_by b e step =
+            let w = run-past s (past b) before c known (moved (text-all (at_character s c) (told_at rules K before c))) in
+            record {
+              to = past-to b ∙ ap (λ n. n + length (encode_utf8 c)) known.to ∙ sym (place-more before c);
+              text = w.0;
+              run = w.1;
+              parts = w.2;
+              text_place = w.3;
+              ready = readies step;
+              inside = insides step;
+            }
+          where
+            moved : (told_here.text ≡ s.text) ⊎ (told_here.text ≡ s.to + length (encode_utf8 c)) → ((past b).text ≡ s.text) ⊎ ((past b).text ≡ s.to + length (encode_utf8 c))
+            moved (inl f) = inl (past-text b ∙ f)
+            moved (inr f) = inr (past-text b ∙ f)
+
+            outside : EndsAt rules (at before) c → is_inside (at (before ++ c ∷ [])).opened ≡ false
+            outside ends = ap (λ (Q : Start). is_inside Q.opened) (at-more before c) ∙ ends.outside
+
+            readies : GoesOnAt rules (at before) c ⊎ EndsAt rules (at before) c → is_after_less_than (at (before ++ c ∷ [])).opened ≡ true → Ready (at (before ++ c ∷ [])).input
+            readies (inl goes) h =
+                ready-next b e (λ t. goes.begins (ap (λ (Q : Start). is_after_less_than Q.opened) (sym (at-more before c)) ∙ e ∙ t)) h
+            readies (inr ends) h = absurd (false≢true (sym (outside-not_begun (at (before ++ c ∷ [])).opened (outside ends)) ∙ h))
+
+            insides : GoesOnAt rules (at before) c ⊎ EndsAt rules (at before) c → is_inside (at (before ++ c ∷ [])).opened ≡ true → Inside (past b) (before ++ c ∷ [])
+            insides (inl goes) h = inside-goes b e goes h
+            insides (inr ends) h = nothing-inside (past b) (before ++ c ∷ []) (outside ends) h
+
+      pub known-next : (s : Marks) (before : List ℕ) (c : ℕ) → Known s before → Known (marks_past rules K s before c) (before ++ c ∷ [])
+      known-next s before c known = known-next_by s before c known _ refl (at-character rules (at before) c known.ready)
+
+      pub known-first : (s : Marks) → BeginsAfter base (record { start = K; marks = s }) → Known s []
+      known-first s begins =
+          let same : at [] ≡ K = after-nil standard.step standard.reply standard.foreign rules K tt in
+          record {
+            to = begins.to ∙ ap place_after (sym (append-nil base));
+            text = begins.text;
+            run = begins.run;
+            parts = append-nil base ∙ begins.parts;
+            text_place = begins.text_place;
+            ready = λ h. absurd (false≢true (sym (not-inside K.opened begins.clean).0 ∙ ap (λ (Q : Start). is_after_less_than Q.opened) (sym same) ∙ h));
+            inside = λ h. absurd (false≢true (sym (not-inside K.opened begins.clean).1 ∙ ap (λ (Q : Start). is_inside Q.opened) (sym same) ∙ h));
           }
         where
-          moved : (told_here.text ≡ s.text) ⊎ (told_here.text ≡ s.to + length (encode_utf8 c)) → ((past b).text ≡ s.text) ⊎ ((past b).text ≡ s.to + length (encode_utf8 c))
-          moved (inl f) = inl (past-text b ∙ f)
-          moved (inr f) = inr (past-text b ∙ f)
+          not-inside : (opened : Open) → nothing_open opened ≡ true → (is_after_less_than opened ≡ false) × (is_inside opened ≡ false)
+          not-inside opened h = let m = between-mode opened h in (ap is_after_less_than m.1, ap is_inside m.1)
 
-          outside : EndsAt rules (at before) c → is_inside (at (before ++ c ∷ [])).opened ≡ false
-          outside ends = ap (λ (Q : Start). is_inside Q.opened) (at-more before c) ∙ ends.outside
+      -- what is known after a text
+      known-after : (s : Marks) (before text : List ℕ) → Known s before → Known (marks_from rules K s before text) (before ++ text)
+      unfolding marks_from
+      known-after s before [] known = subst (Known s) (sym (append-nil before)) known
+      known-after s before (c ∷ text) known =
+          let past : Marks = marks_past rules K s before c in
+          subst (Known (marks_from rules K past (before ++ c ∷ []) text)) (append_assoc before (c ∷ []) text)
+          (known-after past (before ++ c ∷ []) text (known-next s before c known))
 
-          readies : GoesOnAt rules (at before) c ⊎ EndsAt rules (at before) c → is_after_less_than (at (before ++ c ∷ [])).opened ≡ true → Ready (at (before ++ c ∷ [])).input
-          readies (inl goes) h =
-              ready-next b e (λ t. goes.begins (ap (λ (Q : Start). is_after_less_than Q.opened) (sym (at-more before c)) ∙ e ∙ t)) h
-          readies (inr ends) h = absurd (false≢true (sym (outside-not_begun (at (before ++ c ∷ [])).opened (outside ends)) ∙ h))
+      -- the same from where a reading begins
+      pub known-of : (s : Marks) → BeginsAfter base (record { start = K; marks = s }) → (before : List ℕ)
+          → Known (marks_of rules (record { start = K; marks = s }) before) before
+      known-of s begins before = known-after s [] before (known-first s begins)
 
-          insides : GoesOnAt rules (at before) c ⊎ EndsAt rules (at before) c → is_inside (at (before ++ c ∷ [])).opened ≡ true → Inside (past b) (before ++ c ∷ [])
-          insides (inl goes) h = inside-goes b e goes h
-          insides (inr ends) h = nothing-inside (past b) (before ++ c ∷ []) (outside ends) h
+-- a reading that goes on in another state begins after all that was read
+pub begins-in_state : (base : List ℕ) (B : Beginning) (r : Reading) (before : List ℕ) (state : State) → BeginsAfter base B → StandsAfter r B before
+    → BeginsAfter (base ++ before) (record { start = in_state r.position state; marks = r.marks })
+begins-in_state base B r before state begins there =
+    let known : Known r.rules B.start base (marks_of r.rules B before) before = known-of r.rules B.start base B.marks begins before in
+    record {
+      clean = refl;
+      to = ap (λ (m : Marks). m.to) there.marks ∙ known.to;
+      text = known.text;
+      run = known.run;
+      parts = known.parts;
+      text_place = ap (λ (m : Marks). m.text) there.marks ∙ known.text_place;
+    }
 
-    pub known-next : (s : Marks) (before : List ℕ) (c : ℕ) → Known s before → Known (marks_past rules K s before c) (before ++ c ∷ [])
-    known-next s before c known = known-next_by s before c known _ refl (at-character rules (at before) c known.ready)
-
-    pub known-first : nothing_open K.opened ≡ true → Known no_marks []
-    known-first clean =
-        let same : at [] ≡ K = after-nil standard.step standard.reply standard.foreign rules K tt in
-        record {
-          to = refl;
-          text = [];
-          run = [];
-          parts = refl;
-          text_place = refl;
-          ready = λ h. absurd (false≢true (sym (not-inside K.opened clean).0 ∙ ap (λ (Q : Start). is_after_less_than Q.opened) (sym same) ∙ h));
-          inside = λ h. absurd (false≢true (sym (not-inside K.opened clean).1 ∙ ap (λ (Q : Start). is_inside Q.opened) (sym same) ∙ h));
-        }
-      where
-        not-inside : (opened : Open) → nothing_open opened ≡ true → (is_after_less_than opened ≡ false) × (is_inside opened ≡ false)
-        not-inside opened h = let m = between-mode opened h in (ap is_after_less_than m.1, ap is_inside m.1)
+-- one that begins at the first byte begins after no text
+pub begins-first : (K : Start) → nothing_open K.opened ≡ true → BeginsAfter [] (at_first_byte K)
+begins-first K clean = record { clean = clean; to = refl; text = []; run = []; parts = refl; text_place = refl }

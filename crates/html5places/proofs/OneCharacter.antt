@@ -1,10 +1,10 @@
 -- What a tokenizer does at a character, and at the end, wherever it stands.
-use Rattle.std.proofs.Common.{◌≡◌, inl, inr, ℕ, false, List, [], ◌∷◌, ◌++◌, length, drop, refl, ap, sym, ◌∙◌, subst}
+use Rattle.std.proofs.Common.{◌≡◌, ℕ, false, List, [], ◌∷◌, ◌++◌, length, drop, refl, ap, sym, ◌∙◌}
 use Rattle.std.proofs.Math.Seq.{drop-append_seam}
-use Rattle.html5ever.specs.Tokenizer.{EndStops, Finishes, ReadsOn, StandsAt, StopsEnding, StopsReading}
+use Rattle.html5ever.specs.Tokenizer.{Finishes, ReadsOn, StandsAt, Tokenizing}
 use Rattle.html5ever.proofs.Standing.{StandsAt-start}
 use Rattle.html5ever_interface.specs.Sink.{Means, Message, on_line, stepped}
-use Rattle.html5feed.specs.Feed.{told_at_end, told_beyond}
+use Rattle.html5feed.specs.Feed.{told_at_end}
 use Rattle.html5feed.proofs.Pauses.{told_beyond-after}
 use Rattle.html5reading.specs.EndOfInput.{tokens_at_end}
 use Rattle.html5reading.specs.NormalisedText.{line_after, normalised, with_line_feeds, without_dropped_first}
@@ -13,14 +13,12 @@ use Rattle.html5reading.specs.Start.{Rules, Start}
 use Rattle.html5reading.proofs.InputLemmas.{input_after-line_none, line_after-lines_past}
 use Rattle.html5reading.proofs.ReadingLemmas.{after-append, after-nil, messages-at_end, reading-events, told-nil}
 use Rattle.html5reading.proofs.Traces.{messages-append}
-use Rattle.html5states.specs.Telling.{Stops}
-use Rattle.html5partial.specs.declared.error.TokenizerError.{TokenizerError}
-use Rattle.html5partial.specs.declared.error.TokenizerError.TheVariants.{Failed, Memory, Sink}
 use Rattle.html5places.specs.Marks.{Marks, Placed, Placing, PlacingSink, kept, placed_means, placed_step, placing_of, waits}
-use Rattle.html5places.specs.Placed.{all_handed, at_character, at_end, begun_by, handed_on, standard, told_at}
-use Rattle.html5places.specs.Readers.{CharacterRead, IsAfter, IsPart, Reader}
-use Rattle.html5places.proofs.SameReplies.{all-same, at_end-same, so_far-same, start-same}
-use Rattle.html5places.proofs.Stepping.{part-all, part-stopped, stepped-handler, stepped-marks}
+use Rattle.html5places.specs.Placed.{all_handed, at_character, at_end, begun_by, handed_on, marks_of, marks_past, standard, told_at}
+use Rattle.html5places.specs.Readers.{Reader, Reads, ReadsEnd, reading_of}
+use Rattle.html5places.proofs.Pieces.{marks_from-one, marks_of-append, placed_from-one}
+use Rattle.html5places.proofs.SameReplies.{all-same, so_far-same, start-same}
+use Rattle.html5places.proofs.Stepping.{stepped-handler, stepped-marks}
 
 -- ---- what is told, by the standard's replies
 
@@ -72,6 +70,10 @@ end-here rules K before =
 abbrev pub sink_means : Means (PlacingSink (List Placed)) (Placing (List Placed)) (Unit {0})
 sink_means = placed_means kept waits
 
+-- the text before, read from the start K, led to where the tokenizer stands
+abbrev IsAfter : {X : Type 0} → Tokenizing X → Start → List ℕ → Type 0
+IsAfter t K before = t.position ≡ start_after standard t.rules K tt before
+
 -- the tokenizer is another one, but for the places that its sink knows
 pub record IsMoved (t0 t : Reader) (there : Marks) : Type 0 where
   pub position : t.position ≡ t0.position
@@ -96,13 +98,6 @@ so_far-here t0 t marks K before c s moved after =
     ∙ ap (λ P. messages_so_far standard t0.rules P tt (c ∷ [])) (moved.position ∙ after)
     ∙ told-here t0.rules K before c
 
-beyond-here : (t0 t : Reader) (marks : Marks) (K : Start) (before : List ℕ) (c : ℕ) (s : Placing (List Placed)) → IsMoved t0 t marks → IsAfter t0 K before
-    → told_beyond sink_means t.rules t.position s [] (c ∷ []) ≡ told_at t0.rules K before c
-beyond-here t0 t marks K before c s moved after =
-    ap (λ (M : List Message). drop (length M) (messages_so_far sink_means t.rules t.position s (c ∷ [])))
-    (told-nil sink_means.step sink_means.reply sink_means.foreign t.rules t.position s)
-    ∙ so_far-here t0 t marks K before c s moved after
-
 start-here : (t0 t : Reader) (marks : Marks) (K : Start) (before : List ℕ) (c : ℕ) (s : Placing (List Placed)) → IsMoved t0 t marks → IsAfter t0 K before
     → start_after sink_means t.rules t.position s (c ∷ []) ≡ start_after standard t0.rules K tt (before ++ c ∷ [])
 start-here t0 t marks K before c s moved after =
@@ -112,90 +107,62 @@ start-here t0 t marks K before c s moved after =
     ∙ after-here t0.rules K before c
 
 -- a character was read
-pub character-read : (t0 t u v : Reader) (K : Start) (before : List ℕ) (c : ℕ) → IsMoved t0 t (at_character t0.sink.marks c)
+pub character-read : (t0 t u v : Reader) (c : ℕ) → IsMoved t0 t (at_character t0.sink.marks c)
     → u.rules ≡ t.rules → ReadsOn sink_means t u (c ∷ [])
     → v.position ≡ u.position → v.rules ≡ u.rules → v.sink.handler ≡ u.sink.handler
     → v.sink.marks ≡ begun_by u.position.opened u.sink.marks
-    → IsAfter t0 K before → CharacterRead waits t0 v t0.sink.handler v.sink.handler K before c
-character-read t0 t u v K before c moved rules reads position same_rules handler marks after =
+    → Reads waits (reading_of t0) (reading_of v) t0.sink.handler v.sink.handler (c ∷ [])
+character-read t0 t u v c moved rules reads position same_rules handler marks B before there =
+    let K : Start = B.start in
+    let m : Marks = marks_of t0.rules B before in
     let here : Marks = at_character t0.sink.marks c in
     let s : Placing (List Placed) = placing_of kept t.sink in
     let stands = reads t.position s [] (stands-here t moved.not_failed moved.not_ended) in
     let at : u.position ≡ start_after standard t0.rules K tt (before ++ c ∷ []) =
     stands.position
     ∙ ap (λ r. start_after sink_means r t.position s (c ∷ [])) rules
-    ∙ start-here t0 t here K before c s moved after in
+    ∙ start-here t0 t here K before c s moved there.position in
     let told : placing_of kept u.sink
     ≡ stepped (placed_step waits) (record { handler = t0.sink.handler; marks = here }) (told_at t0.rules K before c) =
     stands.told
     ∙ ap (λ r. stepped (placed_step waits) s (messages_so_far sink_means r t.position s (c ∷ []))) rules
-    ∙ ap (stepped (placed_step waits) s) (so_far-here t0 t here K before c s moved after)
+    ∙ ap (stepped (placed_step waits) s) (so_far-here t0 t here K before c s moved there.position)
     ∙ ap (λ w. stepped (placed_step waits) w (told_at t0.rules K before c)) (placing-moved t0 t here moved) in
+    let all_rules : v.rules ≡ t0.rules = same_rules ∙ rules ∙ moved.rules in
     record {
-      after = position ∙ at ∙ ap (λ r. start_after standard r K tt (before ++ c ∷ [])) (sym (same_rules ∙ rules ∙ moved.rules));
-      handler = handler ∙ ap (λ (w : Placing (List Placed)). w.handler) told ∙ stepped-handler waits _ (told_at t0.rules K before c);
-      marks =
-          marks
-          ∙ ap (λ (P : Start). begun_by P.opened u.sink.marks) at
-          ∙ ap (begun_by (start_after standard t0.rules K tt (before ++ c ∷ [])).opened)
-          (ap (λ (w : Placing (List Placed)). w.marks) told ∙ stepped-marks waits _ (told_at t0.rules K before c));
+      stands = record {
+        position = position ∙ at ∙ ap (λ r. start_after standard r K tt (before ++ c ∷ [])) (sym all_rules);
+        marks =
+            marks
+            ∙ ap (λ (P : Start). begun_by P.opened u.sink.marks) at
+            ∙ ap (begun_by (start_after standard t0.rules K tt (before ++ c ∷ [])).opened)
+            (ap (λ (w : Placing (List Placed)). w.marks) told ∙ stepped-marks waits _ (told_at t0.rules K before c))
+            ∙ ap (λ n. marks_past t0.rules K n before c) there.marks
+            ∙ sym (marks_from-one t0.rules K m before c)
+            ∙ sym (marks_of-append t0.rules B before (c ∷ []))
+            ∙ ap (λ r. marks_of r B (before ++ c ∷ [])) (sym all_rules);
+      };
+      handler =
+          handler
+          ∙ ap (λ (w : Placing (List Placed)). w.handler) told
+          ∙ stepped-handler waits _ (told_at t0.rules K before c)
+          ∙ ap (λ n. handed_on waits t0.sink.handler (all_handed (at_character n c) (told_at t0.rules K before c))) there.marks
+          ∙ ap (handed_on waits t0.sink.handler) (sym (placed_from-one t0.rules K m before c));
     }
 
--- a character was not read to its end
-pub character-stopped : (t0 t w : Reader) (e : TokenizerError) (K : Start) (before : List ℕ) (c : ℕ) → IsMoved t0 t (at_character t0.sink.marks c)
-    → StopsReading sink_means e t (c ∷ []) (placing_of kept w.sink) → IsAfter t0 K before
-    → IsPart waits t0.sink.handler (all_handed (at_character t0.sink.marks c) (told_at t0.rules K before c)) w.sink.handler
-character-stopped t0 t w e K before c moved stops after =
-    let here : Marks = at_character t0.sink.marks c in
-    let s : Placing (List Placed) = placing_of kept t.sink in
-    let start : Placing (List Placed) = record { handler = t0.sink.handler; marks = here } in
-    part-stopped waits e start (told_at t0.rules K before c) (placing_of kept w.sink)
-    (subst (λ M. Stops (placed_step waits) (λ u told line. u) e start M (placing_of kept w.sink)) (beyond-here t0 t here K before c s moved after)
-    (subst (λ u. Stops (placed_step waits) (λ v told line. v) e u (told_beyond sink_means t.rules t.position s [] (c ∷ [])) (placing_of kept w.sink))
-    (placing-moved t0 t here moved)
-    (stops t.position s [] (stands-here t moved.not_failed moved.not_ended))))
-
 -- the end was read
-pub end-read : (t0 t w : Reader) (K : Start) (before : List ℕ) → IsMoved t0 t (at_end t0.sink.marks)
-    → Finishes sink_means t (placing_of kept w.sink) → IsAfter t0 K before
-    → w.sink.handler ≡ handed_on waits t0.sink.handler (all_handed (at_end t0.sink.marks) (told_at_end standard t0.rules K tt before))
-end-read t0 t w K before moved finishes after =
-    let here : Marks = at_end t0.sink.marks in
+pub end-read : (t0 t w : Reader) → IsMoved t0 t (at_end t0.sink.marks) → Finishes sink_means t (placing_of kept w.sink)
+    → ReadsEnd waits (reading_of t0) t0.sink.handler w.sink.handler
+end-read t0 t w moved finishes B before there =
+    let K : Start = B.start in
     let s : Placing (List Placed) = placing_of kept t.sink in
     ap (λ (v : Placing (List Placed)). v.handler)
     (finishes t.position s [] (stands-here t moved.not_failed moved.not_ended)
     ∙ ap (stepped (placed_step waits) s)
     (all-same sink_means standard (λ u v told line. refl) (λ u v. refl) t.rules t.position s tt []
     ∙ ap (λ rules. all_messages standard rules t.position tt []) moved.rules
-    ∙ ap (λ P. all_messages standard t0.rules P tt []) (moved.position ∙ after)
+    ∙ ap (λ P. all_messages standard t0.rules P tt []) (moved.position ∙ there.position)
     ∙ end-here t0.rules K before)
-    ∙ ap (λ v. stepped (placed_step waits) v (told_at_end standard t0.rules K tt before)) (placing-moved t0 t here moved))
-    ∙ stepped-handler waits (record { handler = t0.sink.handler; marks = here }) (told_at_end standard t0.rules K tt before)
-
-at_end-here : (t0 t : Reader) (marks : Marks) (K : Start) (before : List ℕ) (s : Placing (List Placed)) → IsMoved t0 t marks → IsAfter t0 K before
-    → told_at_end sink_means t.rules t.position s [] ≡ told_at_end standard t0.rules K tt before
-at_end-here t0 t marks K before s moved after =
-    at_end-same sink_means standard (λ u v told line. refl) (λ u v. refl) t.rules t.position s tt []
-    ∙ ap (λ rules. told_at_end standard rules t.position tt []) moved.rules
-    ∙ ap (λ P. told_at_end standard t0.rules P tt []) (moved.position ∙ after)
-    ∙ end-beyond t0.rules K before
-
-part-ended : (e : TokenizerError) (s : Placing (List Placed)) (M : List Message) (v : Placing (List Placed)) → EndStops sink_means e s M v
-    → IsPart waits s.handler (all_handed s.marks M) v.handler
-part-ended Memory s M v stops = part-stopped waits Memory s M v stops
-part-ended Sink s M v (inl stops) = part-stopped waits Sink s M v stops
-part-ended Sink s M v (inr whole) = part-all waits s M v whole
-part-ended Failed s M v stops = absurd stops
-
--- the end was not read to its own end
-pub end-stopped : (t0 t w : Reader) (e : TokenizerError) (K : Start) (before : List ℕ) → IsMoved t0 t (at_end t0.sink.marks)
-    → StopsEnding sink_means e t (placing_of kept w.sink) → IsAfter t0 K before
-    → IsPart waits t0.sink.handler (all_handed (at_end t0.sink.marks) (told_at_end standard t0.rules K tt before)) w.sink.handler
-end-stopped t0 t w e K before moved stops after =
-    let here : Marks = at_end t0.sink.marks in
-    let s : Placing (List Placed) = placing_of kept t.sink in
-    let start : Placing (List Placed) = record { handler = t0.sink.handler; marks = here } in
-    part-ended e start (told_at_end standard t0.rules K tt before) (placing_of kept w.sink)
-    (subst (λ M. EndStops sink_means e start M (placing_of kept w.sink)) (at_end-here t0 t here K before s moved after)
-    (subst (λ u. EndStops sink_means e u (told_at_end sink_means t.rules t.position s []) (placing_of kept w.sink)) (placing-moved t0 t here moved)
-    (stops t.position s [] (stands-here t moved.not_failed moved.not_ended))))
+    ∙ ap (λ v. stepped (placed_step waits) v (told_at_end standard t0.rules K tt before)) (placing-moved t0 t (at_end t0.sink.marks) moved))
+    ∙ stepped-handler waits (record { handler = t0.sink.handler; marks = at_end t0.sink.marks }) (told_at_end standard t0.rules K tt before)
+    ∙ ap (λ m. handed_on waits t0.sink.handler (all_handed (at_end m) (told_at_end standard t0.rules K tt before))) there.marks

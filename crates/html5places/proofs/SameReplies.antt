@@ -1,10 +1,9 @@
 -- Two sinks that reply alike, whatever their states are, read a text alike.
-use Rattle.std.proofs.Common.{◌≡◌, ℕ, Bool, List, [], ◌∷◌, ◌++◌, length, drop, refl, ap, sym, ◌∙◌}
+use Rattle.std.proofs.Common.{◌≡◌, ℕ, Bool, List, [], ◌∷◌, ◌++◌, length, refl, ap, sym, ◌∙◌}
 use Rattle.std.specs.Prelude.{take_while}
 use Rattle.html5ever_interface.specs.Sink.{Means, Message, stepped, on_line}
 use Rattle.html5ever_interface.specs.Token.{Told}
 use Rattle.html5ever_interface.specs.Token.Told.{Tag}
-use Rattle.html5feed.specs.Feed.{told_at_end, told_beyond}
 use Rattle.html5reading.specs.Cutting.{rest_of}
 use Rattle.html5reading.specs.ErrorText.{bad_character_error}
 use Rattle.html5reading.specs.NormalisedText.{normalised, line_after, input_after}
@@ -106,15 +105,3 @@ module _ {X Y S T H : Type 0} (means : Means X S H) (other : Means Y T H)
   pub start-same : (rules : Rules) (K : Start) (s : S) (t : T) (text : List ℕ) → start_after means rules K s text ≡ start_after other rules K t text
   start-same rules K s t text =
       ap (λ (r : Read). record { opened = r.opened; last_start_tag = r.last_start_tag; input = input_after K.input text }) (read-same rules K s t text)
-
-  -- what is told beyond a text, and at its end
-
-  pub beyond-same : (rules : Rules) (K : Start) (s : S) (t : T) (text more : List ℕ) → told_beyond means rules K s text more ≡ told_beyond other rules K t text more
-  beyond-same rules K s t text more =
-      ap (λ M. drop (length M) (messages_so_far means rules K s (text ++ more))) (so_far-same rules K s t text)
-      ∙ ap (drop (length (messages_so_far other rules K t text))) (so_far-same rules K s t (text ++ more))
-
-  pub at_end-same : (rules : Rules) (K : Start) (s : S) (t : T) (text : List ℕ) → told_at_end means rules K s text ≡ told_at_end other rules K t text
-  at_end-same rules K s t text =
-      ap (λ M. drop (length M) (all_messages means rules K s text)) (so_far-same rules K s t text)
-      ∙ ap (drop (length (messages_so_far other rules K t text))) (all-same rules K s t text)

@@ -1,5 +1,5 @@
 -- That each token that is handed on stands between characters of the text, and markup where its item is written.
-use Rattle.std.proofs.Common.{◌≡◌, ◌⊎◌, inl, inr, ℕ, ◌+◌, true, false, List, [], ◌∷◌, ◌++◌, length, refl, ap, sym, ◌∙◌, subst}
+use Rattle.std.proofs.Common.{◌≡◌, ◌⊎◌, inl, inr, ℕ, ◌+◌, true, false, List, [], ◌∷◌, ◌++◌, length, refl, ap, sym, ◌∙◌, subst, ◌≤◌, arith}
 use Rattle.std.specs.Prelude.{All, encode_utf8}
 use Rattle.std.proofs.lemmas.Bool.{false≢true}
 use Rattle.std.proofs.lemmas.List.{append-nil, append_assoc}
@@ -14,8 +14,8 @@ use Rattle.html5reading.specs.NormalisedText.{line_after}
 use Rattle.html5reading.specs.Start.{Rules, Start, nothing_open}
 use Rattle.html5places.specs.Markup.{ends_run, in_markup}
 use Rattle.html5places.specs.Marks.{Marks, Placed, is_markup, marks_after, no_marks, placed_of}
-use Rattle.html5places.specs.Placed.{all_handed, at_character, at_end, handed, marks_after_all, marks_past, placed_from, placed_tokens, standard, told_at}
-use Rattle.html5places.specs.Written.{AreBetween, IsCharacterOrEnd, StandsBetween, place_after}
+use Rattle.html5places.specs.Placed.{Beginning, all_handed, at_character, at_end, at_first_byte, handed, marks_after_all, marks_of, marks_past, placed_at_end, placed_by, placed_from, placed_tokens, standard, told_at}
+use Rattle.html5places.specs.Written.{AreBetween, BeginsAfter, IsCharacterOrEnd, StandsBetween, place_after}
 use Rattle.html5places.specs.Written.IsCharacterOrEnd.{AtCharacter, AtEnd}
 use Rattle.html5places.proofs.OneCharacter.{end-messages, line-here}
 use Rattle.html5places.proofs.ManyCharacters.{to-after, to-after_all}
@@ -24,10 +24,11 @@ use Rattle.html5places.proofs.MarkupSteps.{within-inside}
 use Rattle.html5places.proofs.MarkupCharacters.{EndsAt, GoesOnAt, KeepRun, at-character, keep_run-nothing, keep_run-on_line, led, on_line-append, tells}
 use Rattle.html5places.proofs.MarkupAtEnd.{EndTells, MarkupAtEnd, TextAtEnd}
 use Rattle.html5places.proofs.MarkupAtEnd as ends
-use Rattle.html5places.proofs.MarkupPlaces.{Inside, Known, OpenItem, at, begun-all, from-all, from-one, known-first, known-next, place_after-more, text-all, text-kept, told-more}
+use Rattle.html5places.proofs.MarkupPlaces.{Inside, Known, OpenItem, at, begins-first, begun-all, from-all, from-one, known-next, known-of, place_after-append, place_after-more, text-all, text-kept, told-more}
 
 -- how markup is written is given by `W`, for the text before an item, the item, the text after it, and the token with its line
-module _ (rules : Rules) (K : Start) (W : List ℕ → List ℕ → List ℕ → Told → ℕ → Type 0) where
+-- and the text `base` stands before what is read from K on
+module _ (rules : Rules) (K : Start) (base : List ℕ) (W : List ℕ → List ℕ → List ℕ → Told → ℕ → Type 0) where
   -- a token stands between characters of the text, and markup as `W` says
   pub record StandsBy (whole : List ℕ) (p : Placed) : Type 0 where
     pub stands : StandsBetween whole p
@@ -38,13 +39,13 @@ module _ (rules : Rules) (K : Start) (W : List ℕ → List ℕ → List ℕ →
   ByCharacter = (front more : List ℕ) (c : ℕ) (rest : List ℕ) (P : Start) (M : List Message) (m : Message) → OpenItem rules K front more P → in_markup P.opened ≡ true
       → P ≡ at rules K (front ++ less_than ∷ more) → nothing_open (led rules P c).opened ≡ true → tokens_at_end rules (led rules P c).opened ≡ End ∷ []
       → tells rules P c ≡ M ++ m ∷ [] → is_markup m.token ≡ true
-      → W front ((less_than ∷ more) ++ c ∷ []) rest m.token m.line
+      → W (base ++ front) ((less_than ∷ more) ++ c ∷ []) rest m.token m.line
 
   -- and where the end cuts it off
   abbrev pub ByEnd : Type 0
   ByEnd = (front more : List ℕ) (P : Start) (errors : List Told) (token : Told) → OpenItem rules K front more P → in_markup P.opened ≡ true
       → P ≡ at rules K (front ++ less_than ∷ more) → tokens_at_end rules P.opened ≡ errors ++ token ∷ End ∷ [] → is_markup token ≡ true
-      → W front (less_than ∷ more) [] token (line_after P.input [])
+      → W (base ++ front) (less_than ∷ more) [] token (line_after P.input [])
 
   -- ---- what a place of the text tells: `here` is its character, or none at the end
 
@@ -186,39 +187,49 @@ module _ (rules : Rules) (K : Start) (W : List ℕ → List ℕ → List ℕ →
   -- ---- a character, and the end
 
   module _ (by_character : ByCharacter) (by_end : ByEnd) where
-    module _ (s : Marks) (before : List ℕ) (known : Known rules K s before) where
-      leads-there : (inside : Inside rules K s before) → at rules K before ≡ at rules K ((inside.text ++ inside.run) ++ less_than ∷ inside.more)
-      leads-there inside = ap (at rules K) (inside.parts ∙ sym (append_assoc inside.text inside.run (less_than ∷ inside.more)))
+    module _ (s : Marks) (before : List ℕ) (known : Known rules K base s before) where
+      leads-there : (inside : Inside rules K base s before) → at rules K before ≡ at rules K (inside.front ++ less_than ∷ inside.more)
+      leads-there inside = ap (at rules K) inside.parts
 
-      character-stands : (whole : List ℕ) (c : ℕ) (rest : List ℕ) → whole ≡ before ++ c ∷ rest → All (StandsBy whole) (all_handed (at_character s c) (told_at rules K before c))
+      -- what stands before the item that is open
+      whole-front : (inside : Inside rules K base s before) → base ++ before ≡ inside.text ++ (inside.run ++ less_than ∷ inside.more)
+      whole-front inside =
+          ap (λ l. base ++ l) inside.parts
+          ∙ sym (append_assoc base inside.front (less_than ∷ inside.more))
+          ∙ ap (λ l. l ++ less_than ∷ inside.more) inside.runs
+          ∙ append_assoc inside.text inside.run (less_than ∷ inside.more)
+
+      character-stands : (whole : List ℕ) (c : ℕ) (rest : List ℕ) → whole ≡ (base ++ before) ++ c ∷ rest → All (StandsBy whole) (all_handed (at_character s c) (told_at rules K before c))
       character-stands whole c rest parts =
           subst (λ M. All (StandsBy whole) (all_handed here M)) (sym (told-more rules K before c)) (by (at-character rules (at rules K before) c known.ready))
         where
           here : Marks
           here = at_character s c
 
-          there : AreAt whole before (c ∷ []) rest parts (AtCharacter c rest) (at_character s c)
-          there = record { from = known.to; to = ap (λ n. n + length (encode_utf8 c)) known.to ∙ sym (place_after-more before c) }
+          there : AreAt whole (base ++ before) (c ∷ []) rest parts (AtCharacter c rest) (at_character s c)
+          there = record { from = known.to; to = ap (λ n. n + length (encode_utf8 c)) known.to ∙ sym (place_after-more (base ++ before) c) }
 
           by : GoesOnAt rules (at rules K before) c ⊎ EndsAt rules (at rules K before) c → All (StandsBy whole) (all_handed here (tells rules (at rules K before) c))
-          by (inl goes) = keeping-all whole before (c ∷ []) rest parts (AtCharacter c rest) here (tells rules (at rules K before) c) there goes.keeps
+          by (inl goes) = keeping-all whole (base ++ before) (c ∷ []) rest parts (AtCharacter c rest) here (tells rules (at rules K before) c) there goes.keeps
           by (inr ends) =
               subst (λ M. All (StandsBy whole) (all_handed here M)) (sym ends.parts)
-              (last-all whole before (c ∷ []) rest parts (AtCharacter c rest) here ends.before ends.message known.text known.run known.parts known.text_place there ends.keeps
+              (last-all whole (base ++ before) (c ∷ []) rest parts (AtCharacter c rest) here ends.before ends.message known.text known.run known.parts known.text_place there ends.keeps
               (λ t same_text same_begun h.
               let w = ends.markup h in
-              let inside : Inside rules K s before = known.inside (within-inside (at rules K before).opened w.0) in
+              let inside : Inside rules K base s before = known.inside (within-inside (at rules K before).opened w.0) in
               record {
                 text = inside.text;
                 run = inside.run;
                 more = inside.more;
-                front = inside.parts;
+                front = whole-front inside;
                 text_place = same_text ∙ inside.text_place;
                 begun = same_begun ∙ inside.begun;
-                written = by_character (inside.text ++ inside.run) inside.more c rest (at rules K before) ends.before ends.message inside.opens w.0 (leads-there inside) w.1 w.2 ends.parts h;
+                written =
+                    subst (λ l. W l ((less_than ∷ inside.more) ++ c ∷ []) rest ends.message.token ends.message.line) inside.runs
+                    (by_character inside.front inside.more c rest (at rules K before) ends.before ends.message inside.opens w.0 (leads-there inside) w.1 w.2 ends.parts h);
               }))
 
-      end-stands : (whole : List ℕ) → whole ≡ before → All (StandsBy whole) (all_handed (at_end s) (told_at_end standard rules K tt before))
+      end-stands : (whole : List ℕ) → whole ≡ base ++ before → All (StandsBy whole) (all_handed (at_end s) (told_at_end standard rules K tt before))
       end-stands whole same =
           subst (λ M. All (StandsBy whole) (all_handed here M))
           (sym (end-messages rules K before ∙ ap (λ line. on_line line (tokens_at_end rules (at rules K before).opened)) (sym (line-here K rules before))))
@@ -230,27 +241,27 @@ module _ (rules : Rules) (K : Start) (W : List ℕ → List ℕ → List ℕ →
           line : ℕ
           line = line_after (at rules K before).input []
 
-          parts : whole ≡ before ++ ([] ++ [])
-          parts = same ∙ sym (append-nil before)
+          parts : whole ≡ (base ++ before) ++ ([] ++ [])
+          parts = same ∙ sym (append-nil (base ++ before))
 
-          there : AreAt whole before [] [] parts AtEnd (at_end s)
-          there = record { from = known.to; to = known.to ∙ ap place_after (sym (append-nil before)) }
+          there : AreAt whole (base ++ before) [] [] parts AtEnd (at_end s)
+          there = record { from = known.to; to = known.to ∙ ap place_after (sym (append-nil (base ++ before))) }
 
           at_line : Told → Message
           at_line token = record { token = token; line = line }
 
           -- the end itself, which stands after what it cuts off
-          only-end : (t : Marks) (text run : List ℕ) → before ≡ text ++ run → t.text ≡ place_after text → AreAt whole before [] [] parts AtEnd t
+          only-end : (t : Marks) (text run : List ℕ) → base ++ before ≡ text ++ run → t.text ≡ place_after text → AreAt whole (base ++ before) [] [] parts AtEnd t
               → All (StandsBy whole) (all_handed t (at_line End ∷ []))
           only-end t text run front text_place at =
-              last-all whole before [] [] parts AtEnd t [] (at_line End) text run front text_place at keep_run-nothing (λ u same_text same_begun h. absurd (false≢true h))
+              last-all whole (base ++ before) [] [] parts AtEnd t [] (at_line End) text run front text_place at keep_run-nothing (λ u same_text same_begun h. absurd (false≢true h))
 
           by : EndTells (in_markup (at rules K before).opened) (tokens_at_end rules (at rules K before).opened)
               → All (StandsBy whole) (all_handed here (on_line line (tokens_at_end rules (at rules K before).opened)))
           by (inl text) =
               subst (λ tokens. All (StandsBy whole) (all_handed here (on_line line tokens))) (sym text.parts)
               (subst (λ M. All (StandsBy whole) (all_handed here M)) (sym (on_line-append line text.texts (End ∷ [])))
-              (last-all whole before [] [] parts AtEnd here (on_line line text.texts) (at_line End) known.text known.run known.parts known.text_place there (keep_run-on_line line text.texts text.keeps)
+              (last-all whole (base ++ before) [] [] parts AtEnd here (on_line line text.texts) (at_line End) known.text known.run known.parts known.text_place there (keep_run-on_line line text.texts text.keeps)
               (λ t same_text same_begun h. absurd (false≢true h))))
           by (inr markup) =
               let M : List Message = on_line line markup.errors in
@@ -259,43 +270,99 @@ module _ (rules : Rules) (K : Start) (W : List ℕ → List ℕ → List ℕ →
               (subst (λ N. All (StandsBy whole) (all_handed here N)) (append_assoc M (at_line markup.token ∷ []) (at_line End ∷ []) ∙ sym (on_line-append line markup.errors (markup.token ∷ End ∷ [])))
               (subst (All (StandsBy whole)) (sym (all_handed-append here cut (at_line End ∷ [])))
               (All-append (StandsBy whole) (all_handed here cut) (all_handed (marks_after_all here cut) (at_line End ∷ []))
-              (last-all whole before [] [] parts AtEnd here M (at_line markup.token) known.text known.run known.parts known.text_place there (keep_run-on_line line markup.errors markup.keeps)
+              (last-all whole (base ++ before) [] [] parts AtEnd here M (at_line markup.token) known.text known.run known.parts known.text_place there (keep_run-on_line line markup.errors markup.keeps)
               (λ t same_text same_begun h.
-              let inside : Inside rules K s before = known.inside (within-inside (at rules K before).opened markup.was_within) in
+              let inside : Inside rules K base s before = known.inside (within-inside (at rules K before).opened markup.was_within) in
               record {
                 text = inside.text;
                 run = inside.run;
                 more = inside.more;
-                front = inside.parts;
+                front = whole-front inside;
                 text_place = same_text ∙ inside.text_place;
                 begun = same_begun ∙ inside.begun;
                 written =
                     subst (λ item. W (inside.text ++ inside.run) item [] markup.token line) (sym (append-nil (less_than ∷ inside.more)))
-                    (by_end (inside.text ++ inside.run) inside.more (at rules K before) markup.errors markup.token inside.opens markup.was_within (leads-there inside) markup.parts h);
+                    (subst (λ l. W l (less_than ∷ inside.more) [] markup.token line) inside.runs
+                    (by_end inside.front inside.more (at rules K before) markup.errors markup.token inside.opens markup.was_within (leads-there inside) markup.parts h));
               }))
-              (after-cut (marks_after_all here cut) (at-all whole before [] [] parts AtEnd here cut there) (text-all here cut)))))
+              (after-cut (marks_after_all here cut) (at-all whole (base ++ before) [] [] parts AtEnd here cut there) (text-all here cut)))))
             where
-              after-cut : (t : Marks) → AreAt whole before [] [] parts AtEnd t → (t.text ≡ s.text) ⊎ (t.text ≡ s.to) → All (StandsBy whole) (all_handed t (at_line End ∷ []))
+              after-cut : (t : Marks) → AreAt whole (base ++ before) [] [] parts AtEnd t → (t.text ≡ s.text) ⊎ (t.text ≡ s.to) → All (StandsBy whole) (all_handed t (at_line End ∷ []))
               after-cut t at (inl same_text) = only-end t known.text known.run known.parts (same_text ∙ known.text_place) at
-              after-cut t at (inr same_to) = only-end t before [] (sym (append-nil before)) (same_to ∙ known.to) at
+              after-cut t at (inr same_to) = only-end t (base ++ before) [] (sym (append-nil (base ++ before))) (same_to ∙ known.to) at
 
-    -- all tokens of a text
-    all-stand_from : (s : Marks) (before : List ℕ) → Known rules K s before → (whole text : List ℕ) → whole ≡ before ++ text → All (StandsBy whole) (placed_from rules K s before text)
+    -- the tokens that the characters of a text tell, whatever follows it
+    all-stand_from : (s : Marks) (before : List ℕ) → Known rules K base s before → (whole text rest : List ℕ) → whole ≡ (base ++ before) ++ (text ++ rest)
+        → All (StandsBy whole) (placed_from rules K s before text)
     unfolding placed_from
-    all-stand_from s before known whole [] parts = end-stands s before known whole (parts ∙ append-nil before)
-    all-stand_from s before known whole (c ∷ text) parts =
+    all-stand_from s before known whole [] rest parts = All-nil (StandsBy whole)
+    all-stand_from s before known whole (c ∷ text) rest parts =
+        let one : (base ++ before) ++ (c ∷ (text ++ rest)) ≡ (base ++ (before ++ c ∷ [])) ++ (text ++ rest) =
+        sym (append_assoc (base ++ before) (c ∷ []) (text ++ rest)) ∙ ap (λ l. l ++ (text ++ rest)) (append_assoc base before (c ∷ [])) in
         All-append (StandsBy whole) (all_handed (at_character s c) (told_at rules K before c)) (placed_from rules K (marks_past rules K s before c) (before ++ c ∷ []) text)
-        (character-stands s before known whole c text parts)
-        (all-stand_from (marks_past rules K s before c) (before ++ c ∷ []) (known-next rules K s before c known) whole text (parts ∙ sym (append_assoc before (c ∷ []) text)))
+        (character-stands s before known whole c (text ++ rest) parts)
+        (all-stand_from (marks_past rules K s before c) (before ++ c ∷ []) (known-next rules K base s before c known) whole text rest (parts ∙ one))
 
-    pub all-stand : nothing_open K.opened ≡ true → (text : List ℕ) → All (StandsBy text) (placed_tokens rules K text)
-    all-stand clean text = all-stand_from no_marks [] (known-first rules K clean) text text refl
+    module _ (s : Marks) (begins : BeginsAfter base (record { start = K; marks = s })) where
+      abbrev B : Beginning
+      B = record { start = K; marks = s }
+
+      -- the tokens of a text after another one
+      pub all-stand_by : (before text : List ℕ) → All (StandsBy (base ++ (before ++ text))) (placed_by rules B before text)
+      all-stand_by before text =
+          all-stand_from (marks_of rules B before) before (known-of rules K base s begins before) (base ++ (before ++ text)) text []
+          (sym (append_assoc base before text) ∙ ap (λ l. (base ++ before) ++ l) (sym (append-nil text)))
+
+      -- and those that the end tells
+      pub end-stands_after : (text : List ℕ) → All (StandsBy (base ++ text)) (placed_at_end rules B text)
+      end-stands_after text = end-stands (marks_of rules B text) text (known-of rules K base s begins text) (base ++ text) refl
+
+-- ---- from where a reading begins
 
 -- a token stands between characters, whatever is said of markup
-between-stands : (rules : Rules) (K : Start) (whole : List ℕ) (p : Placed) → StandsBy rules K (λ front item rest token line. Unit {0}) whole p → StandsBetween whole p
-between-stands rules K whole p by = by.stands
+abbrev Anywhere : List ℕ → List ℕ → List ℕ → Told → ℕ → Type 0
+Anywhere front item rest token line = Unit {0}
+
+module _ (rules : Rules) (K : Start) (base : List ℕ) (s : Marks) (begins : BeginsAfter base (record { start = K; marks = s })) where
+  between-stands : (whole : List ℕ) (p : Placed) → StandsBy rules K base Anywhere whole p → StandsBetween whole p
+  between-stands whole p by = by.stands
+
+  -- those of a piece, between the characters of the text so far
+  pub piece-between : (before text : List ℕ) → All (StandsBetween (base ++ (before ++ text))) (placed_by rules (record { start = K; marks = s }) before text)
+  piece-between before text k d lt =
+      between-stands (base ++ (before ++ text)) _
+      (all-stand_by rules K base Anywhere (λ front more c rest P M m opens within there closes ends told markup. tt) (λ front more P errors token opens within there told markup. tt) s begins before text k d lt)
+
+  pub end-between : (text : List ℕ) → All (StandsBetween (base ++ text)) (placed_at_end rules (record { start = K; marks = s }) text)
+  end-between text k d lt =
+      between-stands (base ++ text) _
+      (end-stands_after rules K base Anywhere (λ front more c rest P M m opens within there closes ends told markup. tt) (λ front more P errors token opens within there told markup. tt) s begins text k d lt)
+
+-- ---- from the first byte on
+
+module _ (rules : Rules) (K : Start) (W : List ℕ → List ℕ → List ℕ → Told → ℕ → Type 0) (by_character : ByCharacter rules K [] W) (by_end : ByEnd rules K [] W)
+    (clean : nothing_open K.opened ≡ true) where
+  -- all tokens of a text
+  pub all-stand : (text : List ℕ) → All (StandsBy rules K [] W text) (placed_tokens rules K text)
+  all-stand text =
+      All-append (StandsBy rules K [] W text) (placed_by rules (at_first_byte K) [] text) (placed_at_end rules (at_first_byte K) text)
+      (all-stand_by rules K [] W by_character by_end no_marks (begins-first K clean) [] text)
+      (end-stands_after rules K [] W by_character by_end no_marks (begins-first K clean) text)
 
 pub all-between : (rules : Rules) (K : Start) (text : List ℕ) → nothing_open K.opened ≡ true → All (StandsBetween text) (placed_tokens rules K text)
-all-between rules K text clean k d lt =
-    between-stands rules K text _
-    (all-stand rules K (λ front item rest token line. Unit {0}) (λ front more c rest P M m opens within there closes ends told markup. tt) (λ front more P errors token opens within there told markup. tt) clean text k d lt)
+all-between rules K text clean =
+    All-append (StandsBetween text) (placed_by rules (at_first_byte K) [] text) (placed_at_end rules (at_first_byte K) text)
+    (piece-between rules K [] no_marks (begins-first K clean) [] text)
+    (end-between rules K [] no_marks (begins-first K clean) text)
+
+-- what stands between characters ends within the text
+pub ends-within : (whole : List ℕ) (p : Placed) → StandsBetween whole p → p.places.end ≤ place_after whole
+ends-within whole p stands =
+    let parts : whole ≡ (stands.before ++ (stands.run ++ stands.item)) ++ stands.rest =
+    stands.places.parts
+    ∙ ap (λ l. stands.before ++ l) (sym (append_assoc stands.run stands.item stands.rest))
+    ∙ sym (append_assoc stands.before (stands.run ++ stands.item) stands.rest) in
+    let total : place_after whole ≡ place_after (stands.before ++ (stands.run ++ stands.item)) + place_after stands.rest =
+    ap place_after parts ∙ place_after-append (stands.before ++ (stands.run ++ stands.item)) stands.rest in
+    let end = stands.places.end in
+    omega (arith, total, end)

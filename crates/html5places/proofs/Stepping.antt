@@ -1,15 +1,12 @@
 -- What messages make of the state of a sink that places tokens.
 use Rattle.std.proofs.Common.{◌≡◌, ℕ, List, [], ◌∷◌, ◌++◌, refl, ap, sym, ◌∙◌}
-use Rattle.std.proofs.lemmas.List.{append-nil, append_assoc}
+use Rattle.std.proofs.lemmas.List.{append_assoc}
 use Rattle.html5ever_interface.specs.Sink.{Message, stepped}
 use Rattle.html5ever_interface.specs.Token.{Told}
 use Rattle.html5ever_interface.specs.Token.Told.{Text}
 use Rattle.html5places.specs.Marks.{Marks, Placed, Placing, handler_after, marks_after, placed_step}
 use Rattle.html5places.specs.Placed.{all_handed, handed, handed_on, marks_after_all}
 use Rattle.html5places.specs.Readers.{IsPart}
-use Rattle.html5states.specs.Telling.{Stops}
-use Rattle.html5partial.specs.declared.error.TokenizerError.{TokenizerError}
-use Rattle.html5partial.specs.declared.error.TokenizerError.TheVariants.{Failed, Memory, Sink}
 
 module _ {S : Type 0} (step : S → Placed → S) where
   pub handed_on-append : (s : S) (a b : List Placed) → handed_on step s (a ++ b) ≡ handed_on step (handed_on step s a) b
@@ -47,29 +44,7 @@ all_handed-append s (m ∷ M) N =
     ∙ sym (append_assoc (handed s m.token m.line) (all_handed (marks_after s m.token) M) (all_handed (marks_after_all (marks_after s m.token) M) N))
 
 module _ {S : Type 0} (step : S → Placed → S) where
-  -- a beginning of the messages hands a beginning of the tokens on
-  part-within : (s : Placing S) (M before rest : List Message) (v : Placing S) → M ≡ before ++ rest → v ≡ stepped (placed_step step) s before
-      → IsPart step s.handler (all_handed s.marks M) v.handler
-  part-within s M before rest v parts state = record {
-    front = all_handed s.marks before;
-    back = all_handed (marks_after_all s.marks before) rest;
-    parts = ap (all_handed s.marks) parts ∙ all_handed-append s.marks before rest;
-    state = ap (λ (t : Placing S). t.handler) state ∙ stepped-handler step s before;
-  }
-
-  -- and so does each refusal
-  pub part-stopped : (e : TokenizerError) (s : Placing S) (M : List Message) (v : Placing S)
-      → Stops (placed_step step) (λ s told line. s) e s M v → IsPart step s.handler (all_handed s.marks M) v.handler
-  part-stopped Memory s M v stops = part-within s M stops.before stops.rest v stops.parts stops.state
-  part-stopped Sink s M v stops = part-within s M stops.before (stops.next ++ stops.rest) v stops.parts stops.state
-  part-stopped Failed s M v stops = absurd stops
-
-  -- all of them
-  pub part-all : (s : Placing S) (M : List Message) (v : Placing S) → v ≡ stepped (placed_step step) s M
-      → IsPart step s.handler (all_handed s.marks M) v.handler
-  part-all s M v state = part-within s M M [] v (sym (append-nil M)) state
-
-  -- before any of them
+  -- none of some tokens
   pub part-none : (s : S) (placed : List Placed) (t : S) → t ≡ s → IsPart step s placed t
   unfolding handed_on
   part-none s placed t same = record { front = []; back = placed; parts = refl; state = same }

@@ -11,15 +11,15 @@ use Rattle.html5reading.specs.Reading.{messages_so_far, start_after}
 use Rattle.html5reading.specs.Start.{Rules, Start, nothing_open}
 use Rattle.html5reading.proofs.ReadingLemmas.{told-append}
 use Rattle.markup5ever.specs.NamedReferences.{IsTable}
-use Rattle.html5places.specs.Marks.{Placed}
-use Rattle.html5places.specs.Placed.{placed_tokens, standard}
+use Rattle.html5places.specs.Marks.{Placed, no_marks}
+use Rattle.html5places.specs.Placed.{at_first_byte, placed_by, placed_tokens, standard}
 use Rattle.html5places.specs.Written.{IsWritten, Stands, start_of_item}
 use Rattle.html5places.specs.Written.IsItemOrEnd.{CutOff, Whole}
 use Rattle.html5places.proofs.MarkupCharacters.{led, tells}
-use Rattle.html5places.proofs.MarkupPlaces.{OpenItem, at, at-more}
+use Rattle.html5places.proofs.MarkupPlaces.{OpenItem, at, at-more, begins-first}
 use Rattle.html5places.proofs.OneItem.{CutItem, WholeItem, closed-item, open-item}
 use Rattle.html5places.proofs.Spanning.{Spans, item-ends, item-leads, open-within, spans-closed, spans-open}
-use Rattle.html5places.proofs.Standing.{ByCharacter, ByEnd, StandsBy, all-stand}
+use Rattle.html5places.proofs.Standing.{ByCharacter, ByEnd, StandsBy, all-stand, all-stand_by}
 
 module _ (rules : Rules) (table : IsTable rules.references) (K : Start) where
   -- what a character tells of an item that it ends
@@ -34,7 +34,7 @@ module _ (rules : Rules) (table : IsTable rules.references) (K : Start) where
       ∙ ap (λ l. N ++ l) told
       ∙ sym (append_assoc N M (m ∷ []))
 
-  by_character : ByCharacter rules K (IsWritten rules K)
+  by_character : ByCharacter rules K [] (IsWritten rules K)
   by_character front more c rest P M m opens within there closes ends told markup =
       let S : Start = start_of_item rules K front in
       let item : List ℕ = (less_than ∷ more) ++ c ∷ [] in
@@ -59,7 +59,7 @@ module _ (rules : Rules) (table : IsTable rules.references) (K : Start) where
         });
       }
 
-  by_end : ByEnd rules K (IsWritten rules K)
+  by_end : ByEnd rules K [] (IsWritten rules K)
   by_end front more P errors token opens within there told markup =
       let S : Start = start_of_item rules K front in
       let item : List ℕ = less_than ∷ more in
@@ -83,8 +83,14 @@ module _ (rules : Rules) (table : IsTable rules.references) (K : Start) where
         });
       }
 
-  stands : (whole : List ℕ) (p : Placed) → StandsBy rules K (IsWritten rules K) whole p → Stands rules K whole p
+  stands : (whole : List ℕ) (p : Placed) → StandsBy rules K [] (IsWritten rules K) whole p → Stands rules K whole p
   stands whole p by = record { stands = by.stands; written = by.written }
 
   pub all-stand_written : (text : List ℕ) → nothing_open K.opened ≡ true → All (Stands rules K text) (placed_tokens rules K text)
   all-stand_written text clean k d lt = stands text _ (all-stand rules K (IsWritten rules K) by_character by_end clean text k d lt)
+
+  -- those of a piece, in the text so far
+  pub piece-written : (before text : List ℕ) → nothing_open K.opened ≡ true
+      → All (Stands rules K (before ++ text)) (placed_by rules (at_first_byte K) before text)
+  piece-written before text clean k d lt =
+      stands (before ++ text) _ (all-stand_by rules K [] (IsWritten rules K) by_character by_end no_marks (begins-first K clean) before text k d lt)

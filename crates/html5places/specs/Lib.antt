@@ -6,3 +6,4 @@ pub mod Positions
 pub mod Cursor
 pub mod Readers
 pub mod Written
+pub mod Origins

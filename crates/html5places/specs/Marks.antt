@@ -57,8 +57,8 @@ marks_after s other = record s { run = []; text = s.to }
 -- ---- the sink
 
 -- what is kept of a token until it is handed on
-abbrev pub placed_by : {Z : Type 0} → PlacedToken Z → Placed
-placed_by p = record { run = string_bytes p.run; token = told_by p.token; line = p.line_number; places = p.places }
+abbrev pub placed_token : {Z : Type 0} → PlacedToken Z → Placed
+placed_token p = record { run = string_bytes p.run; token = told_by p.token; line = p.line_number; places = p.places }
 
 -- a sink that keeps tokens with their places: those that were not taken yet, and how often it found no memory
 pub record PlacingSink (X : Type 0) : Type 0 where

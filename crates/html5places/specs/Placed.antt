@@ -3,7 +3,8 @@
 -- The text is read from a start, and the standard's elements choose how the text after a tag is read. What a character tells stands at that
 -- character: a tag at its `>`, an error at the character that is wrong or that decides it. The token begins where its `<` stands. All that
 -- is told as text between two tokens is one run; it stands from where the first token ends up to where the second begins, as it is written.
-use Rattle.std.specs.Prelude.{ℕ, ◌+◌, ◌&&◌, Bool, true, false, List, [], ◌∷◌, ◌++◌, length, ◌==◌, encode_utf8, if◌then◌else◌}
+use Rattle.std.specs.Prelude.{ℕ, ◌+◌, ◌&&◌, not, Bool, true, false, List, [], ◌∷◌, ◌++◌, length, ◌==◌, encode_utf8, if◌then◌else◌}
+use Rattle.std.specs.List.{list_any}
 use Rattle.html5ever_interface.specs.Sink.{Means, Message}
 use Rattle.html5ever_interface.specs.Token.{Told}
 use Rattle.html5ever_interface.specs.Token.Told.{Error, Text}
@@ -57,7 +58,7 @@ abbrev pub begun_by : Open → Marks → Marks
 begun_by opened s = begun_where (is_after_less_than opened) s
 
 module _ (rules : Rules) (K : Start) where
-  -- what the character c tells, after the text before it, and what the end does
+  -- what the character c tells, after the text before it
   abbrev pub told_at : List ℕ → ℕ → List Message
   told_at before c = told_beyond standard rules K tt before (c ∷ [])
 
@@ -66,26 +67,59 @@ module _ (rules : Rules) (K : Start) where
   marks_past s before c =
       begun_by (start_after standard rules K tt (before ++ c ∷ [])).opened (marks_after_all (at_character s c) (told_at before c))
 
-  -- what the characters of a text and its end tell, with the text before it
+  -- the marks after the characters of a text, with the text and the marks before it
+  unfoldable pub marks_from : Marks → List ℕ → List ℕ → Marks
+  marks_from s before [] = s
+  marks_from s before (c ∷ text) = marks_from (marks_past s before c) (before ++ c ∷ []) text
+
+  -- the tokens that these characters tell, and those that the end tells
   unfoldable pub placed_from : Marks → List ℕ → List ℕ → List Placed
-  placed_from s before [] = all_handed (at_end s) (told_at_end standard rules K tt before)
+  placed_from s before [] = []
   placed_from s before (c ∷ text) =
       all_handed (at_character s c) (told_at before c) ++ placed_from (marks_past s before c) (before ++ c ∷ []) text
 
-  -- all tokens of a text but its texts, each with the run before it and where they stand
-  abbrev pub placed_tokens : List ℕ → List Placed
-  placed_tokens text = placed_from no_marks [] text
+  abbrev pub end_from : Marks → List ℕ → List Placed
+  end_from s before = all_handed (at_end s) (told_at_end standard rules K tt before)
+
+-- where a reading begins: how the text is read on from there, and the marks there
+pub record Beginning : Type 0 where
+  pub start : Start
+  pub marks : Marks
+
+-- at the first byte of a text
+abbrev pub at_first_byte : Start → Beginning
+at_first_byte K = record { start = K; marks = no_marks }
+
+module _ (rules : Rules) (B : Beginning) where
+  -- the marks after a text
+  abbrev pub marks_of : List ℕ → Marks
+  marks_of text = marks_from rules B.start B.marks [] text
+
+  -- the tokens that the characters of a text tell, after the text before it, and those that the end tells after a text
+  abbrev pub placed_by : List ℕ → List ℕ → List Placed
+  placed_by before text = placed_from rules B.start (marks_of before) before text
+
+  abbrev pub placed_at_end : List ℕ → List Placed
+  placed_at_end text = end_from rules B.start (marks_of text) text
+
+-- all tokens of a text but its texts, each with the run before it and where they stand
+abbrev pub placed_tokens : Rules → Start → List ℕ → List Placed
+placed_tokens rules K text = placed_by rules (at_first_byte K) [] text ++ placed_at_end rules (at_first_byte K) text
 
 -- a handler's state after it was handed these
 unfoldable pub handed_on : {S : Type 0} → (S → Placed → S) → S → List Placed → S
 handed_on step s [] = s
 handed_on step s (p ∷ placed) = handed_on step (step s p) placed
 
--- ---- how places lie
-
 abbrev pub is_error : Told → Bool
 is_error (Error message) = true
 is_error other = false
+
+-- whether a token other than an error is among these
+abbrev pub has_token : List Placed → Bool
+has_token placed = list_any (λ p. not (is_error p.token)) placed
+
+-- ---- how places lie
 
 -- whether the run before each token but an error begins where the last such token ended, and that before the first one at this byte
 unfoldable pub follow : ℕ → List Placed → Bool

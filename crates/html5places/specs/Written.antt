@@ -14,7 +14,7 @@ use Rattle.html5reading.specs.Start.{Rules, Start, nothing_open}
 use Rattle.html5places.specs.declared.places.Places.{Places}
 use Rattle.html5places.specs.Markup.{start_at_less_than}
 use Rattle.html5places.specs.Marks.{Placed, is_markup}
-use Rattle.html5places.specs.Placed.{standard}
+use Rattle.html5places.specs.Placed.{Beginning, standard}
 
 -- the place after a text: how many bytes its characters take
 abbrev pub place_after : List ℕ → ℕ
@@ -41,6 +41,16 @@ pub record StandsBetween (whole : List ℕ) (p : Placed) : Type 0 where
   pub rest : List ℕ
   pub places : AreBetween whole before run item rest p.places
   pub other : is_markup p.token ≡ false → IsCharacterOrEnd item rest
+
+-- A reading begins after this text: nothing is open there, and its marks count the bytes of the text. The run that no token has ended
+-- yet begins within it.
+pub record BeginsAfter (whole : List ℕ) (B : Beginning) : Type 0 where
+  pub clean : nothing_open B.start.opened ≡ true
+  pub to : B.marks.to ≡ place_after whole
+  pub text : List ℕ
+  pub run : List ℕ
+  pub parts : whole ≡ text ++ run
+  pub text_place : B.marks.text ≡ place_after text
 
 module _ (rules : Rules) (K : Start) where
   -- The start of an item that begins with `<`, after this text. The text may end with what is not decided, as `&lt` or `<`. The `<` ends

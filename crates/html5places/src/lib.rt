@@ -10,23 +10,40 @@
 //! last. At the end of the text they may be an unfinished item, whose token the end tells. The places of each token are in
 //! order and lie between characters of the text (`tokens_are_items`, with specs/Written).
 //!
+//! `PlaceReader` does the same for a text that arrives in pieces. A piece tells what its characters tell after all text
+//! before it (`placed_by`), and places count on. The tokens of the pieces and of the end are those of the whole text
+//! (`pieces_tell_the_text`), and what was handed over stands between characters of the text so far
+//! (`pieces_stand_in_the_text`). `read_to_token` stops after a token: there a caller may put a text in, as
+//! `document.write` does, or set a state, as a tree builder asks. `Origins` says where the bytes of such a text come from
+//! (`bytes_come_from_their_origins`).
+//!
 //! `position_at` gives the line and the columns of a place (specs/Positions), and `Positions` those of many in one pass.
 //!
-//! The text is at hand as a whole, and the tokenizer is fed its characters one by one, which takes it about three times as
-//! long as by runs (bench/RESULTS.md, `--cut 1`).
+//! The tokenizer is fed a text's characters one by one, which takes it about three times as long as by runs
+//! (bench/RESULTS.md, `--cut 1`).
 #![tactic(auto)]
 
+mod error;
 mod handler;
 mod laws;
+mod origins;
 mod places;
 mod places_in_order;
 mod placing;
 mod positions;
+mod reader;
 mod reading;
+mod whole;
 
+pub use crate::error::PlaceError;
 pub use crate::handler::PlacedHandler;
-pub use crate::laws::{places_follow, tokens_are_items};
+pub use crate::laws::{
+    bytes_come_from_their_origins, pieces_stand_in_the_text, pieces_tell_the_text, places_follow,
+    tokens_are_items,
+};
+pub use crate::origins::{Origin, Origins, Stretch};
 pub use crate::places::Places;
 pub use crate::places_in_order::Positions;
 pub use crate::positions::{Position, position_at};
-pub use crate::reading::read_places;
+pub use crate::reader::{DetachedPlaceReader, PlaceReader};
+pub use crate::whole::read_places;

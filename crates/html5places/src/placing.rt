@@ -2,7 +2,7 @@
 ghost use Rattle.std.specs.Prelude.{◌≡◌, ◌++◌, ◌∷◌, [], true, map, string_bytes, IfOk, OnErr, OnOk};
 ghost use Rattle.html5ever_interface.specs.Token.{told_by, reply_of};
 ghost use Rattle.html5ever_interface.specs.Token.Reply.{KeepOn};
-ghost use Rattle.html5places.specs.Marks.{kept, placed_by, placed_of, placed_step, places_of, placing_of, waits};
+ghost use Rattle.html5places.specs.Marks.{kept, placed_token, placed_of, placed_step, places_of, placing_of, waits};
 ghost use Rattle.html5sinks.specs.Replies.{standard_reply};
 ghost use Rattle.html5sinks.specs.Runs.{reply_where_tag};
 
@@ -57,12 +57,12 @@ pub struct PlacedTokens<A: Allocator = Global> {
 
 impl<A: Allocator> Model for PlacedTokens<A> {
     ghost use Rattle.std.specs.Prelude.{List, map, string_bytes};
-    ghost use Rattle.html5places.specs.Marks.{Placed, PlacingSink, placed_by};
+    ghost use Rattle.html5places.specs.Marks.{Placed, PlacingSink, placed_token};
 
     ghost Value = { PlacingSink (List Placed) };
 
     ghost view = { λ s. record {
-      handler = map placed_by s.tokens.items;
+      handler = map placed_token s.tokens.items;
       marks = record { run = string_bytes s.run; text = s.text; begun = s.begun; from = s.from; to = s.to };
       faults = s.faults.total;
     } };
@@ -117,7 +117,7 @@ impl<A: Allocator + Copy> PlacedTokens<A> {
 
     /// Takes the tokens that wait.
     pub fn take_tokens(&mut self) -> Vec<PlacedToken<A>, A>
-        ensures taken { map placed_by result.items ≡ self.old.handler }
+        ensures taken { map placed_token result.items ≡ self.old.handler }
         ensures left { self.new ≡ record self.old { handler = [] } }
     {
         mem::replace(&mut self.tokens, Vec::new(self.alloc))

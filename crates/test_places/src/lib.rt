@@ -2,6 +2,10 @@
 #![tactic(auto)]
 
 #[cfg(test)]
+mod origins;
+#[cfg(test)]
+mod pieces;
+#[cfg(test)]
 mod placed;
 #[cfg(test)]
 mod positions;

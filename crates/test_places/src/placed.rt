@@ -7,9 +7,9 @@ use std::process::Abort;
 
 // Keeps what stands in each token's place, after the text in the place of the run before it.
 #[derive(Drop)]
-struct Cuts<'s, A: Allocator = Global> {
-    source: &'s str,
-    kept: String<A>,
+pub struct Cuts<'s, A: Allocator = Global> {
+    pub source: &'s str,
+    pub kept: String<A>,
 }
 
 fn mark_of<A: Allocator>(token: &Token<A>) -> &'static str {
@@ -26,6 +26,14 @@ fn mark_of<A: Allocator>(token: &Token<A>) -> &'static str {
 }
 
 impl<'s, A: Allocator> Cuts<'s, A> {
+    // Those of a text's tokens. None was kept yet.
+    pub fn new(alloc: A, source: &'s str) -> Cuts<'s, A> {
+        Cuts {
+            source,
+            kept: String::new(alloc),
+        }
+    }
+
     // The run's text, then the token's, each within bars.
     fn keep(&mut self, mark: &str, places: Places) -> Result<(), AllocError> {
         let run = self.source.get(places.text..places.begin);
@@ -61,12 +69,9 @@ impl<'s, A: Allocator> PlacedHandler<Token<A>> for Cuts<'s, A> {
 }
 
 // Whether what stands in the places of a text's tokens is this.
-fn stand_so<A: Allocator + Copy>(rt: &impl Abort, alloc: A, source: &str, cuts: &str) -> bool {
+pub fn stand_so<A: Allocator + Copy>(rt: &impl Abort, alloc: A, source: &str, cuts: &str) -> bool {
     let references = standard_references(alloc).expect(rt, "memory");
-    let mut handler = Cuts {
-        source,
-        kept: String::new(alloc),
-    };
+    let mut handler = Cuts::new(alloc, source);
     let opts = TokenizerOpts::default();
     let read = read_places(alloc, &references, opts, source, &mut handler);
     read.is_ok() && handler.kept.as_str() == cuts

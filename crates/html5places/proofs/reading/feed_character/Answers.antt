@@ -6,10 +6,10 @@ use Rattle.html5places.proofs.OneCharacter.{character-read, sink_means}
 use Rattle.html5places.proofs.reading.feed_character.Goals as goal
 
 pub returns-clause-reads : goal.returns-clause-reads
-returns-clause-reads g c = λ K before after.
+returns-clause-reads g c =
     let place = ap (λ n. n) c.place_of.ensures in
     let text = c.in-Ok.ensures.ok.text ∙ ap (λ l. l ++ chars c.encode_utf8.result.now) c.requires.nothing_waits ∙ ap chars c.encode_utf8.ensures.value ∙ chars-one c.args.c c.ranges.c.0 in
-    character-read c.args.tokenizer.now c.stand_at.new.tokenizer c.feed_until_done.new.tokenizer c.begin_markup.new.tokenizer K before c.args.c
+    character-read c.args.tokenizer.now c.stand_at.new.tokenizer c.feed_until_done.new.tokenizer c.begin_markup.new.tokenizer c.args.c
     (record {
       position = ap (λ t. t.position) c.stand_at.ensures;
       rules = ap (λ t. t.rules) c.stand_at.ensures;
@@ -20,10 +20,9 @@ returns-clause-reads g c = λ K before after.
           ap (λ t. t.sink.marks) c.stand_at.ensures
           ∙ ap (λ n. record c.args.tokenizer.now.sink.marks { from = c.args.tokenizer.now.sink.marks.to; to = n }) (rw (place, c.len_utf8.ensures.len) refl);
     })
-    c.in_ok-feed_until_done.ensures.rules
-    (subst (λ l. ReadsOn sink_means c.stand_at.new.tokenizer c.feed_until_done.new.tokenizer l) text c.in_ok-feed_until_done.ensures.reads)
+    c.in-Ok-feed_until_done.ensures.rules
+    (subst (λ l. ReadsOn sink_means c.stand_at.new.tokenizer c.feed_until_done.new.tokenizer l) text c.in-Ok-feed_until_done.ensures.reads)
     (ap (λ t. t.position) c.begin_markup.ensures)
     (ap (λ t. t.rules) c.begin_markup.ensures)
     (ap (λ t. t.sink.handler) c.begin_markup.ensures)
     (ap (λ t. t.sink.marks) c.begin_markup.ensures)
-    after

@@ -1,4 +1,4 @@
-use Rattle.std.proofs.Common.{ap, sym, ◌∙◌, chars, arith, false, ◌≤◌}
+use Rattle.std.proofs.Common.{ap, ◌∙◌, chars, arith, false}
 use Rattle.html5places.proofs.Advancing.{further}
 use Rattle.html5places.specs.Cursor.{cursor_at, onward}
 use Rattle.html5places.specs.Positions.{first_position}
