@@ -1,0 +1,11 @@
+//! Worked cases of tokens that are written back.
+#![tactic(auto)]
+
+#[cfg(test)]
+mod memory;
+#[cfg(test)]
+mod raw_texts;
+#[cfg(test)]
+mod refusals;
+#[cfg(test)]
+mod written;
