@@ -1,0 +1,11 @@
+pub mod Ends
+pub mod Bytes
+pub mod Cutting
+pub mod Steps
+pub mod Lying
+pub mod Boundaries
+pub mod Pieces
+pub mod Reading
+pub mod Sources
+pub mod WholePages
+pub mod WholeTexts

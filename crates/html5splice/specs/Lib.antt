@@ -1,0 +1,4 @@
+pub mod Cuts
+pub mod Edits
+pub mod Splicing
+pub mod Pages
