@@ -24,7 +24,7 @@ import measure
 PROGRAM = pathlib.Path(__file__).resolve().parent.parent / "crates/firnuubal/out/firnuubal"
 NO_TREE = "clean without tree"
 # What does the same work over html5ever: a program of beside/ and its words.
-COMMANDS = {"links": ["pages", "links"], "text": ["pages", "text"], NO_TREE: ["clean"], "clean": None, "tokens": None, "check": None}
+COMMANDS = {"links": ["pages", "links"], "text": ["pages", "text"], NO_TREE: ["clean"], "clean": None, "tokens": None, "check": None, "rewrite": None}
 
 
 def words_of(name, folder):

@@ -64,9 +64,14 @@ PARTS = [
     (
         "<p id=x>a &amp; b <a href=y>c</a><!--d-->",
         130_000,
-        {"links": "1 y\n", "text": "a & b c", "clean": '<p>a &#38; b <a href="y">c</a></p>'},
+        {
+            "links": "1 y\n",
+            "text": "a & b c",
+            "clean": '<p>a &#38; b <a href="y">c</a></p>',
+            "rewrite": "<p id=x>a &amp; b <a href=y>c</a><!--d-->",
+        },
     ),
-    ("abcdefghij", 100_000, {"links": "", "text": "abcdefghij", "clean": "abcdefghij", "check": ""}),
+    ("abcdefghij", 100_000, {"links": "", "text": "abcdefghij", "clean": "abcdefghij", "check": "", "rewrite": "abcdefghij"}),
 ]
 
 
@@ -164,7 +169,7 @@ def of_itself(folder):
     """What a program says of itself, whatever else its words say."""
     firnuubal = "firnuubal"
     cases = [([firnuubal, "--help"], HELP["help"]), ([firnuubal, "--version", "-"], VERSION)]
-    for command in ["tokens", "links", "text", "clean", "check"]:
+    for command in ["tokens", "links", "text", "clean", "check", "rewrite"]:
         cases += [([firnuubal, command, "--help"], HELP[command]), ([firnuubal, command, "--version"], VERSION)]
     cases += [([firnuubal, "links", "--version", word], VERSION) for word in ("missing", "--wrong")]
     cases += [([firnuubal, "clean", "--print-policy"], POLICY)]
@@ -216,7 +221,7 @@ def of_long_pages(folder):
 
 def to_a_full_device(folder):
     """An output that takes nothing."""
-    for command, name in [*((command, "page") for command in ["tokens", "links", "text", "clean"]), ("check", "wrong")]:
+    for command, name in [*((command, "page") for command in ["tokens", "links", "text", "clean", "rewrite"]), ("check", "wrong")]:
         with open("/dev/full", "wb") as full:
             ran = run(folder, ["firnuubal", command, name], stdout=full)
         told = "firnuubal: output: No space left on device (os error 28)\n"
@@ -227,7 +232,7 @@ def to_a_full_device(folder):
 def to_a_closed_pipe(folder):
     """An output whose reader goes away while 35 MB are still to come."""
     (folder / "long").write_bytes(b"<a href=x>y</a>\n" * (35 * MB // 16))
-    for command in ["tokens", "links", "text", "clean"]:
+    for command in ["tokens", "links", "text", "clean", "rewrite"]:
         with subprocess.Popen(
             [PROGRAMS["firnuubal"], command, "long"], cwd=folder, stdout=subprocess.PIPE, stderr=subprocess.PIPE
         ) as process:
@@ -272,7 +277,7 @@ def with_progress(folder):
     """Megabytes and a rate on a terminal, where the system has terminals, taken away at the end; and nothing on another file."""
     pieces = [b"a" * 150_000, b"b" * 1000]
     lines = rb"(\r0\.[01] MB, [0-9]+ MB/s\x1b\[K)*\r0\.1 MB, [0-9]+ MB/s\x1b\[K\r\x1b\[K"
-    for command in ["tokens", "links", "text", "clean", "check"]:
+    for command in ["tokens", "links", "text", "clean", "check", "rewrite"]:
         words = [command, "--progress"]
         alone = run(folder, ["firnuubal", command], input=b"".join(pieces))
         ran = run(folder, ["firnuubal", *words], input=b"".join(pieces))

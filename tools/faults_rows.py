@@ -126,6 +126,10 @@ def filters():
     found += "-:1:13: error: unclosed-element: dvi\n"
     page = b"<p>&own;</i><dvi id=x>"
     yield by_own(["check"], page, found, *of_page(found), status=1)
+    kept = '<P\n>&own;<a href="http://a/b/c" x="1">z</A>'
+    page = b"<P\n>&own;<A HREF=c y>z</A><script>d"
+    words = ["rewrite", "--absolute", "http://a/b/", "--set", "a.x=1", "--remove", "a.y", "--drop", "script"]
+    yield by_own(words, page, kept, NO_SETTINGS, End(said("settings", "--absolute: out of memory"), 2), *of_page(kept))
 
 
 def messages():

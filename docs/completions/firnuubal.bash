@@ -22,14 +22,19 @@ _firnuubal() {
     check:--entities) words="" ;;
     check:--format) words="lines json" ;;
     check:--template) words="" ;;
+    rewrite:--encoding) words="" ;;
+    rewrite:--entities) words="" ;;
+    rewrite:--drop) words="" ;;
+    rewrite:--absolute) words="" ;;
     *)
-        ((COMP_CWORD == 1)) && words="tokens links text clean check --help --version"
+        ((COMP_CWORD == 1)) && words="tokens links text clean check rewrite --help --version"
         [[ $word == -* ]] && case ${COMP_WORDS[1]} in
         tokens) words="--encoding --fatal --entities --progress --format --with-filename --no-filename --help --version" ;;
         links) words="--encoding --fatal --entities --progress --format --with-filename --no-filename --base --help --version" ;;
         text) words="--encoding --fatal --entities --progress --help --version" ;;
         clean) words="--policy --print-policy --encoding --fatal --entities --progress --help --version" ;;
         check) words="--encoding --fatal --entities --progress --format --template --help --version" ;;
+        rewrite) words="--encoding --fatal --entities --progress --set --remove --drop --absolute --noopener --help --version" ;;
         esac
         ;;
     esac

@@ -10,9 +10,11 @@ use Rattle.html5cleaner.specs.Cleaning.{Standing, page_messages, policy_by, prin
 use Rattle.html5ever_interface.specs.Sink.{Message}
 use Rattle.html5cleaner.specs.declared.settings.PolicySettings.{PolicySettings}
 use Rattle.html5commands.specs.declared.command.Command.{Command}
-use Rattle.html5commands.specs.declared.command.Command.TheVariants.{Check, Clean, Links, Text, Tokens}
+use Rattle.html5commands.specs.declared.command.Command.TheVariants.{Check, Clean, Links, Rewrite, Text, Tokens}
 use Rattle.html5commands.specs.declared.format.Format.{Format}
 use Rattle.html5commands.specs.declared.format.Format.TheVariants.{Json, Lines, Sarif}
+use Rattle.html5edit.specs.Asked.{edit_settings_said}
+use Rattle.html5edit.specs.Pages.{edit_made}
 use Rattle.html5extract.specs.Asked.{link_settings_said, token_settings_said}
 use Rattle.html5extract.specs.Bases.{bases_asked}
 use Rattle.html5extract.specs.Makings.{links_made, text_made, tokens_made}
@@ -34,6 +36,7 @@ command_of word =
     else if bytes_eq word (codes "text") then Some Text
     else if bytes_eq word (codes "clean") then Some Clean
     else if bytes_eq word (codes "check") then Some Check
+    else if bytes_eq word (codes "rewrite") then Some Rewrite
     else None
 
 -- ---- the options
@@ -62,11 +65,16 @@ format_options =
 abbrev pub link_options : List KnownOption
 link_options = format_options ++ before_word (codes "--base") ∷ []
 
+-- and of those that say what is changed
+abbrev pub edit_options : List KnownOption
+edit_options = before_word (codes "--set") ∷ before_word (codes "--remove") ∷ before_word (codes "--drop") ∷ before_word (codes "--absolute") ∷ flag (codes "--noopener") ∷ []
+
 unfoldable pub options_of : Command → List KnownOption
 options_of Tokens = format_options
 options_of Links = link_options
 options_of Text = reading_options
 options_of Clean = reading_options ++ before_word (codes "--policy") ∷ flag (codes "--print-policy") ∷ []
+options_of Rewrite = reading_options ++ edit_options
 options_of Check = reading_options ++ before_word (codes "--format") ∷ before_word (codes "--template") ∷ []
 
 -- ---- the words
@@ -132,6 +140,7 @@ has_formats Links = true
 has_formats Text = false
 has_formats Clean = false
 has_formats Check = true
+has_formats Rewrite = false
 
 -- and of those such that do as a log of SARIF, too
 abbrev pub has_logs : Command → Bool
@@ -172,6 +181,12 @@ pub record NamesNoTemplate (asked : Asked) : Type 0 where
 abbrev pub settings_by : Option (List ℕ) → Option PolicySettings
 settings_by text = option_map (λ policy. record { policy = policy }) (policy_by text)
 
+-- they ask for no text and none is wrong, but what they say is no change of pages, or no URL
+pub record NamesNoChange (asked : Asked) : Type 0 where
+  pub no_text : AsksNoText asked
+  pub no_wrong : IsNone asked.wrong
+  pub unknown : edit_settings_said asked None ≡ None
+
 -- ---- the files of settings, and what words and such a file's text say
 
 abbrev pub no_file : Asked → Option (List ℕ)
@@ -207,6 +222,7 @@ PrintsBy Links asked unread left written found = InFormat (format_asked false as
     (PrintsAsked json_links_made no_file link_settings_said asked unread left written found) ⊥
 PrintsBy Text asked unread left written found = PrintsAsked text_made no_file no_settings asked unread left written found
 PrintsBy Clean asked unread left written found = PrintsAsked clean_made settings_asked policy_settings asked unread left written found
+PrintsBy Rewrite asked unread left written found = PrintsAsked edit_made no_file edit_settings_said asked unread left written found
 PrintsBy Check asked unread left written found = InFormat (format_asked true asked)
     (PrintsAsked check_made_lines no_file check_settings_said asked unread left written found)
     (PrintsAsked check_made_json no_file check_settings_said asked unread left written found)

@@ -5,7 +5,7 @@ ghost use Rattle.html5policy.specs.Standard.{standard_policy};
 ghost use Rattle.html5policy.specs.Text.{policy_said};
 ghost use Rattle.html5programs.specs.Words.{known_options};
 
-use crate::help::{CHECK, CLEAN, LINKS, TEXT, TOKENS};
+use crate::help::{CHECK, CLEAN, LINKS, REWRITE, TEXT, TOKENS};
 use crate::policy::policy_text;
 use html5programs::{Choice, Program};
 
@@ -17,6 +17,7 @@ pub enum Command {
     Text,
     Clean,
     Check,
+    Rewrite,
 }
 
 const HELP: Choice<'static> = Choice {
@@ -89,6 +90,31 @@ const TEMPLATE: Choice<'static> = Choice {
     takes_word: true,
 };
 
+const SET: Choice<'static> = Choice {
+    name: "--set",
+    takes_word: true,
+};
+
+const REMOVE: Choice<'static> = Choice {
+    name: "--remove",
+    takes_word: true,
+};
+
+const DROP: Choice<'static> = Choice {
+    name: "--drop",
+    takes_word: true,
+};
+
+const ABSOLUTE: Choice<'static> = Choice {
+    name: "--absolute",
+    takes_word: true,
+};
+
+const NOOPENER: Choice<'static> = Choice {
+    name: "--noopener",
+    takes_word: false,
+};
+
 const PRINT_POLICY: Choice<'static> = Choice {
     name: "--print-policy",
     takes_word: false,
@@ -140,6 +166,10 @@ static CHECKING: [Choice<'static>; 8] = [
     HELP, VERSION, ENCODING, FATAL, ENTITIES, PROGRESS, FORMAT, TEMPLATE,
 ];
 
+static REWRITING: [Choice<'static>; 11] = [
+    HELP, VERSION, ENCODING, FATAL, ENTITIES, PROGRESS, SET, REMOVE, DROP, ABSOLUTE, NOOPENER,
+];
+
 /// The command of this name.
 #[tactic(auto, unfolding(crate::specs::Commands::command_of))]
 pub fn command_of(word: &str) -> Option<Command>
@@ -151,6 +181,7 @@ pub fn command_of(word: &str) -> Option<Command>
         "text" => Some(Command::Text),
         "clean" => Some(Command::Clean),
         "check" => Some(Command::Check),
+        "rewrite" => Some(Command::Rewrite),
         _ => None,
     }
 }
@@ -166,6 +197,7 @@ fn choices_of(command: Command) -> &'static [Choice<'static>]
         Command::Text => READING.as_slice(),
         Command::Clean => CLEANING.as_slice(),
         Command::Check => CHECKING.as_slice(),
+        Command::Rewrite => REWRITING.as_slice(),
     }
 }
 
@@ -177,6 +209,7 @@ fn help_of(command: Command) -> &'static str {
         Command::Text => TEXT,
         Command::Clean => CLEAN,
         Command::Check => CHECK,
+        Command::Rewrite => REWRITE,
     }
 }
 

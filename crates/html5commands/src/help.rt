@@ -10,6 +10,7 @@ Commands:
   text    the text, without scripts and styles
   clean   the pages, with only allowed elements and attributes in them
   check   what is wrong in the pages or templates, a line each, with lines and columns
+  rewrite the pages with attributes set or removed, elements dropped, or addresses made absolute
 
 Without a FILE, or where it is -, standard input is read. After -- all words are files.
 'firnuubal COMMAND --help' says more of a command.
@@ -18,8 +19,8 @@ Without a FILE, or where it is -, standard input is read. After -- all words are
 
 The status is 0 where all was done, or nobody reads the output any more; 1 where something could
 not be read or printed, and each such file is named, or where check found something; 2 where words,
-the label of an encoding, the name of a format or of a template language, the URL of pages, or a
-file that they name for entities or a policy, are wrong.
+the label of an encoding, the name of a format or of a template language, the URL of pages, what is
+changed of them, or a file that they name for entities or a policy, are wrong.
 ";
 
 // How a command is used that reads pages: what it does, its own options that stand first, those of each command, and
@@ -195,6 +196,37 @@ is 1 where something was found.
                    {% %}, {# #}), mustache ({{ }}, {{{ }}}) or erb (<% %>). Elements that branches
                    of a construct open or close are counted as they stand
                    Example: firnuubal check --template jinja page.html
+"
+    ]
+);
+
+/// How `rewrite` is used.
+pub const REWRITE: &str = reading_help!(
+    "rewrite",
+    "usage: firnuubal rewrite [OPTION...] [FILE...]
+Prints HTML pages with attributes set or removed, elements dropped, or addresses made absolute.
+Tags that are changed are written anew, with their attributes in double quotes. All else stays as
+it is written, to the byte, comments, scripts and faults too. A page is printed as it arrives.
+  Example: firnuubal rewrite --drop script page.html
+",
+    [],
+    [
+        "  --set ELEMENT.ATTRIBUTE=VALUE
+                   an attribute of each start tag of the element, in place of one of that name
+                   Example: firnuubal rewrite --set a.rel=nofollow page.html
+  --remove ELEMENT.ATTRIBUTE
+                   the attribute is removed from each start tag of the element
+                   Example: firnuubal rewrite --remove a.onclick page.html
+  --drop ELEMENT   the element is dropped with what stands in it, up to its end tag, or where that
+                   is missing to the end of the page
+                   Example: firnuubal rewrite --drop script --drop style page.html
+  --absolute URL   the URL of the pages: the href of a, area and link, and the src of img, script and
+                   iframe, become the URLs to which they lead from there, or from the first
+                   <base href> of the page, once that was read. One that leads to none stays,
+                   and an empty one
+                   Example: firnuubal rewrite --absolute https://a.example/b/ page.html
+  --noopener       each a, area and form with a target has noopener among the words of its rel
+                   Example: firnuubal rewrite --noopener page.html
 "
     ]
 );

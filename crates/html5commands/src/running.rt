@@ -1,6 +1,6 @@
 //! A run of the program, by the words after its name.
 ghost use Rattle.std.specs.Prelude.{◌≡◌, ◌⊎◌, ◌∷◌, [], false, true, Contains, IfSome, IsNone, Ok, codes, map, string_bytes};
-ghost use Rattle.html5commands.specs.Commands.{IsUnknownWord, NamesNoBase, NamesNoFormat, NamesNoTemplate, NamesNothing, PrintsBy, asked_of_command, command_named, has_formats, has_logs, options_of, program_name};
+ghost use Rattle.html5commands.specs.Commands.{IsUnknownWord, NamesNoBase, NamesNoChange, NamesNoFormat, NamesNoTemplate, NamesNothing, PrintsBy, asked_of_command, command_named, has_formats, has_logs, options_of, program_name};
 ghost use Rattle.html5policy.specs.Standard.{standard_policy};
 ghost use Rattle.html5policy.specs.Text.{policy_said};
 ghost use Rattle.html5programs.specs.Ending.{AsksNoText, AsksSettings, AsksVersion, HasWrongWord, NamesNoEncoding, status_of};
@@ -13,6 +13,7 @@ use crate::help::HELP;
 use devices::{Fault, Logged, Target, WriteTarget, given_words};
 use html5check::{Check, Lines};
 use html5cleaner::CleanPrinter;
+use html5edit::EditPages;
 use html5extract::links::Links;
 use html5extract::page_text::PageText;
 use html5extract::token_lines::TokenLines;
@@ -30,15 +31,17 @@ use std::rt::Env;
 
 const NAME: &str = "firnuubal";
 
-const NO_COMMAND: &str = "a command is missing: tokens, links, text, clean or check; try --help";
+const NO_COMMAND: &str =
+    "a command is missing: tokens, links, text, clean, check or rewrite; try --help";
 
 // What may stand in front.
-const NAMES: [&str; 7] = [
+const NAMES: [&str; 8] = [
     "tokens",
     "links",
     "text",
     "clean",
     "check",
+    "rewrite",
     "--help",
     "--version",
 ];
@@ -68,6 +71,8 @@ fn by_command<R: Files + Alloc<A = Global> + Meters, I: Read, O: Write + Drop, E
     ensures format { has_formats command ≡ true → NamesNoFormat (has_logs command) (words_asked (options_of command) (map string_bytes words.now))
         → ((result.1 ≡ Ending.WrongValue) ⊎ (result.1 ≡ Ending.NoMemory)) × (stdin.new ≡ stdin.old) × (result.0.taken ≡ []) }
     ensures base { command ≡ Command.Links → NamesNoBase (words_asked (options_of command) (map string_bytes words.now))
+        → ((status_of result.1 ≡ 2) ⊎ (result.1 ≡ Ending.NoMemory)) × (stdin.new ≡ stdin.old) × (result.0.taken ≡ []) }
+    ensures changes { command ≡ Command.Rewrite → NamesNoChange (words_asked (options_of command) (map string_bytes words.now))
         → ((status_of result.1 ≡ 2) ⊎ (result.1 ≡ Ending.NoMemory)) × (stdin.new ≡ stdin.old) × (result.0.taken ≡ []) }
     ensures template { command ≡ Command.Check → NamesNoTemplate (words_asked (options_of command) (map string_bytes words.now))
         → ((status_of result.1 ≡ 2) ⊎ (result.1 ≡ Ending.NoMemory)) × (stdin.new ≡ stdin.old) × (result.0.taken ≡ []) }
@@ -108,6 +113,9 @@ fn by_command<R: Files + Alloc<A = Global> + Meters, I: Read, O: Write + Drop, E
                 O,
                 E,
             >(rt, true, program, words, stdin, stdout, messages)
+        }
+        Command::Rewrite => {
+            filter_by_words::<EditPages<_>, R, I, O, E>(rt, program, words, stdin, stdout, messages)
         }
     }
 }
@@ -165,6 +173,9 @@ pub fn command_by_words<R: Files + Alloc<A = Global> + Meters, I: Read, O: Write
         → ((result.1 ≡ Ending.WrongValue) ⊎ (result.1 ≡ Ending.NoMemory)) × (stdin.new ≡ stdin.old) × (result.0.taken ≡ [])) }
     ensures base { IfSome (command_named (map string_bytes words.now)) (λ named.
         named.command ≡ Command.Links → NamesNoBase (asked_of_command named)
+        → ((status_of result.1 ≡ 2) ⊎ (result.1 ≡ Ending.NoMemory)) × (stdin.new ≡ stdin.old) × (result.0.taken ≡ [])) }
+    ensures changes { IfSome (command_named (map string_bytes words.now)) (λ named.
+        named.command ≡ Command.Rewrite → NamesNoChange (asked_of_command named)
         → ((status_of result.1 ≡ 2) ⊎ (result.1 ≡ Ending.NoMemory)) × (stdin.new ≡ stdin.old) × (result.0.taken ≡ [])) }
     ensures template { IfSome (command_named (map string_bytes words.now)) (λ named.
         named.command ≡ Command.Check → NamesNoTemplate (asked_of_command named)

@@ -63,15 +63,21 @@ abbrev pub base_href : TagOf → Option (List ℕ)
 base_href tag = if is_start_of tag (codes "base") then attribute_value (codes "href") tag.attributes else None
 
 -- the first `<base>` with an `href` counts
-abbrev pub found_after : Option Parts → Option Parts → Option (List ℕ) → Option Parts
-found_after None found href = found
-found_after (Some fallback) (Some base) href = Some base
-found_after (Some fallback) None None = None
-found_after (Some fallback) None (Some href) = Some (frozen_base fallback href)
+abbrev pub named_from : Option Parts → Option Parts → Option (List ℕ) → Option Parts
+named_from (Some fallback) None (Some href) = Some (frozen_base fallback href)
+named_from fallback found href = None
+
+-- the URL that a tag names, where none was named before it
+abbrev pub named_by : Bases → TagOf → Option Parts
+named_by bases tag = named_from bases.fallback bases.found (base_href tag)
+
+abbrev pub with_named : Bases → Option Parts → Bases
+with_named bases None = bases
+with_named bases (Some url) = record bases { found = Some url }
 
 -- after a tag
 abbrev pub bases_after : Bases → TagOf → Bases
-bases_after bases tag = record bases { found = found_after bases.fallback bases.found (base_href tag) }
+bases_after bases tag = with_named bases (named_by bases tag)
 
 -- the base that links are resolved against, where there is one
 abbrev pub base_of : Bases → Option Parts

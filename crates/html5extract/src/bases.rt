@@ -1,7 +1,7 @@
 //! Where the links of a page lead from.
 ghost use Rattle.std.specs.Prelude.{◌≡◌, false, IfOk, None, OnErr, OnOk, Some, option_map, string_bytes};
 ghost use Rattle.html5ever_interface.specs.Token.{tag_of};
-ghost use Rattle.html5extract.specs.Bases.{base_href, bases_after, bases_asked, frozen_base, is_refused_base, leads_to, no_bases, page_bases, shown_or, url_at};
+ghost use Rattle.html5extract.specs.Bases.{base_href, bases_after, bases_asked, frozen_base, bases_by_word, is_refused_base, leads_to, named_by, no_bases, page_bases, shown_or, url_at, with_named};
 ghost use Rattle.html5programs.specs.Words.{asked_by};
 ghost use Rattle.url.specs.Parser.{IsOutOfRoom};
 
@@ -106,22 +106,53 @@ impl Bases {
         }
     }
 
-    /// Takes note of a tag: the first `<base>` with an `href` counts, where the page has a URL.
+    /// Where a page begins, as a copy.
+    pub fn for_page(&self) -> Result<Bases, AllocError>
+        ensures { IfOk result (λ bases. bases ≡ page_bases self.now) }
+    {
+        let fallback = match &self.fallback {
+            Some(url) => Some(url.clone()?),
+            None => None,
+        };
+        Ok(Bases {
+            fallback,
+            found: None,
+        })
+    }
+
+    /// The URL that a tag names for the links of the page, where none was named before it: the first `<base>` with an
+    /// `href` counts, where the page has a URL.
+    pub fn named_by<A: Allocator>(&self, tag: &Tag<A>) -> Result<Option<Url>, AllocError>
+        ensures { IfOk result (λ url. url ≡ named_by self.now (tag_of tag.now)) }
+    {
+        if self.found.is_some() {
+            return Ok(None);
+        }
+        let Some(fallback) = &self.fallback else {
+            return Ok(None);
+        };
+        let Some(href) = base_href(tag) else {
+            return Ok(None);
+        };
+        Ok(Some(frozen_base(fallback, href.as_str())?))
+    }
+
+    /// From the URL that was named, if one was.
+    pub fn found_at(&mut self, named: Option<Url>)
+        ensures { self.new ≡ with_named self.old named }
+    {
+        if let Some(url) = named {
+            self.found = Some(url);
+        }
+    }
+
+    /// Takes note of a tag.
     pub fn take_tag<A: Allocator>(&mut self, tag: &Tag<A>) -> Result<(), AllocError>
         ensures ok { OnOk result (self.new ≡ bases_after self.old (tag_of tag.now)) }
         ensures err { OnErr result (self.new ≡ self.old) }
     {
-        if self.found.is_some() {
-            return Ok(());
-        }
-        let Some(fallback) = &self.fallback else {
-            return Ok(());
-        };
-        let Some(href) = base_href(tag) else {
-            return Ok(());
-        };
-        let base = frozen_base(fallback, href.as_str())?;
-        self.found = Some(base);
+        let named = self.named_by(tag)?;
+        self.found_at(named);
         Ok(())
     }
 
@@ -146,11 +177,11 @@ fn no_bases() -> Bases
     }
 }
 
-/// The URL that words say pages are at, or none.
-pub fn bases_asked(alloc: Global, words: &Words<'_>) -> Result<Bases, BaseError>
-    ensures { IfOk result (λ bases. bases_asked (asked_by words.now) ≡ Some bases) }
+/// At the URL that a word is, or at none where there is no word.
+pub fn bases_at(alloc: Global, word: Option<&str>) -> Result<Bases, BaseError>
+    ensures { IfOk result (λ bases. bases_by_word (option_map (λ word. word.now) word.entry) ≡ Some bases) }
 {
-    let Some(word) = words.value("--base") else {
+    let Some(word) = word else {
         return Ok(no_bases());
     };
     match url_of_word(alloc, word) {
@@ -161,4 +192,11 @@ pub fn bases_asked(alloc: Global, words: &Words<'_>) -> Result<Bases, BaseError>
         Err(ParseError::OutOfMemory) => Err(BaseError::Memory),
         Err(fault) => Err(BaseError::NoUrl(fault)),
     }
+}
+
+/// The URL that words say pages are at, or none.
+pub fn bases_asked(alloc: Global, words: &Words<'_>) -> Result<Bases, BaseError>
+    ensures { IfOk result (λ bases. bases_asked (asked_by words.now) ≡ Some bases) }
+{
+    bases_at(alloc, words.value("--base"))
 }

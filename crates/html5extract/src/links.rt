@@ -32,9 +32,9 @@ pub(crate) fn value_of<'t, A: Allocator>(
     None
 }
 
-// The attribute that holds the link of an element of this name.
+/// The attribute that holds the link of an element of this name.
 #[tactic(auto, unfolding(crate::specs::Links::link_attribute))]
-fn link_attribute(name: &str) -> Option<&'static str>
+pub fn link_attribute(name: &str) -> Option<&'static str>
     ensures { option_map (λ attribute. attribute.now) result ≡ link_attribute name.now }
 {
     match name {

@@ -1,0 +1,3 @@
+pub mod ByWords
+pub mod Names
+pub mod PagesRead
