@@ -8,7 +8,7 @@ use Rattle.html5c.specs.Slots.{cleaner_of}
 use Rattle.html5c.specs.declared.cleaner_opening.PolicyFault.{PolicyFault}
 use Rattle.html5c.specs.declared.cleaner_opening.PolicyFault.TheVariants as fault
 use Rattle.html5c.specs.declared.slot.PageSlot.{PageSlot}
-use Rattle.html5c.specs.declared.slot.PageSlot.TheVariants.{Tokenizer, Cleaner, Lent}
+use Rattle.html5c.specs.declared.slot.PageSlot.TheVariants.{Tokenizer, Cleaner, Placed, Lent}
 use Rattle.html5cleaning.specs.Cleaning.{CleaningOf, EndRefused, EndWantsMemory, EndsPage, FeedRefused, FeedsPiece, fits_in}
 use Rattle.html5c.proofs.Statuses.{cut_no_over, either, memory_no_over, not_utf8_no_over}
 use Rattle.html5c.specs.Calls.{error_status}
@@ -149,6 +149,7 @@ pub new_says-done : (now : Option PageSlot) (rules : List ℕ) → IsCleanerStar
 new_says-done None rules start = absurd start
 new_says-done (Some (Tokenizer s)) rules start = absurd start
 new_says-done (Some Lent) rules start = absurd start
+new_says-done (Some (Placed s)) rules start = absurd start
 new_says-done (Some (Cleaner s)) rules start = record {
   done = λ _. start;
   refused = λ other. absurd (other refl);

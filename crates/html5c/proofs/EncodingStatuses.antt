@@ -1,5 +1,5 @@
 -- What a call that sets the encoding did, by the status that it answers.
-use Rattle.std.proofs.Common.{◌≡◌, ◌↔◌, ℕ, true, false, List, Option, None, Some, refl, sym, ◌∙◌, inl, inr, arith}
+use Rattle.std.proofs.Common.{◌≡◌, ℕ, true, false, List, Option, None, Some, refl, inl, inr, arith}
 use Rattle.html5c.proofs.Going.{over_is}
 use Rattle.html5c.specs.Encodings.{EncodingSays, decoding, said_by}
 use Rattle.html5encodings.specs.declared.encoding.Encoding.{Encoding}

@@ -1,18 +1,17 @@
 -- What a call did, by the status that it answers.
-use Rattle.std.proofs.Common.{◌≡◌, ◌↔◌, ◌⊎◌, ℕ, true, false, List, ◌++◌, length, Option, None, Some, Result, Ok, Err, String, string_bytes, refl, sym, ap, subst, ◌∙◌, inl, inr, arith, append_assoc}
+use Rattle.std.proofs.Common.{◌≡◌, ◌↔◌, ◌⊎◌, ℕ, Bool, true, false, List, ◌++◌, length, Option, None, Some, Result, Ok, Err, String, string_bytes, refl, sym, ap, subst, ◌∙◌, inl, inr, arith, append_assoc}
 use Rattle.std.specs.Prelude.{IfErr, IfOk, is_some}
 use Rattle.std.proofs.lemmas.Bool.{false≢true}
 use Rattle.std.specs.Str.{IsUtf8}
 use Rattle.html5c.proofs.Going.{answered_going, over_is, refused_going, refused_over}
-use Rattle.html5c.specs.Calls.{fed_status, error_status, fits_in, open_status, OpenFails, IsStart, NewSays, FeedSays, InsertSays, ReplySays, EndDecodedSays, EndSays}
+use Rattle.html5c.specs.Calls.{StartsAs, fed_status, error_status, fits_in, open_status, OpenFails, NewSays, FeedSays, InsertSays, ReplySays, EndDecodedSays, EndSays}
 use Rattle.html5c.specs.declared.opening.OpenError.{OpenError}
 use Rattle.html5c.specs.declared.opening.OpenError.TheVariants as opening
-use Rattle.html5c.specs.Said.{state_said}
-use Rattle.html5c.specs.Slots.{session_of}
+use Rattle.html5c.specs.Said.{are_named, state_said}
+use Rattle.html5c.specs.Slots.{placed_of, session_of}
 use Rattle.html5c.specs.declared.options.Options.{Options}
 use Rattle.html5c.specs.declared.slot.PageSlot.{PageSlot}
-use Rattle.html5c.specs.declared.slot.PageSlot.TheVariants.{Tokenizer, Cleaner, Lent}
-use Rattle.html5ever_interface.specs.Token.{Reply}
+use Rattle.html5placed.specs.PlacedSessions.{PlacedSessionOf}
 use Rattle.html5ever_interface.specs.Token.Reply.{KeepOn}
 use Rattle.html5ever_interface.specs.declared.states.State.{State}
 use Rattle.html5feed.specs.Feed.{reply_in}
@@ -565,17 +564,28 @@ decoded_ends (Err error) old read new status ended decoding ok err over feeds do
 
 -- the status of `html5_new`
 
-pub new_says-done : (now : Option PageSlot) (name : List ℕ) (o : Options) → IsStart (session_of now) name o → NewSays now name o 0
-new_says-done None name o start = absurd start
-new_says-done (Some (Cleaner s)) name o start = absurd start
-new_says-done (Some Lent) name o start = absurd start
-new_says-done (Some (Tokenizer s)) name o start = record {
-  done = λ _. start;
-  refused = λ other. absurd (other refl);
-  bad_option = (λ e. absurd (omega (arith, e)), λ is. absurd (false≢true (sym is ∙ start.named)));
-  not_utf8 = (λ e. absurd (omega (arith, e)), λ is. absurd (is.1 start.utf8));
-  only = inl refl;
-}
+-- what is known where a page was opened
+pub record IsOpened (name : List ℕ) (o : Options) : Type 0 where
+  pub named : are_named o ≡ true
+  pub utf8 : IsUtf8 name
+
+pub opened : (places : Bool) (session : Option RecordSessionOf) (placed : Option PlacedSessionOf) (name : List ℕ) (o : Options)
+    → StartsAs places session placed name o → IsOpened name o
+opened false None placed name o start = absurd start
+opened false (Some s) placed name o start = record { named = start.named; utf8 = start.utf8 }
+opened true session None name o start = absurd start
+opened true session (Some s) name o start = record { named = start.named; utf8 = start.utf8 }
+
+pub new_says-done : (now : Option PageSlot) (name : List ℕ) (o : Options) → StartsAs o.places (session_of now) (placed_of now) name o → NewSays now name o 0
+new_says-done now name o start =
+    let is = opened o.places (session_of now) (placed_of now) name o start in
+    record {
+      done = λ _. start;
+      refused = λ other. absurd (other refl);
+      bad_option = (λ e. absurd (omega (arith, e)), λ was. absurd (false≢true (sym was ∙ is.named)));
+      not_utf8 = (λ e. absurd (omega (arith, e)), λ was. absurd (was.1 is.utf8));
+      only = inl refl;
+    }
 
 pub new_says-error : (now : Option PageSlot) (name : List ℕ) (o : Options) (error : OpenError) → now ≡ None → OpenFails name o error
     → NewSays now name o (open_status error)

@@ -1,12 +1,15 @@
 -- What each call of the tokenizer makes of the session that a handle is of. A handle has none where it is closed, or has a cleaner.
-use Rattle.std.specs.Prelude.{◌≡◌, ◌≢◌, ◌↔◌, ◌⊎◌, ◌&&◌, ℕ, Bool, true, false, List, [], ◌++◌, length, take, drop, min, Option, None, Some, is_some}
+use Rattle.std.specs.Prelude.{◌≡◌, ◌≢◌, ◌↔◌, ◌⊎◌, ℕ, Bool, true, false, List, [], ◌++◌, length, take, drop, min, Option, None, Some, is_some}
 use Rattle.std.specs.Str.{IsUtf8}
-use Rattle.html5c.specs.Said.{options_said, replies_said, state_said}
-use Rattle.html5c.specs.Slots.{WhereOpen, place_in, session_of}
+use Rattle.html5c.specs.Said.{are_named, options_said, replies_said, state_said}
+use Rattle.html5c.specs.PlacedCalls.{IsPlacedStart}
+use Rattle.html5c.specs.Slots.{WhereOpen, place_in, placed_of, session_of}
 use Rattle.html5c.specs.declared.opening.OpenError.{OpenError}
 use Rattle.html5c.specs.declared.opening.OpenError.TheVariants as opening
 use Rattle.html5c.specs.declared.options.Options.{Options}
 use Rattle.html5c.specs.declared.slot.PageSlot.{PageSlot}
+use Rattle.html5placed.specs.PlacedSessions.{PlacedSessionOf}
+use Rattle.html5placed.specs.PlacedSessions as placed_page
 use Rattle.html5records.specs.Recording.{recorded_means, none_recorded, nothing_recorded, waiting, WritesOn}
 use Rattle.html5records.specs.declared.record_sink.Replies.{Replies}
 use Rattle.html5ever.specs.Tokenizer.{StandsAt, rules_of}
@@ -45,10 +48,6 @@ error_status Over = 7
 
 -- ---- a new session
 
--- each number in the options names something
-abbrev pub are_named : Options → Bool
-are_named o = is_some (replies_said o.replies) && is_some (state_said o.state)
-
 -- it stands at the start of a page, by these options, and reads references by the standard's names
 pub record Starts (s : RecordSessionOf) (name : List ℕ) (o : Options) : Type 0 where
   pub replies : Replies
@@ -66,6 +65,11 @@ pub record Starts (s : RecordSessionOf) (name : List ℕ) (o : Options) : Type 0
 abbrev pub IsStart : Option RecordSessionOf → List ℕ → Options → Type 0
 IsStart None name o = ⊥
 IsStart (Some s) name o = Starts s name o
+
+-- as the options say, a session that records tokens is there, or a page that is read with places
+abbrev pub StartsAs : Bool → Option RecordSessionOf → Option PlacedSessionOf → List ℕ → Options → Type 0
+StartsAs false session placed name o = IsStart session name o
+StartsAs true session placed name o = IsPlacedStart placed name o
 
 -- when no page is opened for its name, by the error
 abbrev pub IsNameRefused : List ℕ → OpenError → Type 0
@@ -85,7 +89,7 @@ open_status opening.BadOption = 9
 
 -- what a status of a new session says: all but DONE leave the handle closed
 pub record NewSays (now : Option PageSlot) (name : List ℕ) (o : Options) (status : ℕ) : Type 0 where
-  pub done : status ≡ 0 → IsStart (session_of now) name o
+  pub done : status ≡ 0 → StartsAs o.places (session_of now) (placed_of now) name o
   pub refused : status ≢ 0 → now ≡ None
   pub bad_option : (status ≡ 9) ↔ (are_named o ≡ false)
   pub not_utf8 : (status ≡ 4) ↔ ((are_named o ≡ true) × ¬ (IsUtf8 name))
@@ -196,11 +200,13 @@ abbrev pub Takes : Option RecordSessionOf → Option RecordSessionOf → List �
 Takes old new room out n = WhereOpen (λ s t. TakeSays s t room out n) ((n ≡ 0) × (out ≡ room)) old new
 
 -- where the bytes of the last refused piece stop being UTF-8
-abbrev pub error_place : Option RecordSessionOf → ℕ
-error_place None = 0
-error_place (Some s) = place_in s.intake.error_at
+abbrev pub error_place : Option RecordSessionOf → Option PlacedSessionOf → ℕ
+error_place (Some s) placed = place_in s.intake.error_at
+error_place None (Some s) = place_in s.error_at
+error_place None None = 0
 
 -- whether nothing more is read of the page
-abbrev pub over_in : Option RecordSessionOf → Bool
-over_in None = false
-over_in (Some s) = is_over s
+abbrev pub over_in : Option RecordSessionOf → Option PlacedSessionOf → Bool
+over_in (Some s) placed = is_over s
+over_in None (Some s) = placed_page.is_over s
+over_in None None = false

@@ -1,8 +1,8 @@
 -- The encoding of a page, as C says it and is told it, of a handle of either kind.
-use Rattle.std.specs.Prelude.{◌≡◌, ◌≢◌, ◌↔◌, ◌⊎◌, ℕ, Bool, true, false, List, [], ◌∷◌, ◌++◌, length, take, drop, min, Option, None, Some, option_map}
+use Rattle.std.specs.Prelude.{◌≡◌, ◌≢◌, ◌↔◌, ◌⊎◌, ℕ, true, false, List, [], ◌∷◌, ◌++◌, length, take, drop, min, Option, None, Some, option_map}
 use Rattle.html5c.specs.Slots.{WhereOpen}
 use Rattle.html5c.specs.declared.slot.PageSlot.{PageSlot}
-use Rattle.html5c.specs.declared.slot.PageSlot.TheVariants.{Tokenizer, Cleaner, Lent}
+use Rattle.html5c.specs.declared.slot.PageSlot.TheVariants.{Tokenizer, Cleaner}
 use Rattle.html5encodings.specs.Encodings.{encoding_of}
 use Rattle.html5encodings.specs.Labels.{name_of}
 use Rattle.html5encodings.specs.declared.encoding.Encoding.{Encoding}
@@ -36,7 +36,7 @@ SetsEncoding old new label status = WhereOpen (λ s t. EncodingSays s t label st
 abbrev pub encoding_in_slot : PageSlot → Option Encoding
 encoding_in_slot (Tokenizer s) = encoding_known s.intake
 encoding_in_slot (Cleaner s) = encoding_known s.intake
-encoding_in_slot Lent = None
+encoding_in_slot other = None
 
 abbrev pub encoding_in : Option PageSlot → Option Encoding
 encoding_in None = None

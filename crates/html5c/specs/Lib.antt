@@ -3,4 +3,5 @@ pub mod Said
 pub mod Slots
 pub mod Calls
 pub mod CleanerCalls
+pub mod PlacedCalls
 pub mod Encodings

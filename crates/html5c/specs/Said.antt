@@ -1,5 +1,5 @@
 -- What the numbers of the options say.
-use Rattle.std.specs.Prelude.{◌==◌, ℕ, not, List, [], ◌∷◌, Option, None, Some, if◌then◌else◌}
+use Rattle.std.specs.Prelude.{◌==◌, ◌&&◌, ◌||◌, ℕ, Bool, not, List, [], ◌∷◌, Option, None, Some, is_some, if◌then◌else◌}
 use Rattle.html5c.specs.declared.options.Options.{Options}
 use Rattle.html5records.specs.declared.record_sink.Replies.{Replies}
 use Rattle.html5records.specs.declared.record_sink.Replies.TheVariants as reply
@@ -27,6 +27,14 @@ replies_said n =
     else if n == 2 then Some reply.Pausing
     else if n == 3 then Some reply.Caller
     else None
+
+-- whether a page can be read so: with places only by the standard's replies, where the content is not foreign
+abbrev pub places_said : Options → Bool
+places_said o = not o.places || ((o.replies == 0) && not o.foreign)
+
+-- each number in the options names something, and the page can be read so
+abbrev pub are_named : Options → Bool
+are_named o = is_some (replies_said o.replies) && (is_some (state_said o.state) && places_said o)
 
 -- the name of the last start tag: none where it has no bytes
 abbrev pub name_said : List ℕ → Option (List ℕ)

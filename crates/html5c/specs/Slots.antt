@@ -1,8 +1,9 @@
--- What a handle is of: a session of the tokenizer, a page that is cleaned, or, where it is closed, neither.
+-- What a handle is of: a session of the tokenizer, a page that is read with places, one that is cleaned, or, where it is closed, none.
 use Rattle.std.specs.Prelude.{◌||◌, ◌&&◌, ℕ, Bool, not, Option, None, Some, is_some, if◌then◌else◌}
 use Rattle.html5c.specs.declared.slot.PageSlot.{PageSlot}
-use Rattle.html5c.specs.declared.slot.PageSlot.TheVariants.{Tokenizer, Cleaner}
+use Rattle.html5c.specs.declared.slot.PageSlot.TheVariants.{Tokenizer, Cleaner, Placed}
 use Rattle.html5cleaning.specs.Cleaning.{CleaningOf}
+use Rattle.html5placed.specs.PlacedSessions.{PlacedSessionOf}
 use Rattle.html5session.specs.RecordSessions.{RecordSessionOf}
 use Rattle.html5session.specs.Session.{SessionOf}
 
@@ -14,6 +15,10 @@ abbrev pub cleaner_in : PageSlot → Option CleaningOf
 cleaner_in (Cleaner s) = Some s
 cleaner_in other = None
 
+abbrev pub placed_in : PageSlot → Option PlacedSessionOf
+placed_in (Placed s) = Some s
+placed_in other = None
+
 -- the session of what a handle owns
 abbrev pub session_of : Option PageSlot → Option RecordSessionOf
 session_of None = None
@@ -23,6 +28,11 @@ session_of (Some slot) = session_in slot
 abbrev pub cleaner_of : Option PageSlot → Option CleaningOf
 cleaner_of None = None
 cleaner_of (Some slot) = cleaner_in slot
+
+-- the page that is read with places of what a handle owns
+abbrev pub placed_of : Option PageSlot → Option PlacedSessionOf
+placed_of None = None
+placed_of (Some slot) = placed_in slot
 
 -- what a call says where there is one before it and after it, and what it says where there is none
 abbrev pub WhereOpen : {S : Type 0} → (S → S → Type 0) → Type 0 → Option S → Option S → Type 0
@@ -35,7 +45,7 @@ abbrev pub place_in : Option ℕ → ℕ
 place_in None = 0
 place_in (Some place) = place
 
--- ---- the limit, of either kind
+-- ---- the limit, of each kind
 
 -- more is read, and what comes would go past the limit
 abbrev pub is_past : Bool → Bool → Bool
@@ -45,6 +55,6 @@ is_past over fits = not over && not fits
 abbrev pub limited : {X : Type 0} → ℕ → SessionOf X → SessionOf X
 limited limit s = record s { intake = record s.intake { limit = limit } }
 
--- what a call answers that can be made on either: that the handle is closed, where there is none
-abbrev pub status_where_open : {S C : Type 0} → Option S → Option C → ℕ
-status_where_open session cleaner = if is_some session || is_some cleaner then 0 else 8
+-- what a call answers that can be made on each: that the handle is closed, where there is none
+abbrev pub status_where_open : {S C P : Type 0} → Option S → Option C → Option P → ℕ
+status_where_open session cleaner placed = if is_some session || (is_some cleaner || is_some placed) then 0 else 8

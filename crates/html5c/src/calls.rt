@@ -2,7 +2,8 @@
 ghost use Rattle.std.specs.Prelude.{◌≡◌, None, option_map};
 ghost use Rattle.html5c.specs.Calls.{NewSays, Feeds, Inserts, RepliesTo, TellsForeign, Ends, Takes, error_place, over_in};
 ghost use Rattle.html5c.specs.Encodings.{NamesEncoding, SetsEncoding, encoding_in};
-ghost use Rattle.html5c.specs.Slots.{cleaner_of, limited, session_of, status_where_open};
+ghost use Rattle.html5c.specs.PlacedCalls.{PlacedEnds, PlacedFeeds, PlacedTakes, placed_limited};
+ghost use Rattle.html5c.specs.Slots.{cleaner_of, limited, placed_of, session_of, status_where_open};
 
 use crate::handle::Handle;
 use crate::opening::slot_of;
@@ -36,7 +37,9 @@ pub extern "C" fn html5_new(
 /// read, and then the answer is `NOT_UTF8`. A pause comes before that: then no feed takes anything until it was answered.
 #[unsafe(no_mangle)]
 pub extern "C" fn html5_feed(alloc: Global, h: &mut Handle, bytes: &[u8]) -> u32
-    ensures feeds { Feeds (session_of h.old.owned.value) (session_of h.new.owned.value) bytes.now result }
+    ensures feeds { placed_of h.old.owned.value ≡ None
+        → Feeds (session_of h.old.owned.value) (session_of h.new.owned.value) bytes.now result }
+    ensures placed { PlacedFeeds (placed_of h.old.owned.value) (placed_of h.new.owned.value) bytes.now result }
     ensures other { cleaner_of h.new.owned.value ≡ cleaner_of h.old.owned.value }
 {
     let Some(mut slot) = h.take(alloc) else {
@@ -53,6 +56,7 @@ pub extern "C" fn html5_feed(alloc: Global, h: &mut Handle, bytes: &[u8]) -> u32
 pub extern "C" fn html5_insert(alloc: Global, h: &mut Handle, text: &[u8]) -> u32
     ensures inserts { Inserts (session_of h.old.owned.value) (session_of h.new.owned.value) text.now result }
     ensures other { cleaner_of h.new.owned.value ≡ cleaner_of h.old.owned.value }
+    ensures placed { placed_of h.new.owned.value ≡ placed_of h.old.owned.value }
 {
     let Some(mut slot) = h.take(alloc) else {
         return status::CLOSED;
@@ -69,6 +73,7 @@ pub extern "C" fn html5_insert(alloc: Global, h: &mut Handle, text: &[u8]) -> u3
 pub extern "C" fn html5_reply(alloc: Global, h: &mut Handle, state: u32) -> u32
     ensures replies { RepliesTo (session_of h.old.owned.value) (session_of h.new.owned.value) state result }
     ensures other { cleaner_of h.new.owned.value ≡ cleaner_of h.old.owned.value }
+    ensures placed { placed_of h.new.owned.value ≡ placed_of h.old.owned.value }
 {
     let Some(mut slot) = h.take(alloc) else {
         return status::CLOSED;
@@ -83,6 +88,7 @@ pub extern "C" fn html5_reply(alloc: Global, h: &mut Handle, state: u32) -> u32
 pub extern "C" fn html5_set_foreign(alloc: Global, h: &mut Handle, foreign: bool) -> u32
     ensures sets { TellsForeign (session_of h.old.owned.value) (session_of h.new.owned.value) foreign result }
     ensures other { cleaner_of h.new.owned.value ≡ cleaner_of h.old.owned.value }
+    ensures placed { placed_of h.new.owned.value ≡ placed_of h.old.owned.value }
 {
     let Some(mut slot) = h.take(alloc) else {
         return status::CLOSED;
@@ -98,7 +104,9 @@ pub extern "C" fn html5_set_foreign(alloc: Global, h: &mut Handle, foreign: bool
 pub extern "C" fn html5_set_limit(alloc: Global, h: &mut Handle, limit: u64) -> u32
     ensures session { session_of h.new.owned.value ≡ option_map (limited limit) (session_of h.old.owned.value) }
     ensures cleaner { cleaner_of h.new.owned.value ≡ option_map (limited limit) (cleaner_of h.old.owned.value) }
-    ensures status { result ≡ status_where_open (session_of h.old.owned.value) (cleaner_of h.old.owned.value) }
+    ensures placed { placed_of h.new.owned.value ≡ option_map (placed_limited limit) (placed_of h.old.owned.value) }
+    ensures status { result ≡ status_where_open (session_of h.old.owned.value) (cleaner_of h.old.owned.value)
+        (placed_of h.old.owned.value) }
 {
     let Some(mut slot) = h.take(alloc) else {
         return status::CLOSED;
@@ -117,6 +125,7 @@ pub extern "C" fn html5_set_limit(alloc: Global, h: &mut Handle, limit: u64) -> 
 pub extern "C" fn html5_set_encoding(alloc: Global, h: &mut Handle, label: &[u8]) -> u32
     ensures session { SetsEncoding (session_of h.old.owned.value) (session_of h.new.owned.value) label.now result }
     ensures cleaner { SetsEncoding (cleaner_of h.old.owned.value) (cleaner_of h.new.owned.value) label.now result }
+    ensures placed { placed_of h.new.owned.value ≡ placed_of h.old.owned.value }
     ensures closed { session_of h.old.owned.value ≡ None → cleaner_of h.old.owned.value ≡ None → result ≡ 8 }
 {
     let Some(mut slot) = h.take(alloc) else {
@@ -147,7 +156,9 @@ pub extern "C" fn html5_encoding(alloc: Global, h: &mut Handle, out: &mut [u8]) 
 /// that is answered as by a feed, and the page has not ended: the next feed goes on, and then it is ended again.
 #[unsafe(no_mangle)]
 pub extern "C" fn html5_end(alloc: Global, h: &mut Handle) -> u32
-    ensures ends { Ends (session_of h.old.owned.value) (session_of h.new.owned.value) result }
+    ensures ends { placed_of h.old.owned.value ≡ None
+        → Ends (session_of h.old.owned.value) (session_of h.new.owned.value) result }
+    ensures placed { PlacedEnds (placed_of h.old.owned.value) (placed_of h.new.owned.value) result }
     ensures other { cleaner_of h.new.owned.value ≡ cleaner_of h.old.owned.value }
 {
     let Some(mut slot) = h.take(alloc) else {
@@ -162,7 +173,9 @@ pub extern "C" fn html5_end(alloc: Global, h: &mut Handle) -> u32
 /// where none wait. A record may be cut in two: what is left of it comes first at the next call.
 #[unsafe(no_mangle)]
 pub extern "C" fn html5_take(alloc: Global, h: &mut Handle, out: &mut [u8]) -> usize
-    ensures takes { Takes (session_of h.old.owned.value) (session_of h.new.owned.value) out.old out.new result }
+    ensures takes { placed_of h.old.owned.value ≡ None
+        → Takes (session_of h.old.owned.value) (session_of h.new.owned.value) out.old out.new result }
+    ensures placed { PlacedTakes (placed_of h.old.owned.value) (placed_of h.new.owned.value) out.old out.new result }
     ensures other { cleaner_of h.new.owned.value ≡ cleaner_of h.old.owned.value }
 {
     let Some(mut slot) = h.take(alloc) else {
@@ -177,7 +190,7 @@ pub extern "C" fn html5_take(alloc: Global, h: &mut Handle, out: &mut [u8]) -> u
 /// fed. All bytes before it were taken, and none from it on.
 #[unsafe(no_mangle)]
 pub extern "C" fn html5_error_at(alloc: Global, h: &mut Handle) -> u64
-    ensures place { result ≡ error_place (session_of h.old.owned.value) }
+    ensures place { result ≡ error_place (session_of h.old.owned.value) (placed_of h.old.owned.value) }
     ensures kept { h.new.owned.value ≡ h.old.owned.value }
 {
     let Some(slot) = h.take(alloc) else {
@@ -192,7 +205,7 @@ pub extern "C" fn html5_error_at(alloc: Global, h: &mut Handle) -> u64
 /// `html5_end` answer `OVER`. It is false where the handle is closed.
 #[unsafe(no_mangle)]
 pub extern "C" fn html5_is_over(alloc: Global, h: &mut Handle) -> bool
-    ensures over { result ≡ over_in (session_of h.old.owned.value) }
+    ensures over { result ≡ over_in (session_of h.old.owned.value) (placed_of h.old.owned.value) }
     ensures kept { h.new.owned.value ≡ h.old.owned.value }
 {
     let Some(slot) = h.take(alloc) else {

@@ -1,7 +1,7 @@
 //! What the cleaner's calls make of what a handle is of.
 ghost use Rattle.std.specs.Prelude.{◌≡◌, IsNone};
 ghost use Rattle.html5c.specs.CleanerCalls.{CleanerEnds, CleanerFeeds, CleanerTakes, Restarts, cleaner_error_place, cleaner_over_in};
-ghost use Rattle.html5c.specs.Slots.{cleaner_in, is_past, session_in};
+ghost use Rattle.html5c.specs.Slots.{cleaner_in, is_past, placed_in, session_in};
 ghost use Rattle.html5cleaning.specs.Cleaning.{fits_in};
 ghost use Rattle.html5session.specs.Session.{is_over};
 
@@ -37,6 +37,7 @@ impl PageSlot {
     pub fn restart_cleaner(&mut self) -> u32
         ensures restarts { Restarts (cleaner_in self.old) (cleaner_in self.new) result }
         ensures other { session_in self.new ≡ session_in self.old }
+        ensures placed { placed_in self.new ≡ placed_in self.old }
     {
         let Some(session) = self.take_cleaner() else {
             return status::CLOSED;
@@ -49,6 +50,7 @@ impl PageSlot {
     pub fn feed_cleaner(&mut self, bytes: &[u8]) -> u32
         ensures feeds { CleanerFeeds (cleaner_in self.old) (cleaner_in self.new) bytes.now result }
         ensures other { session_in self.new ≡ session_in self.old }
+        ensures placed { placed_in self.new ≡ placed_in self.old }
     {
         let Some(session) = self.take_cleaner() else {
             return status::CLOSED;
@@ -69,6 +71,7 @@ impl PageSlot {
     pub fn end_cleaner(&mut self) -> u32
         ensures ends { CleanerEnds (cleaner_in self.old) (cleaner_in self.new) result }
         ensures other { session_in self.new ≡ session_in self.old }
+        ensures placed { placed_in self.new ≡ placed_in self.old }
     {
         let Some(session) = self.take_cleaner() else {
             return status::CLOSED;
@@ -85,6 +88,7 @@ impl PageSlot {
     pub fn take_cleaned(&mut self, out: &mut [u8]) -> usize
         ensures takes { CleanerTakes (cleaner_in self.old) (cleaner_in self.new) out.old out.new result }
         ensures other { session_in self.new ≡ session_in self.old }
+        ensures placed { placed_in self.new ≡ placed_in self.old }
     {
         match self {
             PageSlot::Cleaner(session) => session.take(out),

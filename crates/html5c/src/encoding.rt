@@ -1,7 +1,7 @@
 //! The encoding of a page, as C says it and is told it.
 ghost use Rattle.std.specs.Prelude.{◌≡◌, ◌++◌, None, drop, length, min, take};
 ghost use Rattle.html5c.specs.Encodings.{EncodingSays, NamesEncoding, SetsEncoding, encoding_in_slot, said_by};
-ghost use Rattle.html5c.specs.Slots.{cleaner_in, session_in};
+ghost use Rattle.html5c.specs.Slots.{cleaner_in, placed_in, session_in};
 
 use crate::slot::PageSlot;
 use crate::status;
@@ -73,12 +73,13 @@ impl PageSlot {
     pub fn set_encoding(&mut self, alloc: Global, label: &[u8]) -> u32
         ensures session { SetsEncoding (session_in self.old) (session_in self.new) label.now result }
         ensures cleaner { SetsEncoding (cleaner_in self.old) (cleaner_in self.new) label.now result }
+        ensures placed { placed_in self.new ≡ placed_in self.old }
         ensures closed { session_in self.old ≡ None → cleaner_in self.old ≡ None → result ≡ 8 }
     {
         match self {
             PageSlot::Tokenizer(session) => set_in_session(alloc, session, label),
             PageSlot::Cleaner(session) => set_in_cleaner(session, label),
-            PageSlot::Lent => status::CLOSED,
+            _ => status::CLOSED,
         }
     }
 
@@ -89,7 +90,7 @@ impl PageSlot {
         match self {
             PageSlot::Tokenizer(session) => session.encoding(),
             PageSlot::Cleaner(session) => session.encoding(),
-            PageSlot::Lent => None,
+            _ => None,
         }
     }
 

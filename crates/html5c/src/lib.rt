@@ -11,6 +11,7 @@ mod ending;
 mod handle;
 mod opening;
 mod options;
+mod placed_slot;
 mod slot;
 pub mod status;
 mod version;

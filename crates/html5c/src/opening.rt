@@ -1,14 +1,16 @@
 //! A page at its start.
-ghost use Rattle.std.specs.Prelude.{◌≡◌, option_map, string_bytes, OnOk, IfOk, IfErr};
+ghost use Rattle.std.specs.Prelude.{◌≡◌, true, option_map, string_bytes, OnOk, IfOk, IfErr};
 ghost use Rattle.std.specs.Str.{IsUtf8};
-ghost use Rattle.html5c.specs.Calls.{Starts, IsStart, IsNameRefused, OpenFails, open_status};
+ghost use Rattle.html5c.specs.Calls.{Starts, StartsAs, IsNameRefused, OpenFails, open_status};
 ghost use Rattle.html5c.specs.Said.{name_said};
-ghost use Rattle.html5c.specs.Slots.{session_in};
+ghost use Rattle.html5c.specs.PlacedCalls.{StartsPlaced};
+ghost use Rattle.html5c.specs.Slots.{placed_in, session_in};
 
 use crate::options::Options;
 use crate::slot::PageSlot;
 use crate::status;
 use html5entities::standard_references;
+use html5placed::PlacedSession;
 use html5records::record_sink::RecordSink;
 use html5session::{RecordSession, Session};
 use std::alloc::Global;
@@ -65,6 +67,9 @@ fn session_at_start(
     ensures starts { IfOk result (λ session. Starts session last_start_tag.now options.now) }
     ensures refused { IfErr result (λ error. OpenFails last_start_tag.now options.now error) }
 {
+    if !options.can_be_placed() {
+        return Err(OpenError::BadOption);
+    }
     let Some(events) = options.events() else {
         return Err(OpenError::BadOption);
     };
@@ -84,21 +89,72 @@ fn session_at_start(
     Ok(Session::new(alloc, references, opts, sink))
 }
 
+// A page that is read with places at its start. The options are looked at first, and then the name.
+fn placed_at_start(
+    alloc: Global,
+    last_start_tag: &[u8],
+    options: &Options,
+) -> Result<PlacedSession<Global>, OpenError>
+    requires { options.now.places ≡ true }
+    ensures starts { IfOk result (λ session. StartsPlaced session last_start_tag.now options.now) }
+    ensures refused { IfErr result (λ error. OpenFails last_start_tag.now options.now error) }
+{
+    if !options.can_be_placed() {
+        return Err(OpenError::BadOption);
+    }
+    let Some(start) = options.start() else {
+        return Err(OpenError::BadOption);
+    };
+    // A match in place of `?`: split for the proof.
+    let name = match name_of(alloc, last_start_tag) {
+        Ok(name) => name,
+        Err(error) => return Err(error),
+    };
+    let Ok(references) = standard_references(alloc) else {
+        return Err(OpenError::Memory);
+    };
+    let opts = options.opts(start, name);
+    Ok(PlacedSession::new(alloc, references, opts))
+}
+
+// A page at its start, as the options say.
+fn page_at_start(
+    alloc: Global,
+    last_start_tag: &[u8],
+    options: &Options,
+) -> Result<PageSlot, OpenError>
+    ensures starts { IfOk result (λ slot.
+        StartsAs options.now.places (session_in slot) (placed_in slot) last_start_tag.now options.now) }
+    ensures refused { IfErr result (λ error. OpenFails last_start_tag.now options.now error) }
+{
+    if options.places {
+        return match placed_at_start(alloc, last_start_tag, options) {
+            Ok(session) => Ok(PageSlot::Placed(session)),
+            Err(error) => Err(error),
+        };
+    }
+    match session_at_start(alloc, last_start_tag, options) {
+        Ok(session) => Ok(PageSlot::Tokenizer(session)),
+        Err(error) => Err(error),
+    }
+}
+
 /// A page at its start, in its box.
 pub fn slot_of(
     alloc: Global,
     last_start_tag: &[u8],
     options: &Options,
 ) -> Result<Box<PageSlot, Global>, OpenError>
-    ensures starts { IfOk result (λ slot. IsStart (session_in slot.value) last_start_tag.now options.now) }
+    ensures starts { IfOk result (λ slot.
+        StartsAs options.now.places (session_in slot.value) (placed_in slot.value) last_start_tag.now options.now) }
     ensures refused { IfErr result (λ error. OpenFails last_start_tag.now options.now error) }
 {
     // A match in place of `?`: split for the proof.
-    let session = match session_at_start(alloc, last_start_tag, options) {
-        Ok(session) => session,
+    let page = match page_at_start(alloc, last_start_tag, options) {
+        Ok(page) => page,
         Err(error) => return Err(error),
     };
-    match Box::new(alloc, PageSlot::Tokenizer(session)) {
+    match Box::new(alloc, page) {
         Ok(slot) => Ok(slot),
         Err(_) => Err(OpenError::Memory),
     }

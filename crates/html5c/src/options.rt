@@ -1,6 +1,6 @@
 //! How a page is to be read, as C says it.
 ghost use Rattle.std.specs.Prelude.{◌≡◌, Some, option_map, string_bytes, IfSome, IsNone};
-ghost use Rattle.html5c.specs.Said.{state_said, replies_said, options_by};
+ghost use Rattle.html5c.specs.Said.{state_said, replies_said, options_by, places_said};
 ghost use Rattle.html5ever_interface.specs.Options.{options_of};
 ghost use Rattle.html5feed.specs.Starting.{CanStart};
 
@@ -25,6 +25,8 @@ pub struct Options {
     pub keep_bom: bool,
     /// Whether the current node is outside the HTML namespace, so that `<![CDATA[` begins a section.
     pub foreign: bool,
+    /// Write where each token stands. Only with the standard's replies, and where the content is not foreign.
+    pub places: bool,
 }
 
 // The replies that a number names, if one does.
@@ -57,6 +59,13 @@ pub(crate) fn state_of(number: u32) -> Option<State>
 }
 
 impl Options {
+    /// Whether the page can be read so: with places only by the standard's replies, where the content is not foreign.
+    pub fn can_be_placed(&self) -> bool
+        ensures { result ≡ places_said self.now }
+    {
+        !self.places || (self.replies == 0 && !self.foreign)
+    }
+
     /// What the sink answers, if the number of the replies names some.
     pub fn events(&self) -> Option<RecordOptions>
         ensures said { IfSome result (λ events. replies_said self.now.replies ≡ Some events.replies) }

@@ -1,7 +1,8 @@
 //! What a handle is of, over C's memory, and what the tokenizer's calls make of it.
-ghost use Rattle.std.specs.Prelude.{◌≡◌, IsNone, option_map, string_bytes};
+ghost use Rattle.std.specs.Prelude.{◌≡◌, None, IsNone, is_some, option_map, string_bytes};
 ghost use Rattle.html5c.specs.Calls.{Feeds, Inserts, RepliesTo, TellsForeign, Ends, Takes, fed_status, error_status, error_place, fits_in, over_in};
-ghost use Rattle.html5c.specs.Slots.{cleaner_in, is_past, limited, session_in, status_where_open};
+ghost use Rattle.html5c.specs.PlacedCalls.{PlacedEnds, PlacedFeeds, PlacedTakes, placed_limited};
+ghost use Rattle.html5c.specs.Slots.{cleaner_in, is_past, limited, placed_in, session_in, status_where_open};
 ghost use Rattle.html5session.specs.Session.{is_over};
 ghost use Rattle.html5feed.specs.Feed.{reply_in};
 
@@ -9,6 +10,7 @@ use crate::ending::end_session;
 use crate::options::state_of;
 use crate::status;
 use html5cleaning::CleaningSession;
+use html5placed::PlacedSession;
 use html5records::record_sink::PausedAt;
 use html5session::{RecordSession, SessionError};
 use markup5ever::tokenizer_result::TokenizerResult;
@@ -20,6 +22,8 @@ use std::{mem, str};
 pub enum PageSlot {
     /// A page whose tokens are recorded.
     Tokenizer(RecordSession<Global>),
+    /// A page whose tokens are recorded with their places.
+    Placed(PlacedSession<Global>),
     /// A page that is cleaned.
     Cleaner(CleaningSession<Global>),
     /// Nothing, for the time of a call.
@@ -81,10 +85,31 @@ impl PageSlot {
         }
     }
 
+    // Whether it is a page whose tokens are recorded with their places.
+    fn is_placed(&self) -> bool
+        ensures { result ≡ is_some (placed_in self.now) }
+    {
+        matches!(self, PageSlot::Placed(_))
+    }
+
     /// Feeds a piece.
     pub fn feed(&mut self, bytes: &[u8]) -> u32
+        ensures feeds { placed_in self.old ≡ None → Feeds (session_in self.old) (session_in self.new) bytes.now result }
+        ensures placed { PlacedFeeds (placed_in self.old) (placed_in self.new) bytes.now result }
+        ensures other { cleaner_in self.new ≡ cleaner_in self.old }
+    {
+        if self.is_placed() {
+            self.feed_placed(bytes)
+        } else {
+            self.feed_recorded(bytes)
+        }
+    }
+
+    // Feeds a piece of a page whose tokens are recorded.
+    fn feed_recorded(&mut self, bytes: &[u8]) -> u32
         ensures feeds { Feeds (session_in self.old) (session_in self.new) bytes.now result }
         ensures other { cleaner_in self.new ≡ cleaner_in self.old }
+        ensures placed { placed_in self.new ≡ placed_in self.old }
     {
         let Some(session) = self.take_session() else {
             return status::CLOSED;
@@ -105,6 +130,7 @@ impl PageSlot {
     pub fn insert(&mut self, text: &[u8]) -> u32
         ensures inserts { Inserts (session_in self.old) (session_in self.new) text.now result }
         ensures other { cleaner_in self.new ≡ cleaner_in self.old }
+        ensures placed { placed_in self.new ≡ placed_in self.old }
     {
         let PageSlot::Tokenizer(session) = self else {
             return status::CLOSED;
@@ -128,6 +154,7 @@ impl PageSlot {
     pub fn reply(&mut self, state: u32) -> u32
         ensures replies { RepliesTo (session_in self.old) (session_in self.new) state result }
         ensures other { cleaner_in self.new ≡ cleaner_in self.old }
+        ensures placed { placed_in self.new ≡ placed_in self.old }
     {
         let PageSlot::Tokenizer(session) = self else {
             return status::CLOSED;
@@ -146,6 +173,7 @@ impl PageSlot {
     pub fn set_foreign(&mut self, foreign: bool) -> u32
         ensures sets { TellsForeign (session_in self.old) (session_in self.new) foreign result }
         ensures other { cleaner_in self.new ≡ cleaner_in self.old }
+        ensures placed { placed_in self.new ≡ placed_in self.old }
     {
         let PageSlot::Tokenizer(session) = self else {
             return status::CLOSED;
@@ -158,10 +186,12 @@ impl PageSlot {
     pub fn set_limit(&mut self, limit: u64) -> u32
         ensures session { session_in self.new ≡ option_map (limited limit) (session_in self.old) }
         ensures cleaner { cleaner_in self.new ≡ option_map (limited limit) (cleaner_in self.old) }
-        ensures status { result ≡ status_where_open (session_in self.old) (cleaner_in self.old) }
+        ensures placed { placed_in self.new ≡ option_map (placed_limited limit) (placed_in self.old) }
+        ensures status { result ≡ status_where_open (session_in self.old) (cleaner_in self.old) (placed_in self.old) }
     {
         match self {
             PageSlot::Tokenizer(session) => session.set_limit(limit),
+            PageSlot::Placed(session) => session.set_limit(limit),
             PageSlot::Cleaner(session) => session.set_limit(limit),
             PageSlot::Lent => return status::CLOSED,
         }
@@ -170,8 +200,22 @@ impl PageSlot {
 
     /// Ends the page.
     pub fn end(&mut self) -> u32
+        ensures ends { placed_in self.old ≡ None → Ends (session_in self.old) (session_in self.new) result }
+        ensures placed { PlacedEnds (placed_in self.old) (placed_in self.new) result }
+        ensures other { cleaner_in self.new ≡ cleaner_in self.old }
+    {
+        if self.is_placed() {
+            self.end_placed()
+        } else {
+            self.end_recorded()
+        }
+    }
+
+    // Ends a page whose tokens are recorded.
+    fn end_recorded(&mut self) -> u32
         ensures ends { Ends (session_in self.old) (session_in self.new) result }
         ensures other { cleaner_in self.new ≡ cleaner_in self.old }
+        ensures placed { placed_in self.new ≡ placed_in self.old }
     {
         let Some(session) = self.take_session() else {
             return status::CLOSED;
@@ -183,31 +227,35 @@ impl PageSlot {
 
     /// Takes the next bytes of the records.
     pub fn take(&mut self, out: &mut [u8]) -> usize
-        ensures takes { Takes (session_in self.old) (session_in self.new) out.old out.new result }
+        ensures takes { placed_in self.old ≡ None → Takes (session_in self.old) (session_in self.new) out.old out.new result }
+        ensures placed { PlacedTakes (placed_in self.old) (placed_in self.new) out.old out.new result }
         ensures other { cleaner_in self.new ≡ cleaner_in self.old }
     {
         match self {
             PageSlot::Tokenizer(session) => session.take(out),
+            PageSlot::Placed(session) => session.take(out),
             _ => 0,
         }
     }
 
     /// Where the bytes of the last refused piece stop being UTF-8.
     pub fn error_at(&self) -> u64
-        ensures { result ≡ error_place (session_in self.now) }
+        ensures { result ≡ error_place (session_in self.now) (placed_in self.now) }
     {
         match self {
             PageSlot::Tokenizer(session) => session.error_at().unwrap_or(0),
+            PageSlot::Placed(session) => session.error_at().unwrap_or(0),
             _ => 0,
         }
     }
 
     /// Whether nothing more is read.
     pub fn is_over(&self) -> bool
-        ensures { result ≡ over_in (session_in self.now) }
+        ensures { result ≡ over_in (session_in self.now) (placed_in self.now) }
     {
         match self {
             PageSlot::Tokenizer(session) => session.is_over(),
+            PageSlot::Placed(session) => session.is_over(),
             _ => false,
         }
     }

@@ -20,6 +20,8 @@ pub const NULL_CHARACTER: u8 = 7;
 pub const PARSE_ERROR: u8 = 8;
 /// The kind of the record of the end of the input.
 pub const END: u8 = 9;
+/// The kind of a record that says where the next token stands, with the text before it (crate html5placed).
+pub const PLACES: u8 = 10;
 
 /// The flag of a tag with `/` directly before its `>`.
 pub const SELF_CLOSING: u8 = 1;

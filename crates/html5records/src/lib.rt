@@ -4,4 +4,4 @@
 pub mod kinds;
 pub mod reading;
 pub mod record_sink;
-mod records;
+pub mod records;

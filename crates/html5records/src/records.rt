@@ -13,8 +13,9 @@ use html5ever_interface::interface::token::{Doctype, Tag, TagKind, Token};
 use markup5ever::interface::Attribute;
 use std::alloc::{AllocError, Allocator};
 
+/// Appends a number.
 #[tactic(auto, unfolding(crate::specs::Records::number))]
-fn push_number<A: Allocator>(written: &mut Vec<u8, A>, value: u64) -> Result<(), AllocError>
+pub fn push_number<A: Allocator>(written: &mut Vec<u8, A>, value: u64) -> Result<(), AllocError>
     ensures ok { OnOk result (written.new.items ≡ written.old.items ++ number value) }
     ensures err { OnErr result (BeginsWith written.new.items written.old.items) }
 {
@@ -201,9 +202,9 @@ fn push_parts<A: Allocator>(written: &mut Vec<u8, A>, token: &Token<A>) -> Resul
     }
 }
 
-// Appends the record of a token that is no text.
+/// Appends the record of a token that is no text.
 #[tactic(auto, unfolding(crate::specs::Records::record_of))]
-fn push_record<A: Allocator>(
+pub fn push_record<A: Allocator>(
     written: &mut Vec<u8, A>,
     token: &Token<A>,
     line: u64,

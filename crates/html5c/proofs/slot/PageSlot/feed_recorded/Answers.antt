@@ -10,7 +10,7 @@ use Rattle.html5session.specs.Intake.Piece.{Bytes}
 use Rattle.html5session.specs.RecordSessions.{RecordSessionOf}
 use Rattle.html5session.specs.Session.{is_over, FeedsPiece, FeedRefused}
 use Rattle.html5session.specs.declared.error.SessionError.TheVariants.{Over}
-use Rattle.html5c.proofs.slot.PageSlot.feed.Goals as goal
+use Rattle.html5c.proofs.slot.PageSlot.feed_recorded.Goals as goal
 
 pub returns-then-goes_past_limit-clause-feeds : goal.returns-then-goes_past_limit-clause-feeds
 returns-then-goes_past_limit-clause-feeds c =

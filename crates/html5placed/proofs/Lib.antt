@@ -1,0 +1,4 @@
+pub mod Written
+pub mod Handed
+pub mod Sessions
+pub mod Calls

@@ -1,0 +1,2 @@
+pub mod PlacedRecords
+pub mod PlacedSessions
