@@ -8,10 +8,10 @@
 #define FIRNUUBAL_H
 
 /* The version of the library, of this header and of the readers. */
-#define FIRNUUBAL_VERSION "0.9.0"
+#define FIRNUUBAL_VERSION "0.10.0"
 
 /* The same as a number, its three numbers a byte each. `html5_version` says it of the library that is linked. */
-#define FIRNUUBAL_VERSION_NUMBER 0x000900
+#define FIRNUUBAL_VERSION_NUMBER 0x000a00
 
 #include <stdbool.h>
 #include <stddef.h>
@@ -96,7 +96,15 @@ typedef struct {
     bool exact_errors; /* tell every bad character as a parse error; it is slower */
     bool keep_bom;     /* keep a byte order mark at the start */
     bool foreign;      /* the content is foreign, as `html5_set_foreign` says it later: <![CDATA[ opens a section */
+    bool places;       /* tell where each token stands; only with the standard's replies, and not in foreign content */
 } html5_options;
+
+/*
+ * With `places` the text before a token comes with it, in one piece, and a token that is read has its places
+ * (`text_begin`, `begin`, `end` of html5_token). The page is UTF-8, and nothing pauses: `html5_insert`, `html5_reply`,
+ * `html5_set_foreign` and `html5_set_encoding` answer HTML5_CLOSED. It is slower, and holds the text since the last token,
+ * which counts against the limit. Options that `places` doesn't go with are answered HTML5_BAD_OPTION.
+ */
 
 /*
  * No pointer may be null. But where a length is 0, the bytes of a feed may be: `html5_feed(&handle, NULL, 0)` goes on after
@@ -283,6 +291,9 @@ enum html5_kind {
     HTML5_END = 9
 };
 
+/* What a record begins with that says where the next token stands. */
+#define HTML5_PLACES 10
+
 /* The attributes of a tag that were not read yet. */
 typedef struct {
     const uint8_t *at;
@@ -299,7 +310,14 @@ typedef struct {
     bool duplicate_attributes;    /* of a tag: an attribute of a repeated name was left out */
     bool has_name, has_public_id, has_system_id, force_quirks; /* of a DOCTYPE */
     html5_text public_id, system_id;                           /* of a DOCTYPE */
+    /*
+     * With `places` where it stands, in bytes of the text that was read, and where the text before it begins; that ends
+     * where the token begins. A text has the place of its run, as it is written. HTML5_NO_PLACE without.
+     */
+    uint64_t text_begin, begin, end;
 } html5_token;
+
+#define HTML5_NO_PLACE UINT64_MAX
 
 /* Why there is no next token. */
 enum html5_stop {
@@ -315,6 +333,8 @@ typedef struct {
     size_t at;       /* where the next record begins */
     size_t searched; /* how far the end of an open text was looked for */
     enum html5_stop stop; /* after `html5_next_token` answered false */
+    bool has_places;                     /* places were read that are those of the next tokens */
+    uint64_t places[3];
 } html5_reader;
 
 static inline uint64_t html5_number(const uint8_t *at) {
@@ -414,10 +434,31 @@ static inline const uint8_t *html5_read_text(html5_reader *reader, html5_token *
     return stop + 1;
 }
 
+/* The record of places, if one is next: it goes before the run and the token that it is of. It answers whether it is whole. */
+static inline bool html5_read_places(html5_reader *reader) {
+    if (reader->bytes[reader->at] != HTML5_PLACES) return true;
+    if (reader->len - reader->at < 25) return false;
+    for (int i = 0; i < 3; i++) reader->places[i] = html5_number(reader->bytes + reader->at + 1 + 8 * i);
+    reader->has_places = true;
+    reader->at += 25;
+    return reader->at < reader->len;
+}
+
+/* Sets where a token stands. A text stands where the run before the next token does. */
+static inline void html5_set_places(const html5_reader *reader, html5_token *token) {
+    token->text_begin = reader->has_places ? reader->places[0] : HTML5_NO_PLACE;
+    token->begin = reader->has_places ? reader->places[token->kind == HTML5_TEXT ? 0 : 1] : HTML5_NO_PLACE;
+    token->end = reader->has_places ? reader->places[token->kind == HTML5_TEXT ? 1 : 2] : HTML5_NO_PLACE;
+}
+
 /* The next token that was taken whole. It answers whether there is one, and if not `reader->stop` says why. */
 static inline bool html5_next_token(html5_reader *reader, html5_token *token) {
     reader->stop = HTML5_ALL_READ;
     if (reader->at == reader->len) return false;
+    if (!html5_read_places(reader)) {
+        if (reader->at < reader->len) reader->stop = HTML5_NOT_WHOLE;
+        return false;
+    }
     memset(token, 0, sizeof *token);
     token->text.at = token->public_id.at = token->system_id.at = "";
     token->kind = (enum html5_kind)reader->bytes[reader->at];
@@ -429,6 +470,7 @@ static inline bool html5_next_token(html5_reader *reader, html5_token *token) {
         return false;
     }
     reader->at = (size_t)(after - reader->bytes);
+    html5_set_places(reader, token);
     return true;
 }
 

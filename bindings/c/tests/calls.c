@@ -397,7 +397,72 @@ static void is_closed_until_it_is_opened(void) {
     CHECK(feed(&handle, "x") == HTML5_CLOSED);
 }
 
+/* What is told of a page with places: each token but errors, and where it stands. */
+static void adds_places(html5_reader *reader, html5_handle *handle, char *told, size_t room) {
+    html5_token token;
+    CHECK(html5_fill(reader, handle));
+    while (html5_next_token(reader, &token)) {
+        size_t len = strlen(told);
+        if (token.kind != HTML5_PARSE_ERROR)
+            snprintf(told + len, room - len, "%d %d-%d;", (int)token.kind, (int)token.begin, (int)token.end);
+    }
+}
+
+static void tells_where_tokens_stand(void) {
+    static const char page[] = "a<p>\xc3\xa9&amp;</p>";
+    for (size_t size = 1; size < sizeof page; size++) {
+        html5_handle handle = {0};
+        html5_reader reader = {0};
+        html5_options options = {0};
+        options.places = true;
+        char told[256] = "";
+        CHECK(open_after(&handle, "", options) == HTML5_DONE);
+        for (size_t at = 0; at < sizeof page - 1; at += size) {
+            size_t left = sizeof page - 1 - at;
+            CHECK(html5_feed(&handle, (const uint8_t *)page + at, left < size ? left : size) == HTML5_DONE);
+            adds_places(&reader, &handle, told, sizeof told);
+        }
+        CHECK(insert(&handle, "x") == HTML5_CLOSED);
+        CHECK(html5_reply(&handle, HTML5_DATA) == HTML5_CLOSED);
+        CHECK(html5_set_foreign(&handle, true) == HTML5_CLOSED);
+        CHECK(html5_end(&handle) == HTML5_DONE);
+        CHECK(html5_is_over(&handle));
+        adds_places(&reader, &handle, told, sizeof told);
+        CHECK(strcmp(told, "3 0-1;1 1-4;3 4-11;2 11-15;9 15-15;") == 0);
+        html5_reader_free(&reader);
+        html5_free(&handle);
+    }
+}
+
+static void refuses_options_that_places_do_not_go_with(void) {
+    html5_handle handle = {0};
+    html5_options options = {0};
+    options.places = true;
+    options.replies = HTML5_PAUSING_REPLIES;
+    CHECK(open_after(&handle, "", options) == HTML5_BAD_OPTION);
+    options.replies = HTML5_STANDARD_REPLIES;
+    options.foreign = true;
+    CHECK(open_after(&handle, "", options) == HTML5_BAD_OPTION);
+}
+
+static void says_where_a_page_with_places_is_no_utf8(void) {
+    html5_handle handle = {0};
+    html5_options options = {0};
+    options.places = true;
+    CHECK(open_after(&handle, "", options) == HTML5_DONE);
+    CHECK(feed(&handle, "ab\xff" "c") == HTML5_NOT_UTF8);
+    CHECK(html5_error_at(&handle) == 2);
+    CHECK(feed(&handle, "<p>\xc3") == HTML5_DONE);
+    CHECK(html5_end(&handle) == HTML5_CUT);
+    CHECK(html5_set_limit(&handle, 4) == HTML5_DONE);
+    CHECK(feed(&handle, "longer") == HTML5_LIMIT);
+    html5_free(&handle);
+}
+
 int main(void) {
+    tells_where_tokens_stand();
+    refuses_options_that_places_do_not_go_with();
+    says_where_a_page_with_places_is_no_utf8();
     CHECK(html5_version() == FIRNUUBAL_VERSION_NUMBER);
     reads_a_page_in_pieces();
     pauses_and_lets_text_in();

@@ -220,6 +220,7 @@ impl Tokenizer {
             exact_errors: options.exact_errors,
             keep_bom: options.keep_bom,
             foreign: options.foreign,
+            places: false,
         };
         let mut tokenizer = Tokenizer {
             handle: Handle::CLOSED,

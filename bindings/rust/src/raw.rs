@@ -23,6 +23,7 @@ pub(crate) struct RawOptions {
     pub(crate) exact_errors: bool,
     pub(crate) keep_bom: bool,
     pub(crate) foreign: bool,
+    pub(crate) places: bool,
 }
 
 extern "C" {

@@ -31,7 +31,7 @@ from ._records import (
 )
 from ._tokenizer import Fed, Replies, State, Tokenizer, links, text, tokens
 
-__version__ = "0.9.0"
+__version__ = "0.10.0"
 
 __all__ = [
     "ALLOWED_ATTRIBUTES",

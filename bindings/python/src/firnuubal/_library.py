@@ -25,6 +25,7 @@ class Options(ctypes.Structure):
         ("exact_errors", ctypes.c_bool),
         ("keep_bom", ctypes.c_bool),
         ("foreign", ctypes.c_bool),
+        ("places", ctypes.c_bool),
     ]
 
 
