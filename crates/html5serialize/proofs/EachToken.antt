@@ -1,5 +1,5 @@
 -- Each token of a page can be written.
-use Rattle.std.proofs.Common.{◌≡◌, ℕ, zero, suc, Bool, true, false, List, [], ◌∷◌, ◌++◌, Option, None, Some, refl, ap, sym, ◌∙◌}
+use Rattle.std.proofs.Common.{◌≡◌, ℕ, zero, suc, Bool, true, false, List, [], ◌∷◌, ◌++◌, Option, None, Some, refl, ap, sym, ◌∙◌, subst}
 use Rattle.std.specs.Prelude.{◌==◌, ◌&&◌, not, length, codes, flat_map, All, if◌then◌else◌}
 use Rattle.std.specs.List.{list_all, IsDistinct, AllByRecursion}
 use Rattle.std.specs.Option.{is_none}
@@ -84,326 +84,338 @@ no_return-line_feeds after (c ∷ X) =
       ]
     ]) refl
 
-no_return-read : (input : Input) (X text : List ℕ) → normalised input X ≡ text → has_no_return text ≡ true
+pub no_return-read : (input : Input) (X text : List ℕ) → normalised input X ≡ text → has_no_return text ≡ true
 unfolding normalised
 no_return-read input X text e = ap has_no_return (sym e) ∙ no_return-line_feeds false (without_dropped_first input X)
 
-front-return : (front rest : List ℕ) → has_no_return (front ++ rest) ≡ true → has_no_return front ≡ true
+pub front-return : (front rest : List ℕ) → has_no_return (front ++ rest) ≡ true → has_no_return front ≡ true
 front-return front rest r = (all-parts (λ c. not (c == carriage_return)) front rest r).0
 
-rest-return : (front rest : List ℕ) → has_no_return (front ++ rest) ≡ true → has_no_return rest ≡ true
+pub rest-return : (front rest : List ℕ) → has_no_return (front ++ rest) ≡ true → has_no_return rest ≡ true
 rest-return front rest r = (all-parts (λ c. not (c == carriage_return)) front rest r).1
 
--- ---- characters at which errors alone are sent, or one token
+-- whether an item is a tag
+abbrev pub is_tag_item : {X S H : Type 0} → (means : Means X S H) (rules : Rules) → {Z : List ℕ} {K : Start} {s : S} {Y : List ℕ} {M : List Message} {later : Start}
+    → Item means rules Z K s Y M later → Bool
+is_tag_item means rules (OneTag tag one) = true
+is_tag_item means rules (OneRawEnd raw name tag one) = true
+is_tag_item means rules item = false
 
-cells-errors : (cells : List Spelled) → TellErrors cells → CellsShaped cells
-cells-errors [] h = tt
-cells-errors (here ∷ more) h = (are-errors here.told h.0, cells-errors more h.1)
+module _ (tags : Bool) where
+  -- ---- characters at which errors alone are sent, or one token
 
--- ---- comments
+  cells-errors : (cells : List Spelled) → TellErrors cells → CellsShaped tags cells
+  cells-errors [] h = tt
+  cells-errors (here ∷ more) h = (are-errors tags here.told h.0, cells-errors more h.1)
 
-open-bogus : (content : List ℕ) → list_all in_bogus_comment content ≡ true → list_all is_open_character content ≡ true
-unfolding in_bogus_comment
-open-bogus content h = h
+  -- ---- comments
 
-shape-bogus : (content : List ℕ) → list_all in_bogus_comment content ≡ true → has_no_return content ≡ true → is_comment_text (flat_map value_bytes content) ≡ true
-shape-bogus content h r = plain-comment (flat_map value_bytes content) (bytes-markup content (open-bogus content h) r)
+  open-bogus : (content : List ℕ) → list_all in_bogus_comment content ≡ true → list_all is_open_character content ≡ true
+  unfolding in_bogus_comment
+  open-bogus content h = h
 
-shape-empty : (content : List ℕ) → one_comment.is_empty content ≡ true → is_comment_text (flat_map value_bytes content) ≡ true
-unfolding is_comment_text one_comment.is_content one_comment.occurs
-shape-empty content h = rw (nil_from_length content (eqb-true (length content) 0 h)) refl
+  shape-bogus : (content : List ℕ) → list_all in_bogus_comment content ≡ true → has_no_return content ≡ true → is_comment_text (flat_map value_bytes content) ≡ true
+  shape-bogus content h r = plain-comment (flat_map value_bytes content) (bytes-markup content (open-bogus content h) r)
 
-shape-comment : (foreign : Bool) (comment : WrittenComment) → one_comment.is_written foreign comment ≡ true → has_no_return (one_comment.written comment) ≡ true
-    → is_comment_text (flat_map value_bytes (content_of comment)) ≡ true
-unfolding one_comment.is_written one_comment.written
-shape-comment foreign (Proper content Dashes) h r = content-comment content h (front-return content (codes "--") (front-return (content ++ codes "--") (greater_than ∷ []) (rest-return (codes "<!--") ((content ++ codes "--") ++ greater_than ∷ []) r)))
-shape-comment foreign (Proper content Bang) h r = content-comment content h (front-return content (codes "--!") (front-return (content ++ codes "--!") (greater_than ∷ []) (rest-return (codes "<!--") ((content ++ codes "--!") ++ greater_than ∷ []) r)))
-shape-comment foreign (Proper content AtOnce) h r = shape-empty content h
-shape-comment foreign (Proper content AfterDash) h r = shape-empty content h
-shape-comment foreign (Bogus Solidus content) h r =
-    shape-bogus content (and_parts (one_comment.can_open foreign Solidus content) (list_all in_bogus_comment content) h).1 (front-return content (greater_than ∷ []) (rest-return (codes "</") (content ++ greater_than ∷ []) r))
-shape-comment foreign (Bogus ExclamationMark content) h r =
-    shape-bogus content (and_parts (one_comment.can_open foreign ExclamationMark content) (list_all in_bogus_comment content) h).1 (front-return content (greater_than ∷ []) (rest-return (codes "<!") (content ++ greater_than ∷ []) r))
+  shape-empty : (content : List ℕ) → one_comment.is_empty content ≡ true → is_comment_text (flat_map value_bytes content) ≡ true
+  unfolding is_comment_text one_comment.is_content one_comment.occurs
+  shape-empty content h = rw (nil_from_length content (eqb-true (length content) 0 h)) refl
 
--- ---- processing instructions
+  shape-comment : (foreign : Bool) (comment : WrittenComment) → one_comment.is_written foreign comment ≡ true → has_no_return (one_comment.written comment) ≡ true
+      → is_comment_text (flat_map value_bytes (content_of comment)) ≡ true
+  unfolding one_comment.is_written one_comment.written
+  shape-comment foreign (Proper content Dashes) h r = content-comment content h (front-return content (codes "--") (front-return (content ++ codes "--") (greater_than ∷ []) (rest-return (codes "<!--") ((content ++ codes "--") ++ greater_than ∷ []) r)))
+  shape-comment foreign (Proper content Bang) h r = content-comment content h (front-return content (codes "--!") (front-return (content ++ codes "--!") (greater_than ∷ []) (rest-return (codes "<!--") ((content ++ codes "--!") ++ greater_than ∷ []) r)))
+  shape-comment foreign (Proper content AtOnce) h r = shape-empty content h
+  shape-comment foreign (Proper content AfterDash) h r = shape-empty content h
+  shape-comment foreign (Bogus Solidus content) h r =
+      shape-bogus content (and_parts (one_comment.can_open foreign Solidus content) (list_all in_bogus_comment content) h).1 (front-return content (greater_than ∷ []) (rest-return (codes "</") (content ++ greater_than ∷ []) r))
+  shape-comment foreign (Bogus ExclamationMark content) h r =
+      shape-bogus content (and_parts (one_comment.can_open foreign ExclamationMark content) (list_all in_bogus_comment content) h).1 (front-return content (greater_than ∷ []) (rest-return (codes "<!") (content ++ greater_than ∷ []) r))
 
-open-instruction : (content : List ℕ) → list_all in_instruction content ≡ true → list_all is_open_character content ≡ true
-unfolding in_instruction
-open-instruction content h = h
+  -- ---- processing instructions
 
-are-instruction : (instruction : WrittenInstruction) → one_instruction.is_written instruction ≡ true → has_no_return (one_instruction.written instruction) ≡ true
-    → AreShaped (one_instruction.told_content instruction.content ∷ [])
-unfolding one_instruction.is_written one_instruction.written
-are-instruction instruction h r =
-    let text = front-return instruction.content (one_instruction.end_text instruction.is_ended) (rest-return (codes "<?") (instruction.content ++ one_instruction.end_text instruction.is_ended) r) in
-    rw (bytes-markup instruction.content (open-instruction instruction.content h) text) refl
+  open-instruction : (content : List ℕ) → list_all in_instruction content ≡ true → list_all is_open_character content ≡ true
+  unfolding in_instruction
+  open-instruction content h = h
 
-cells-instruction_end : (is_ended : Bool) (content : List ℕ) → AreShaped (one_instruction.told_content content ∷ []) → CellsShaped (one_instruction.spell_end is_ended content)
-cells-instruction_end true content h = (h, tt)
-cells-instruction_end false content h = tt
+  are-instruction : (instruction : WrittenInstruction) → one_instruction.is_written instruction ≡ true → has_no_return (one_instruction.written instruction) ≡ true
+      → AreShaped tags (one_instruction.told_content instruction.content ∷ [])
+  unfolding one_instruction.is_written one_instruction.written
+  are-instruction instruction h r =
+      let text = front-return instruction.content (one_instruction.end_text instruction.is_ended) (rest-return (codes "<?") (instruction.content ++ one_instruction.end_text instruction.is_ended) r) in
+      rw (bytes-markup instruction.content (open-instruction instruction.content h) text) refl
 
-shaped-instruction : (exact : Bool) (input : Input) (instruction : WrittenInstruction) → AreShaped (one_instruction.told_content instruction.content ∷ [])
-    → Shaped (one_instruction.messages_of exact input instruction)
-unfolding one_instruction.messages_of
-shaped-instruction exact input instruction h =
-    let cells : List Spelled = spell (null_error exact state.ProcessingInstruction) instruction.content in
-    let last : List Spelled = one_instruction.spell_end instruction.is_ended instruction.content in
-    shaped-spelled exact input [] (spell_silent (codes "<?") ++ (cells ++ last))
-    (cells-append (spell_silent (codes "<?")) (cells ++ last) (cells-silent (codes "<?"))
-    (cells-append cells last (cells-spell (null_error exact state.ProcessingInstruction) (λ c. are-where _ _) instruction.content) (cells-instruction_end instruction.is_ended instruction.content h)))
+  cells-instruction_end : (is_ended : Bool) (content : List ℕ) → AreShaped tags (one_instruction.told_content content ∷ []) → CellsShaped tags (one_instruction.spell_end is_ended content)
+  cells-instruction_end true content h = (h, tt)
+  cells-instruction_end false content h = tt
 
--- ---- tags without their `>`
+  shaped-instruction : (exact : Bool) (input : Input) (instruction : WrittenInstruction) → AreShaped tags (one_instruction.told_content instruction.content ∷ [])
+      → Shaped tags (one_instruction.messages_of exact input instruction)
+  unfolding one_instruction.messages_of
+  shaped-instruction exact input instruction h =
+      let cells : List Spelled = spell (null_error exact state.ProcessingInstruction) instruction.content in
+      let last : List Spelled = one_instruction.spell_end instruction.is_ended instruction.content in
+      shaped-spelled tags exact input [] (spell_silent (codes "<?") ++ (cells ++ last))
+      (cells-append tags (spell_silent (codes "<?")) (cells ++ last) (cells-silent tags (codes "<?"))
+      (cells-append tags cells last (cells-spell tags (null_error exact state.ProcessingInstruction) (λ c. are-where tags _ _) instruction.content) (cells-instruction_end instruction.is_ended instruction.content h)))
 
-module _ (rules : Rules) where
-  tell-open_run : (kind : AttrValueKind) (taken : ℕ) (run : List ℕ) → TellErrors (spell_open_run rules kind taken run)
-  unfolding spell_open_run
-  tell-open_run kind taken [] = tt
-  tell-open_run kind (suc taken) (c ∷ run) = (refl, tell-open_run kind taken run)
-  tell-open_run kind zero (c ∷ run) =
-      elim (c == ampersand) as (λ b. TellErrors (if b then (if is_none (deciding_in rules.references run) then spell_silent (c ∷ run)
-      else record { character = c; told = (found_in rules true run).errors } ∷ spell_open_run rules kind (found_in rules true run).taken run)
-      else record { character = c; told = value_error rules.exact kind c } ∷ spell_open_run rules kind zero run)) [
-        | true ↦ elim (is_none (deciding_in rules.references run)) as (λ b. TellErrors (if b then spell_silent (c ∷ run)
-            else record { character = c; told = (found_in rules true run).errors } ∷ spell_open_run rules kind (found_in rules true run).taken run)) [
-              | true ↦ tell-silent (c ∷ run)
-              | false ↦ (errors-reference rules true (held_in rules.references run) (deciding_in rules.references run), tell-open_run kind (found_in rules true run).taken run)
-            ]
-        | false ↦ (errors-value rules.exact kind c, tell-open_run kind zero run)
-      ]
+  -- ---- tags without their `>`
 
-  tell-open_attribute : (tag : WrittenTag) (last : Option OpenAttribute) → TellErrors (spell_open_attribute rules tag last)
-  tell-open_attribute tag None = tt
-  tell-open_attribute tag (Some a) =
-      tell-append (one_tag.spell_name rules.exact (end_place tag) (all_attributes rules tag) a.first a.name)
-      ((spell_silent a.space ++ spell_silent (equals_sign ∷ a.afterwards)) ++ (spell_silent (open_quote a.kind) ++ spell_open_run rules a.kind zero a.run))
-      (tell-attribute_name rules (end_place tag) (all_attributes rules tag) a.first a.name)
-      (tell-append (spell_silent a.space ++ spell_silent (equals_sign ∷ a.afterwards)) (spell_silent (open_quote a.kind) ++ spell_open_run rules a.kind zero a.run)
-      (tell-append (spell_silent a.space) (spell_silent (equals_sign ∷ a.afterwards)) (tell-silent a.space) (tell-silent (equals_sign ∷ a.afterwards)))
-      (tell-append (spell_silent (open_quote a.kind)) (spell_open_run rules a.kind zero a.run) (tell-silent (open_quote a.kind)) (tell-open_run a.kind zero a.run)))
-
-  shaped-open_tag : (input : Input) (tag : WrittenTag) (last : Option OpenAttribute) → Shaped (spelled_messages rules.exact input [] (spell_open_tag rules tag last))
-  shaped-open_tag input tag last =
-      shaped-spelled rules.exact input [] (spell_open_tag rules tag last)
-      (cells-errors (spell_open_tag rules tag last) (tell-append (body rules tag) (spell_open_attribute rules tag last) (tell-body rules tag) (tell-open_attribute tag last)))
-
-  errors-at_end : (taken : ℕ) (run : List ℕ) → AreErrors (errors_at_end rules taken run)
-  unfolding errors_at_end
-  errors-at_end taken [] = refl
-  errors-at_end (suc taken) (c ∷ run) = errors-at_end taken run
-  errors-at_end zero (c ∷ run) =
-      elim (c == ampersand) as (λ b. AreErrors (if b then (if is_none (deciding_in rules.references run) then (found_in rules true run).errors
-      else errors_at_end rules (found_in rules true run).taken run)
-      else errors_at_end rules zero run)) [
-        | true ↦ elim (is_none (deciding_in rules.references run)) as (λ b. AreErrors (if b then (found_in rules true run).errors else errors_at_end rules (found_in rules true run).taken run)) [
-          | true ↦ errors-reference rules true (held_in rules.references run) (deciding_in rules.references run)
-          | false ↦ errors-at_end (found_in rules true run).taken run
+  module _ (rules : Rules) where
+    tell-open_run : (kind : AttrValueKind) (taken : ℕ) (run : List ℕ) → TellErrors (spell_open_run rules kind taken run)
+    unfolding spell_open_run
+    tell-open_run kind taken [] = tt
+    tell-open_run kind (suc taken) (c ∷ run) = (refl, tell-open_run kind taken run)
+    tell-open_run kind zero (c ∷ run) =
+        elim (c == ampersand) as (λ b. TellErrors (if b then (if is_none (deciding_in rules.references run) then spell_silent (c ∷ run)
+        else record { character = c; told = (found_in rules true run).errors } ∷ spell_open_run rules kind (found_in rules true run).taken run)
+        else record { character = c; told = value_error rules.exact kind c } ∷ spell_open_run rules kind zero run)) [
+          | true ↦ elim (is_none (deciding_in rules.references run)) as (λ b. TellErrors (if b then spell_silent (c ∷ run)
+              else record { character = c; told = (found_in rules true run).errors } ∷ spell_open_run rules kind (found_in rules true run).taken run)) [
+                | true ↦ tell-silent (c ∷ run)
+                | false ↦ (errors-reference rules true (held_in rules.references run) (deciding_in rules.references run), tell-open_run kind (found_in rules true run).taken run)
+              ]
+          | false ↦ (errors-value rules.exact kind c, tell-open_run kind zero run)
         ]
-        | false ↦ errors-at_end zero run
-      ]
 
-  are-open_tag : (tag : WrittenTag) (last : Option OpenAttribute) → AreShaped (open_tag_at_end rules tag last)
-  are-open_tag tag None = refl
-  are-open_tag tag (Some a) = are-append (errors_at_end rules zero a.run) _ (are-errors (errors_at_end rules zero a.run) (errors-at_end zero a.run)) refl
+    pub tell-open_attribute : (tag : WrittenTag) (last : Option OpenAttribute) → TellErrors (spell_open_attribute rules tag last)
+    tell-open_attribute tag None = tt
+    tell-open_attribute tag (Some a) =
+        tell-append (one_tag.spell_name rules.exact (end_place tag) (all_attributes rules tag) a.first a.name)
+        ((spell_silent a.space ++ spell_silent (equals_sign ∷ a.afterwards)) ++ (spell_silent (open_quote a.kind) ++ spell_open_run rules a.kind zero a.run))
+        (tell-attribute_name rules (end_place tag) (all_attributes rules tag) a.first a.name)
+        (tell-append (spell_silent a.space ++ spell_silent (equals_sign ∷ a.afterwards)) (spell_silent (open_quote a.kind) ++ spell_open_run rules a.kind zero a.run)
+        (tell-append (spell_silent a.space) (spell_silent (equals_sign ∷ a.afterwards)) (tell-silent a.space) (tell-silent (equals_sign ∷ a.afterwards)))
+        (tell-append (spell_silent (open_quote a.kind)) (spell_open_run rules a.kind zero a.run) (tell-silent (open_quote a.kind)) (tell-open_run a.kind zero a.run)))
 
-  -- a whole tag
-  shaped-tag : (input : Input) (tag : WrittenTag) → one_tag.is_written tag ≡ true → has_no_return (one_tag.written tag) ≡ true → Shaped (spelled_messages rules.exact input [] (spelled rules tag))
-  shaped-tag input tag h r =
-      shaped-proper (spelled_messages rules.exact input [] (spelled rules tag)) (ap (list_all is_shaped) (proper-tag rules input tag) ∙ rw (shape-tag rules tag h r) refl)
+    shaped-open_tag : (input : Input) (tag : WrittenTag) (last : Option OpenAttribute) → Shaped tags (spelled_messages rules.exact input [] (spell_open_tag rules tag last))
+    shaped-open_tag input tag last =
+        shaped-spelled tags rules.exact input [] (spell_open_tag rules tag last)
+        (cells-errors (spell_open_tag rules tag last) (tell-append (body rules tag) (spell_open_attribute rules tag last) (tell-body rules tag) (tell-open_attribute tag last)))
 
--- ---- doctypes
-
--- tokens are, where they are but for errors
-tokens-proper : (here rest : List Told) → AreShaped (proper_tokens here ++ rest) → AreShaped here × AreShaped rest
-tokens-proper [] rest h = (refl, h)
-tokens-proper (token ∷ here) rest h =
-    let p = proper-parts token (proper_tokens here ++ rest) (ap (list_all is_shaped) (sym (append_assoc (proper_token token) (proper_tokens here) rest)) ∙ h) in
-    let q = tokens-proper here rest p.1 in
-    (rw (p.0) q.0, q.1)
-
--- and so are characters
-cells-proper : (cells : List Spelled) → AreShaped (proper_cells cells) → CellsShaped cells
-cells-proper [] h = tt
-cells-proper (here ∷ more) h =
-    let p = tokens-proper here.told (proper_cells more) h in
-    (p.0, cells-proper more p.1)
-
-cells-before_end : (cells : List Spelled) → CellsShaped cells → CellsShaped (before_end cells)
-unfolding before_end
-cells-before_end [] h = tt
-cells-before_end (here ∷ []) h = tt
-cells-before_end (here ∷ next ∷ more) h = (h.0, cells-before_end (next ∷ more) h.1)
-
-shape-doctype : (doctype : WrittenDoctype) → one_doctype.is_written doctype ≡ true → has_no_return (content_text doctype.content) ≡ true → is_doctype (told_content doctype.content) ≡ true
-unfolding one_doctype.is_written
-shape-doctype doctype h r =
-    let p = and_parts (bytes_eq (lower_case doctype.word) (codes "doctype")) (list_all is_white_space doctype.space && one_doctype.is_content doctype.content) h in
-    shape-content doctype.content (and_parts (list_all is_white_space doctype.space) (one_doctype.is_content doctype.content) p.1).1 r
-
-module _ (exact : Bool) (d : DoctypeOf) (h : is_doctype d ≡ true) where
-  cells-after_name : (afterwards : RestAfterName) → CellsShaped (spell_after_name exact d afterwards)
-  cells-after_name afterwards =
-      cells-proper (spell_after_name exact d afterwards) (ap (list_all is_shaped) (doctype-after_name exact d afterwards) ∙ rw h refl)
-
-  shaped-after_name : (input : Input) (before : List ℕ) (afterwards : RestAfterName) → Shaped (spelled_messages exact input before (before_end (spell_after_name exact d afterwards)))
-  shaped-after_name input before afterwards =
-      shaped-spelled exact input before (before_end (spell_after_name exact d afterwards)) (cells-before_end (spell_after_name exact d afterwards) (cells-after_name afterwards))
-
-  shaped-after_open_name : (input : Input) (before : List ℕ) (afterwards : RestAfterName) → Shaped (messages_after_open_name exact input before d afterwards)
-  unfolding messages_after_open_name
-  shaped-after_open_name input before (NoKeyword []) = shaped-after_name input before (NoKeyword [])
-  shaped-after_open_name input before (NoKeyword (c ∷ rest)) =
-      let M : List Message = on_line (line_after input (before ++ c ∷ [])) (error_in exact state.AfterDoctypeName c ∷ []) in
-      let N : List Message = spelled_messages exact input (before ++ held_of (c ∷ rest)) (spell (null_error exact state.BogusDoctype) (after_held_of (c ∷ rest))) in
-      let skipped : CellsShaped (spell (null_error exact state.BogusDoctype) (after_held_of (c ∷ rest))) = cells-spell (null_error exact state.BogusDoctype) (λ c. are-where _ _) (after_held_of (c ∷ rest)) in
-      elim (begins_doctype_keyword (c ∷ rest)) as (λ b. Shaped (if b then [] else if begins_doctype_keyword (c ∷ []) then M ++ N else spelled_messages exact input before (before_end (spell_after_name exact d (NoKeyword (c ∷ rest)))))) [
-        | true ↦ refl
-        | false ↦ elim (begins_doctype_keyword (c ∷ [])) as (λ b. Shaped (if b then M ++ N else spelled_messages exact input before (before_end (spell_after_name exact d (NoKeyword (c ∷ rest)))))) [
-          | true ↦ shaped-append M N refl (shaped-spelled exact input (before ++ held_of (c ∷ rest)) (spell (null_error exact state.BogusDoctype) (after_held_of (c ∷ rest))) skipped)
-          | false ↦ shaped-after_name input before (NoKeyword (c ∷ rest))
+    pub errors-at_end : (taken : ℕ) (run : List ℕ) → AreErrors (errors_at_end rules taken run)
+    unfolding errors_at_end
+    errors-at_end taken [] = refl
+    errors-at_end (suc taken) (c ∷ run) = errors-at_end taken run
+    errors-at_end zero (c ∷ run) =
+        elim (c == ampersand) as (λ b. AreErrors (if b then (if is_none (deciding_in rules.references run) then (found_in rules true run).errors
+        else errors_at_end rules (found_in rules true run).taken run)
+        else errors_at_end rules zero run)) [
+          | true ↦ elim (is_none (deciding_in rules.references run)) as (λ b. AreErrors (if b then (found_in rules true run).errors else errors_at_end rules (found_in rules true run).taken run)) [
+            | true ↦ errors-reference rules true (held_in rules.references run) (deciding_in rules.references run)
+            | false ↦ errors-at_end (found_in rules true run).taken run
+          ]
+          | false ↦ errors-at_end zero run
         ]
-      ]
-  shaped-after_open_name input before (PublicKeyword keyword space identifier) = shaped-after_name input before (PublicKeyword keyword space identifier)
-  shaped-after_open_name input before (SystemKeyword keyword space identifier) = shaped-after_name input before (SystemKeyword keyword space identifier)
 
-  are-doctype_end : (named : Option State) → AreShaped (doctype_end exact named d)
-  are-doctype_end None = rw h refl
-  are-doctype_end (Some named) = rw (shape-quirks d h) refl
+    are-open_tag : (tag : WrittenTag) (last : Option OpenAttribute) → AreShaped tags (open_tag_at_end rules tag last)
+    are-open_tag tag None = refl
+    are-open_tag tag (Some a) = are-append tags (errors_at_end rules zero a.run) _ (are-errors tags (errors_at_end rules zero a.run) (errors-at_end zero a.run)) refl
 
-  are-keyword_error : (afterwards : RestAfterName) → AreShaped (keyword_error_at_end exact afterwards)
-  are-keyword_error (NoKeyword []) = refl
-  are-keyword_error (NoKeyword (c ∷ rest)) =
-      elim (begins_doctype_keyword (c ∷ rest)) as (λ b. AreShaped (if b then error_in exact state.AfterDoctypeName c ∷ [] else [])) [
-        | true ↦ refl
-        | false ↦ refl
-      ]
-  are-keyword_error (PublicKeyword keyword space identifier) = refl
-  are-keyword_error (SystemKeyword keyword space identifier) = refl
+    -- a whole tag, where tags are let in
+    shaped-tag : (input : Input) (tag : WrittenTag) → tags ≡ true → one_tag.is_written tag ≡ true → has_no_return (one_tag.written tag) ≡ true → Shaped tags (spelled_messages rules.exact input [] (spelled rules tag))
+    shaped-tag input tag lets h r =
+        let M : List Message = spelled_messages rules.exact input [] (spelled rules tag) in
+        subst (λ b. Shaped b M) (sym lets) (shaped-proper true M (ap (list_all (is_shaped true)) (proper-tag rules input tag) ∙ rw (shape-tag rules tag h r) refl))
 
-shaped-open_doctype : (exact : Bool) (input : Input) (word space : List ℕ) (content : Content) → is_doctype (told_content content) ≡ true
-    → Shaped (open_doctype_messages exact input word space content)
-unfolding open_doctype_messages
-shaped-open_doctype exact input word space NoName h = shaped-spelled exact input [] (spell_silent (one_doctype.opening word space)) (cells-silent (one_doctype.opening word space))
-shaped-open_doctype exact input word space (Named first rest later afterwards) h =
-    shaped-append (spelled_messages exact input [] (spell_name exact word space first rest later)) _
-    (shaped-spelled exact input [] (spell_name exact word space first rest later) (cells-errors (spell_name exact word space first rest later) (tell-name exact word space first rest later)))
-    (shaped-after_open_name exact (told_after_name (flat_map name_bytes (first ∷ rest)) afterwards) h input (one_doctype.opening word space ++ (first ∷ rest ++ later)) afterwards)
+  -- ---- doctypes
 
-are-open_doctype : (exact : Bool) (space : List ℕ) (content : Content) → is_doctype (told_content content) ≡ true → AreShaped (open_doctype_at_end exact space content)
-are-open_doctype exact space NoName h = refl
-are-open_doctype exact space (Named first rest later afterwards) h =
-    are-append (keyword_error_at_end exact afterwards) _ (are-keyword_error exact (told_after_name (flat_map name_bytes (first ∷ rest)) afterwards) h afterwards)
-    (are-doctype_end exact (told_after_name (flat_map name_bytes (first ∷ rest)) afterwards) h (after_name_end later afterwards))
+  -- tokens are, where they are but for errors
+  tokens-proper : (here rest : List Told) → AreShaped tags (proper_tokens here ++ rest) → AreShaped tags here × AreShaped tags rest
+  tokens-proper [] rest h = (refl, h)
+  tokens-proper (token ∷ here) rest h =
+      let p = proper-parts tags token (proper_tokens here ++ rest) (ap (list_all (is_shaped tags)) (sym (append_assoc (proper_token token) (proper_tokens here) rest)) ∙ h) in
+      let q = tokens-proper here rest p.1 in
+      (rw (p.0) q.0, q.1)
 
--- the content of a doctype has no CR
-doctype-return : (doctype : WrittenDoctype) → has_no_return (one_doctype.written doctype) ≡ true → has_no_return (content_text doctype.content) ≡ true
-unfolding one_doctype.written
-doctype-return doctype r =
-    front-return (content_text doctype.content) (greater_than ∷ [])
-    (rest-return (one_doctype.opening doctype.word doctype.space) (content_text doctype.content ++ greater_than ∷ []) r)
+  -- and so are characters
+  cells-proper : (cells : List Spelled) → AreShaped tags (proper_cells cells) → CellsShaped tags cells
+  cells-proper [] h = tt
+  cells-proper (here ∷ more) h =
+      let p = tokens-proper here.told (proper_cells more) h in
+      (p.0, cells-proper more p.1)
 
--- ---- items
+  cells-before_end : (cells : List Spelled) → CellsShaped tags cells → CellsShaped tags (before_end cells)
+  unfolding before_end
+  cells-before_end [] h = tt
+  cells-before_end (here ∷ []) h = tt
+  cells-before_end (here ∷ next ∷ more) h = (h.0, cells-before_end (next ∷ more) h.1)
+
+  shape-doctype : (doctype : WrittenDoctype) → one_doctype.is_written doctype ≡ true → has_no_return (content_text doctype.content) ≡ true → is_doctype (told_content doctype.content) ≡ true
+  unfolding one_doctype.is_written
+  shape-doctype doctype h r =
+      let p = and_parts (bytes_eq (lower_case doctype.word) (codes "doctype")) (list_all is_white_space doctype.space && one_doctype.is_content doctype.content) h in
+      shape-content doctype.content (and_parts (list_all is_white_space doctype.space) (one_doctype.is_content doctype.content) p.1).1 r
+
+  module _ (exact : Bool) (d : DoctypeOf) (h : is_doctype d ≡ true) where
+    cells-after_name : (afterwards : RestAfterName) → CellsShaped tags (spell_after_name exact d afterwards)
+    cells-after_name afterwards =
+        cells-proper (spell_after_name exact d afterwards) (ap (list_all (is_shaped tags)) (doctype-after_name exact d afterwards) ∙ rw h refl)
+
+    shaped-after_name : (input : Input) (before : List ℕ) (afterwards : RestAfterName) → Shaped tags (spelled_messages exact input before (before_end (spell_after_name exact d afterwards)))
+    shaped-after_name input before afterwards =
+        shaped-spelled tags exact input before (before_end (spell_after_name exact d afterwards)) (cells-before_end (spell_after_name exact d afterwards) (cells-after_name afterwards))
+
+    shaped-after_open_name : (input : Input) (before : List ℕ) (afterwards : RestAfterName) → Shaped tags (messages_after_open_name exact input before d afterwards)
+    unfolding messages_after_open_name
+    shaped-after_open_name input before (NoKeyword []) = shaped-after_name input before (NoKeyword [])
+    shaped-after_open_name input before (NoKeyword (c ∷ rest)) =
+        let M : List Message = on_line (line_after input (before ++ c ∷ [])) (error_in exact state.AfterDoctypeName c ∷ []) in
+        let N : List Message = spelled_messages exact input (before ++ held_of (c ∷ rest)) (spell (null_error exact state.BogusDoctype) (after_held_of (c ∷ rest))) in
+        let skipped : CellsShaped tags (spell (null_error exact state.BogusDoctype) (after_held_of (c ∷ rest))) = cells-spell tags (null_error exact state.BogusDoctype) (λ c. are-where tags _ _) (after_held_of (c ∷ rest)) in
+        elim (begins_doctype_keyword (c ∷ rest)) as (λ b. Shaped tags (if b then [] else if begins_doctype_keyword (c ∷ []) then M ++ N else spelled_messages exact input before (before_end (spell_after_name exact d (NoKeyword (c ∷ rest)))))) [
+          | true ↦ refl
+          | false ↦ elim (begins_doctype_keyword (c ∷ [])) as (λ b. Shaped tags (if b then M ++ N else spelled_messages exact input before (before_end (spell_after_name exact d (NoKeyword (c ∷ rest)))))) [
+            | true ↦ shaped-append tags M N refl (shaped-spelled tags exact input (before ++ held_of (c ∷ rest)) (spell (null_error exact state.BogusDoctype) (after_held_of (c ∷ rest))) skipped)
+            | false ↦ shaped-after_name input before (NoKeyword (c ∷ rest))
+          ]
+        ]
+    shaped-after_open_name input before (PublicKeyword keyword space identifier) = shaped-after_name input before (PublicKeyword keyword space identifier)
+    shaped-after_open_name input before (SystemKeyword keyword space identifier) = shaped-after_name input before (SystemKeyword keyword space identifier)
+
+    are-doctype_end : (named : Option State) → AreShaped tags (doctype_end exact named d)
+    are-doctype_end None = rw h refl
+    are-doctype_end (Some named) = rw (shape-quirks d h) refl
+
+    are-keyword_error : (afterwards : RestAfterName) → AreShaped tags (keyword_error_at_end exact afterwards)
+    are-keyword_error (NoKeyword []) = refl
+    are-keyword_error (NoKeyword (c ∷ rest)) =
+        elim (begins_doctype_keyword (c ∷ rest)) as (λ b. AreShaped tags (if b then error_in exact state.AfterDoctypeName c ∷ [] else [])) [
+          | true ↦ refl
+          | false ↦ refl
+        ]
+    are-keyword_error (PublicKeyword keyword space identifier) = refl
+    are-keyword_error (SystemKeyword keyword space identifier) = refl
+
+  shaped-open_doctype : (exact : Bool) (input : Input) (word space : List ℕ) (content : Content) → is_doctype (told_content content) ≡ true
+      → Shaped tags (open_doctype_messages exact input word space content)
+  unfolding open_doctype_messages
+  shaped-open_doctype exact input word space NoName h = shaped-spelled tags exact input [] (spell_silent (one_doctype.opening word space)) (cells-silent tags (one_doctype.opening word space))
+  shaped-open_doctype exact input word space (Named first rest later afterwards) h =
+      shaped-append tags (spelled_messages exact input [] (spell_name exact word space first rest later)) _
+      (shaped-spelled tags exact input [] (spell_name exact word space first rest later) (cells-errors (spell_name exact word space first rest later) (tell-name exact word space first rest later)))
+      (shaped-after_open_name exact (told_after_name (flat_map name_bytes (first ∷ rest)) afterwards) h input (one_doctype.opening word space ++ (first ∷ rest ++ later)) afterwards)
+
+  are-open_doctype : (exact : Bool) (space : List ℕ) (content : Content) → is_doctype (told_content content) ≡ true → AreShaped tags (open_doctype_at_end exact space content)
+  are-open_doctype exact space NoName h = refl
+  are-open_doctype exact space (Named first rest later afterwards) h =
+      are-append tags (keyword_error_at_end exact afterwards) _ (are-keyword_error exact (told_after_name (flat_map name_bytes (first ∷ rest)) afterwards) h afterwards)
+      (are-doctype_end exact (told_after_name (flat_map name_bytes (first ∷ rest)) afterwards) h (after_name_end later afterwards))
+
+  -- the content of a doctype has no CR
+  doctype-return : (doctype : WrittenDoctype) → has_no_return (one_doctype.written doctype) ≡ true → has_no_return (content_text doctype.content) ≡ true
+  unfolding one_doctype.written
+  doctype-return doctype r =
+      front-return (content_text doctype.content) (greater_than ∷ [])
+      (rest-return (one_doctype.opening doctype.word doctype.space) (content_text doctype.content ++ greater_than ∷ []) r)
+
+  -- ---- items
+
+  module _ {X S H : Type 0} (means : Means X S H) (rules : Rules) where
+    -- an item tells such tokens, where tags are let in or it is none
+    pub shaped-item : (Z : List ℕ) (K : Start) (s : S) (Y : List ℕ) (M : List Message) (later : Start) (item : Item means rules Z K s Y M later)
+        → (is_tag_item means rules item ≡ true → tags ≡ true) → Shaped tags M
+    shaped-item Z K s Y M later (OneCharacter mode c one) lets =
+        shaped-spelled tags rules.exact K.input [] (record { character = c; told = text_told rules.exact mode c } ∷ []) (are-text_told tags rules.exact mode c, tt)
+    shaped-item Z K s Y M later (OneLone c one) lets = shaped-spelled tags rules.exact K.input [] (spell_lone rules.exact c) (cells-lone tags rules.exact c)
+    shaped-item Z K s Y M later (OneLoneBefore c rest one) lets = shaped-on_line tags (line_after K.input (less_than ∷ [])) (lone_told rules.exact c) refl
+    shaped-item Z K s Y M later (OneEmptyEnd one) lets = shaped-spelled tags rules.exact K.input [] (spell_empty_end rules.exact) (cells-empty_end tags rules.exact)
+    shaped-item Z K s Y M later (OneTag tag one) lets = shaped-tag rules K.input tag (lets refl) one.is_tag (no_return-read K.input Y (one_tag.written tag) one.text)
+    shaped-item Z K s Y M later (OneComment comment one) lets =
+        shaped-proper tags (one_comment.messages_of rules.exact K.input comment)
+        (ap (list_all (is_shaped tags)) (proper-comment rules.exact K.input comment)
+        ∙ rw (shape-comment (means.foreign s) comment one.is_comment (no_return-read K.input Y (one_comment.written comment) one.text)) refl)
+    shaped-item Z K s Y M later (OneDoctype doctype one) lets =
+        shaped-proper tags (one_doctype.messages_of rules.exact K.input doctype.word doctype.space doctype.content)
+        (ap (list_all (is_shaped tags)) (proper-doctype rules.exact K.input doctype.word doctype.space doctype.content)
+        ∙ rw (shape-doctype doctype one.is_doctype (doctype-return doctype (no_return-read K.input Y (one_doctype.written doctype) one.text))) refl)
+    shaped-item Z K s Y M later (OneInstruction instruction one ended) lets =
+        shaped-instruction rules.exact K.input instruction (are-instruction instruction one.is_instruction (no_return-read K.input Y (one_instruction.written instruction) one.text))
+    shaped-item Z K s Y M later (OneCdata cdata one ended) lets =
+        shaped-spelled tags rules.exact K.input (one_cdata.opening_text cdata.has_opening) (one_cdata.spell_cdata cdata) (cells-cdata tags cdata)
+    shaped-item Z K s Y M later (OneReferenceIn mode F one) lets = shaped-on_line tags (line_after K.input (ampersand ∷ [])) (told_of (InText mode) (found_in rules false F)) (are-found tags rules mode F)
+    shaped-item Z K s Y M later (OneRawCharacter raw name c one) lets =
+        shaped-spelled tags rules.exact K.input [] (record { character = c; told = raw_character rules.exact raw c } ∷ []) (are-raw_character tags rules.exact raw c, tt)
+    shaped-item Z K s Y M later (OneRawMark raw name item one) lets = shaped-spelled tags rules.exact K.input [] (spell_item rules.exact raw item) (cells-item tags rules.exact raw item)
+    shaped-item Z K s Y M later (OneRawLessThan raw name item c F one) lets =
+        shaped-spelled tags rules.exact K.input [] (spell_raw_less_than rules.exact raw item c) (cells-raw_less_than tags rules.exact raw item c)
+    shaped-item Z K s Y M later (OneRawLessThanBefore raw name item c F one) lets =
+        shaped-append tags (spelled_messages rules.exact K.input [] (spell_item rules.exact raw item)) _
+        (shaped-spelled tags rules.exact K.input [] (spell_item rules.exact raw item) (cells-item tags rules.exact raw item))
+        (shaped-on_line tags (line_after K.input (item_text raw item)) (carried raw item) (are-carried tags raw item))
+    shaped-item Z K s Y M later (OneRawEnd raw name tag one) lets = shaped-tag rules K.input tag (lets refl) one.is_tag (no_return-read K.input Y (one_tag.written tag) one.text)
+
+    pub shaped-unfinished : (K : Start) (s : S) (Y : List ℕ) (M E : List Message) → Unfinished means rules K s Y M E → Shaped tags M × Shaped tags E
+    shaped-unfinished K s Y M E (OpenLessThan starts text) = (refl, refl)
+    shaped-unfinished K s Y M E (OpenSolidus starts text) = (refl, refl)
+    shaped-unfinished K s Y M E (OpenTag tag last one) =
+        (shaped-open_tag rules K.input tag last, shaped-on_line tags (end_line K.input Y) (open_tag_at_end rules tag last) (are-open_tag rules tag last))
+    shaped-unfinished K s Y M E (OpenRaw raw name item one) = (
+      shaped-spelled tags rules.exact K.input [] (spell_item rules.exact raw item) (cells-item tags rules.exact raw item),
+      shaped-on_line tags (end_line K.input Y) (carried raw item ++ raw_end_error rules.exact (raw_after_item raw item) ++ End ∷ [])
+          (are-append tags (carried raw item ++ raw_end_error rules.exact (raw_after_item raw item)) (End ∷ [])
+          (are-append tags (carried raw item) (raw_end_error rules.exact (raw_after_item raw item)) (are-carried tags raw item) (are-raw_error tags rules.exact (raw_after_item raw item))) refl),
+    )
+    shaped-unfinished K s Y M E (OpenSwitch dashes name first letters one) = (
+      shaped-spelled tags rules.exact K.input [] (spell_open_switch first letters) (cells-open_switch tags first letters),
+      shaped-on_line tags (end_line K.input Y) (raw_end_error rules.exact (DoubleEscaped NoDash) ++ End ∷ []) (are-raw_end tags rules.exact (DoubleEscaped NoDash)),
+    )
+    shaped-unfinished K s Y M E (OpenRawEnd raw name tag last one) =
+        (shaped-open_tag rules K.input tag last, shaped-on_line tags (end_line K.input Y) (open_tag_at_end rules tag last) (are-open_tag rules tag last))
+    shaped-unfinished K s Y M E (OpenReference mode F one) = (refl, shaped-on_line tags (end_line K.input Y) (reference_at_end rules mode F) (are-reference_end tags rules mode F))
+    shaped-unfinished K s Y M E (OpenInstruction instruction one unended) =
+        let told : AreShaped tags (one_instruction.told_content instruction.content ∷ []) =
+        are-instruction instruction one.is_instruction (no_return-read K.input Y (one_instruction.written instruction) one.text) in (
+          shaped-instruction rules.exact K.input instruction told,
+          shaped-on_line tags (end_line K.input Y) (one_instruction.told_at_end rules.exact false instruction.content) (are-append tags (one_instruction.told_content instruction.content ∷ []) (End ∷ []) told refl),
+        )
+    shaped-unfinished K s Y M E (OpenBogus content one) =
+        let r = rest-return (codes "</") content (no_return-read K.input Y (codes "</" ++ content) one.text) in (
+          shaped-spelled tags rules.exact K.input [] (spell_open_bogus rules.exact content)
+              (cells-errors (spell_open_bogus rules.exact content) (tell-append (spell_silent (codes "</")) (one_comment.spell_odd rules.exact content) (tell-silent (codes "</")) (tell-odd rules.exact content))),
+          shaped-on_line tags (end_line K.input Y) (Comment (flat_map value_bytes content) ∷ End ∷ []) (rw (shape-bogus content one.within r) refl),
+        )
+    shaped-unfinished K s Y M E (OpenKeyword held one) =
+        (refl, shaped-on_line tags (end_line K.input Y) (keyword_at_end rules.exact held) (rw (keyword-comment (means.foreign s) held one.undecided) refl))
+    shaped-unfinished K s Y M E (OpenBogusDeclaration content one) =
+        let r = rest-return (codes "<!") content (no_return-read K.input Y (codes "<!" ++ content) one.text) in (
+          shaped-append tags (on_line (line_after K.input (codes "<!")) (error_in rules.exact state.MarkupDeclarationOpen exclamation_mark ∷ [])) (spelled_messages rules.exact K.input (codes "<!") (spell_bogus rules.exact content)) refl
+              (shaped-spelled tags rules.exact K.input (codes "<!") (spell_bogus rules.exact content) (cells-errors (spell_bogus rules.exact content) (tell-bogus rules.exact content))),
+          shaped-on_line tags (end_line K.input Y) (Comment (flat_map value_bytes content) ∷ End ∷ []) (rw (shape-bogus content one.within r) refl),
+        )
+    shaped-unfinished K s Y M E (OpenDoctype doctype one) =
+        let r = rest-return (one_doctype.opening doctype.word doctype.space) (content_text doctype.content) (no_return-read K.input Y (one_doctype.opening doctype.word doctype.space ++ content_text doctype.content) one.text) in
+        let h : is_doctype (told_content doctype.content) ≡ true = shape-doctype doctype one.is_doctype r in (
+          shaped-open_doctype rules.exact K.input doctype.word doctype.space doctype.content h,
+          shaped-on_line tags (end_line K.input Y) (open_doctype_at_end rules.exact doctype.space doctype.content) (are-open_doctype rules.exact doctype.space doctype.content h),
+        )
+    shaped-unfinished K s Y M E (OpenCdata cdata one unended) = (
+      shaped-spelled tags rules.exact K.input (one_cdata.opening_text cdata.has_opening) (one_cdata.spell_cdata cdata) (cells-cdata tags cdata),
+      shaped-on_line tags (end_line K.input Y) (one_cdata.told_at_end rules.exact false cdata.last) (are-append tags (texts cdata.last) (end_error_in rules.exact state.CdataSection ∷ End ∷ []) (are-texts tags cdata.last) refl),
+    )
+    shaped-unfinished K s Y M E (OpenComment content one) =
+        let r = rest-return (codes "<!--") content (no_return-read K.input Y (codes "<!--" ++ content) one.text) in (
+          shaped-spelled tags rules.exact K.input [] (spell_open_comment rules.exact content)
+              (cells-errors (spell_open_comment rules.exact content)
+              (tell-append (spell_silent (codes "<!--")) (one_comment.spell_content rules.exact [] content) (tell-silent (codes "<!--")) (tell-content rules.exact [] content))),
+          shaped-on_line tags (end_line K.input Y) (open_comment_at_end rules.exact content) (rw (cut-comment (flat_map value_bytes content) (content-comment content one.is_content r)) refl),
+        )
 
 module _ {X S H : Type 0} (means : Means X S H) (rules : Rules) where
-  shaped-item : (Z : List ℕ) (K : Start) (s : S) (Y : List ℕ) (M : List Message) (later : Start) → Item means rules Z K s Y M later → Shaped M
-  shaped-item Z K s Y M later (OneCharacter mode c one) =
-      shaped-spelled rules.exact K.input [] (record { character = c; told = text_told rules.exact mode c } ∷ []) (are-text_told rules.exact mode c, tt)
-  shaped-item Z K s Y M later (OneLone c one) = shaped-spelled rules.exact K.input [] (spell_lone rules.exact c) (cells-lone rules.exact c)
-  shaped-item Z K s Y M later (OneLoneBefore c rest one) = shaped-on_line (line_after K.input (less_than ∷ [])) (lone_told rules.exact c) refl
-  shaped-item Z K s Y M later (OneEmptyEnd one) = shaped-spelled rules.exact K.input [] (spell_empty_end rules.exact) (cells-empty_end rules.exact)
-  shaped-item Z K s Y M later (OneTag tag one) = shaped-tag rules K.input tag one.is_tag (no_return-read K.input Y (one_tag.written tag) one.text)
-  shaped-item Z K s Y M later (OneComment comment one) =
-      shaped-proper (one_comment.messages_of rules.exact K.input comment)
-      (ap (list_all is_shaped) (proper-comment rules.exact K.input comment)
-      ∙ rw (shape-comment (means.foreign s) comment one.is_comment (no_return-read K.input Y (one_comment.written comment) one.text)) refl)
-  shaped-item Z K s Y M later (OneDoctype doctype one) =
-      shaped-proper (one_doctype.messages_of rules.exact K.input doctype.word doctype.space doctype.content)
-      (ap (list_all is_shaped) (proper-doctype rules.exact K.input doctype.word doctype.space doctype.content)
-      ∙ rw (shape-doctype doctype one.is_doctype (doctype-return doctype (no_return-read K.input Y (one_doctype.written doctype) one.text))) refl)
-  shaped-item Z K s Y M later (OneInstruction instruction one ended) =
-      shaped-instruction rules.exact K.input instruction (are-instruction instruction one.is_instruction (no_return-read K.input Y (one_instruction.written instruction) one.text))
-  shaped-item Z K s Y M later (OneCdata cdata one ended) =
-      shaped-spelled rules.exact K.input (one_cdata.opening_text cdata.has_opening) (one_cdata.spell_cdata cdata) (cells-cdata cdata)
-  shaped-item Z K s Y M later (OneReferenceIn mode F one) = shaped-on_line (line_after K.input (ampersand ∷ [])) (told_of (InText mode) (found_in rules false F)) (are-found rules mode F)
-  shaped-item Z K s Y M later (OneRawCharacter raw name c one) =
-      shaped-spelled rules.exact K.input [] (record { character = c; told = raw_character rules.exact raw c } ∷ []) (are-raw_character rules.exact raw c, tt)
-  shaped-item Z K s Y M later (OneRawMark raw name item one) = shaped-spelled rules.exact K.input [] (spell_item rules.exact raw item) (cells-item rules.exact raw item)
-  shaped-item Z K s Y M later (OneRawLessThan raw name item c F one) =
-      shaped-spelled rules.exact K.input [] (spell_raw_less_than rules.exact raw item c) (cells-raw_less_than rules.exact raw item c)
-  shaped-item Z K s Y M later (OneRawLessThanBefore raw name item c F one) =
-      shaped-append (spelled_messages rules.exact K.input [] (spell_item rules.exact raw item)) _
-      (shaped-spelled rules.exact K.input [] (spell_item rules.exact raw item) (cells-item rules.exact raw item))
-      (shaped-on_line (line_after K.input (item_text raw item)) (carried raw item) (are-carried raw item))
-  shaped-item Z K s Y M later (OneRawEnd raw name tag one) = shaped-tag rules K.input tag one.is_tag (no_return-read K.input Y (one_tag.written tag) one.text)
-
-  shaped-unfinished : (K : Start) (s : S) (Y : List ℕ) (M E : List Message) → Unfinished means rules K s Y M E → Shaped M × Shaped E
-  shaped-unfinished K s Y M E (OpenLessThan starts text) = (refl, refl)
-  shaped-unfinished K s Y M E (OpenSolidus starts text) = (refl, refl)
-  shaped-unfinished K s Y M E (OpenTag tag last one) =
-      (shaped-open_tag rules K.input tag last, shaped-on_line (end_line K.input Y) (open_tag_at_end rules tag last) (are-open_tag rules tag last))
-  shaped-unfinished K s Y M E (OpenRaw raw name item one) = (
-    shaped-spelled rules.exact K.input [] (spell_item rules.exact raw item) (cells-item rules.exact raw item),
-    shaped-on_line (end_line K.input Y) (carried raw item ++ raw_end_error rules.exact (raw_after_item raw item) ++ End ∷ [])
-        (are-append (carried raw item ++ raw_end_error rules.exact (raw_after_item raw item)) (End ∷ [])
-        (are-append (carried raw item) (raw_end_error rules.exact (raw_after_item raw item)) (are-carried raw item) (are-raw_error rules.exact (raw_after_item raw item))) refl),
-  )
-  shaped-unfinished K s Y M E (OpenSwitch dashes name first letters one) = (
-    shaped-spelled rules.exact K.input [] (spell_open_switch first letters) (cells-open_switch first letters),
-    shaped-on_line (end_line K.input Y) (raw_end_error rules.exact (DoubleEscaped NoDash) ++ End ∷ []) (are-raw_end rules.exact (DoubleEscaped NoDash)),
-  )
-  shaped-unfinished K s Y M E (OpenRawEnd raw name tag last one) =
-      (shaped-open_tag rules K.input tag last, shaped-on_line (end_line K.input Y) (open_tag_at_end rules tag last) (are-open_tag rules tag last))
-  shaped-unfinished K s Y M E (OpenReference mode F one) = (refl, shaped-on_line (end_line K.input Y) (reference_at_end rules mode F) (are-reference_end rules mode F))
-  shaped-unfinished K s Y M E (OpenInstruction instruction one unended) =
-      let told : AreShaped (one_instruction.told_content instruction.content ∷ []) =
-      are-instruction instruction one.is_instruction (no_return-read K.input Y (one_instruction.written instruction) one.text) in (
-        shaped-instruction rules.exact K.input instruction told,
-        shaped-on_line (end_line K.input Y) (one_instruction.told_at_end rules.exact false instruction.content) (are-append (one_instruction.told_content instruction.content ∷ []) (End ∷ []) told refl),
-      )
-  shaped-unfinished K s Y M E (OpenBogus content one) =
-      let r = rest-return (codes "</") content (no_return-read K.input Y (codes "</" ++ content) one.text) in (
-        shaped-spelled rules.exact K.input [] (spell_open_bogus rules.exact content)
-            (cells-errors (spell_open_bogus rules.exact content) (tell-append (spell_silent (codes "</")) (one_comment.spell_odd rules.exact content) (tell-silent (codes "</")) (tell-odd rules.exact content))),
-        shaped-on_line (end_line K.input Y) (Comment (flat_map value_bytes content) ∷ End ∷ []) (rw (shape-bogus content one.within r) refl),
-      )
-  shaped-unfinished K s Y M E (OpenKeyword held one) =
-      (refl, shaped-on_line (end_line K.input Y) (keyword_at_end rules.exact held) (rw (keyword-comment (means.foreign s) held one.undecided) refl))
-  shaped-unfinished K s Y M E (OpenBogusDeclaration content one) =
-      let r = rest-return (codes "<!") content (no_return-read K.input Y (codes "<!" ++ content) one.text) in (
-        shaped-append (on_line (line_after K.input (codes "<!")) (error_in rules.exact state.MarkupDeclarationOpen exclamation_mark ∷ [])) (spelled_messages rules.exact K.input (codes "<!") (spell_bogus rules.exact content)) refl
-            (shaped-spelled rules.exact K.input (codes "<!") (spell_bogus rules.exact content) (cells-errors (spell_bogus rules.exact content) (tell-bogus rules.exact content))),
-        shaped-on_line (end_line K.input Y) (Comment (flat_map value_bytes content) ∷ End ∷ []) (rw (shape-bogus content one.within r) refl),
-      )
-  shaped-unfinished K s Y M E (OpenDoctype doctype one) =
-      let r = rest-return (one_doctype.opening doctype.word doctype.space) (content_text doctype.content) (no_return-read K.input Y (one_doctype.opening doctype.word doctype.space ++ content_text doctype.content) one.text) in
-      let h : is_doctype (told_content doctype.content) ≡ true = shape-doctype doctype one.is_doctype r in (
-        shaped-open_doctype rules.exact K.input doctype.word doctype.space doctype.content h,
-        shaped-on_line (end_line K.input Y) (open_doctype_at_end rules.exact doctype.space doctype.content) (are-open_doctype rules.exact doctype.space doctype.content h),
-      )
-  shaped-unfinished K s Y M E (OpenCdata cdata one unended) = (
-    shaped-spelled rules.exact K.input (one_cdata.opening_text cdata.has_opening) (one_cdata.spell_cdata cdata) (cells-cdata cdata),
-    shaped-on_line (end_line K.input Y) (one_cdata.told_at_end rules.exact false cdata.last) (are-append (texts cdata.last) (end_error_in rules.exact state.CdataSection ∷ End ∷ []) (are-texts cdata.last) refl),
-  )
-  shaped-unfinished K s Y M E (OpenComment content one) =
-      let r = rest-return (codes "<!--") content (no_return-read K.input Y (codes "<!--" ++ content) one.text) in (
-        shaped-spelled rules.exact K.input [] (spell_open_comment rules.exact content)
-            (cells-errors (spell_open_comment rules.exact content)
-            (tell-append (spell_silent (codes "<!--")) (one_comment.spell_content rules.exact [] content) (tell-silent (codes "<!--")) (tell-content rules.exact [] content))),
-        shaped-on_line (end_line K.input Y) (open_comment_at_end rules.exact content) (rw (cut-comment (flat_map value_bytes content) (content-comment content one.is_content r)) refl),
-      )
-
-  shaped-items : (K : Start) (s : S) (X : List ℕ) (M E : List Message) → Items means rules K s X M E → Shaped M × Shaped E
-  shaped-items _ _ _ _ _ (Nothing K s X mode starts none) = (refl, shaped-on_line (end_line K.input X) (nothing_at_end rules.exact mode) (are-nothing rules.exact mode))
+  shaped-items : (K : Start) (s : S) (X : List ℕ) (M E : List Message) → Items means rules K s X M E → Shaped true M × Shaped true E
+  shaped-items _ _ _ _ _ (Nothing K s X mode starts none) = (refl, shaped-on_line true (end_line K.input X) (nothing_at_end rules.exact mode) (are-nothing true rules.exact mode))
   shaped-items _ _ _ _ _ (Then K s Y Z M N E later one rest) =
       let more = shaped-items later (stepped means.step s M) Z N E rest in
-      (shaped-append M N (shaped-item Z K s Y M later one) more.0, more.1)
-  shaped-items _ _ _ _ _ (Last K s X M E one) = shaped-unfinished K s X M E one
+      (shaped-append true M N (shaped-item true means rules Z K s Y M later one (λ e. refl)) more.0, more.1)
+  shaped-items _ _ _ _ _ (Last K s X M E one) = shaped-unfinished true means rules K s X M E one
 
-  shaped-reading : (K : Start) (s : S) (X : List ℕ) → IsTable rules.references → nothing_open K.opened ≡ true → Shaped (all_messages means rules K s X)
+  shaped-reading : (K : Start) (s : S) (X : List ℕ) → IsTable rules.references → nothing_open K.opened ≡ true → Shaped true (all_messages means rules K s X)
   shaped-reading K s X table clean =
       let composed : Composed means rules K s X = all-composed means rules K s X clean in
       let shaped = shaped-items K s X composed.tells composed.ends composed.items in
-      ap (list_all (λ (m : Message). is_shaped m.token)) (reading-items means rules K s X composed.tells composed.ends table composed.items)
-      ∙ shaped-append composed.tells composed.ends shaped.0 shaped.1
+      ap (list_all (λ (m : Message). is_shaped true m.token)) (reading-items means rules K s X composed.tells composed.ends table composed.items)
+      ∙ shaped-append true composed.tells composed.ends shaped.0 shaped.1
 
 -- ---- each token
 
@@ -416,7 +428,7 @@ unfolding IsDistinct are_distinct
 distinct-all [] h = refl
 distinct-all (a ∷ attributes) h = rw (distinct-others a attributes h.0) (distinct-all attributes h.1)
 
-can-write : (token : Told) → IsLawful token → is_shaped token ≡ true → can_write token ≡ true
+can-write : (token : Told) → IsLawful token → is_shaped true token ≡ true → can_write token ≡ true
 unfolding can_write
 can-write (Text text) lawful h = lawful
 can-write Null lawful h = refl
@@ -429,10 +441,10 @@ can-write (Instruction content) lawful h = h
 can-write (Doctype d) lawful h = h
 can-write End lawful h = refl
 
-can-write_all : (M : List Message) → All (λ (m : Message). IsLawful m.token) M → Shaped M → All (λ (m : Message). can_write m.token ≡ true) M
+can-write_all : (M : List Message) → All (λ (m : Message). IsLawful m.token) M → Shaped true M → All (λ (m : Message). can_write m.token ≡ true) M
 can-write_all [] lawful h = All-nil (λ (m : Message). can_write m.token ≡ true)
 can-write_all (m ∷ M) lawful h =
-    let p = and_parts (is_shaped m.token) (list_all (λ (m : Message). is_shaped m.token) M) h in
+    let p = and_parts (is_shaped true m.token) (list_all (λ (m : Message). is_shaped true m.token) M) h in
     All-cons (λ (m : Message). can_write m.token ≡ true) m M (can-write m.token (All-head (λ (m : Message). IsLawful m.token) m M lawful) p.0)
     (can-write_all M (All-tail (λ (m : Message). IsLawful m.token) m M lawful) p.1)
 
@@ -441,10 +453,10 @@ pub each-token : {X S H : Type 0} (means : Means X S H) (rules : Rules) (K : Sta
 each-token means rules K s text table clean =
     can-write_all (all_messages means rules K s text) (lawful-reading means.step means.reply means.foreign rules K s text table clean) (shaped-reading means rules K s text table clean)
 
-can-write_list : (M : List Message) → All (λ (m : Message). IsLawful m.token) M → Shaped M → list_all can_write (tokens_of M) ≡ true
+can-write_list : (M : List Message) → All (λ (m : Message). IsLawful m.token) M → Shaped true M → list_all can_write (tokens_of M) ≡ true
 can-write_list [] lawful h = refl
 can-write_list (m ∷ M) lawful h =
-    let p = and_parts (is_shaped m.token) (list_all (λ (m : Message). is_shaped m.token) M) h in
+    let p = and_parts (is_shaped true m.token) (list_all (λ (m : Message). is_shaped true m.token) M) h in
     rw (can-write m.token (All-head (λ (m : Message). IsLawful m.token) m M lawful) p.0) (can-write_list M (All-tail (λ (m : Message). IsLawful m.token) m M lawful) p.1)
 
 -- the same, of their list

@@ -24,3 +24,6 @@ pub mod RawBack
 pub mod RcdataBack
 pub mod RawKinds
 pub mod PagesBack
+pub mod RawWalks
+pub mod PageTells
+pub mod PageBack

@@ -244,11 +244,11 @@ normalised-raw input (c ∷ text) a m h = rw (a, m) (with_line_feeds-none (c ∷
 same-bytes : (text : List ℕ) → bytes_eq text text ≡ true
 same-bytes text = (bytes_decides text text).1 refl
 
-named-ends : (name : List ℕ) → list_all (is_between 0x0061 0x007A) name ≡ true → is_tag_name name ≡ true → (raw : Raw) → is_double_escaped (kind_of raw) ≡ false
-    → one_tag.is_written (named EndTag name []) ≡ true → can_end_with name raw (Some (named EndTag name [])) ≡ true
+pub named-ends : (name : List ℕ) (parts : List one_tag.Part) → list_all (is_between 0x0061 0x007A) name ≡ true → is_tag_name name ≡ true → (raw : Raw) → is_double_escaped (kind_of raw) ≡ false
+    → one_tag.is_written (named EndTag name parts) ≡ true → can_end_with name raw (Some (named EndTag name parts)) ≡ true
 unfolding is_tag_name
-named-ends [] letters tag raw single written = absurd (false≢true tag)
-named-ends (c ∷ name) letters tag raw single written =
+named-ends [] parts letters tag raw single written = absurd (false≢true tag)
+named-ends (c ∷ name) parts letters tag raw single written =
     let p = and_parts (is_between 0x0061 0x007A c) (list_all (is_between 0x0061 0x007A) name) letters in
     rw (single, letters-name name p.1, lower-name (c ∷ name) letters, same-bytes (c ∷ name)) written
 
@@ -267,7 +267,7 @@ end-tag rules name n =
     record {
       text = sym (ap one_tag.written same) ∙ back.text ∙ ap end_text n.same;
       told = sym (ap (tag_told rules) same) ∙ back.told;
-      ends = λ raw single. named-ends name n.letters n.tag raw single (sym (ap one_tag.is_written same) ∙ back.is_written);
+      ends = λ raw single. named-ends name [] n.letters n.tag raw single (sym (ap one_tag.is_written same) ∙ back.is_written);
       no_return = ap (λ cs. has_no_return (cs ++ codes ">")) (sym n.same) ∙ back.no_return;
     }
 

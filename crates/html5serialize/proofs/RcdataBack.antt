@@ -56,7 +56,7 @@ no_break-escaped input c =
     each_character (λ d. (input_after input (escaped d)).after_carriage_return ≡ false) refl refl refl refl refl refl
     (λ d p. ap (λ Y. (input_after input Y).after_carriage_return) (escaped-plain d p) ∙ p.no_return) c
 
-no_mark-after : (input : Input) (X : List ℕ) → input.drops_byte_order_mark ≡ false → (input_after input X).drops_byte_order_mark ≡ false
+pub no_mark-after : (input : Input) (X : List ℕ) → input.drops_byte_order_mark ≡ false → (input_after input X).drops_byte_order_mark ≡ false
 unfolding input_after
 no_mark-after input [] h = h
 no_mark-after input (c ∷ X) h = refl
@@ -66,13 +66,13 @@ is_nil [] = true
 is_nil (token ∷ tokens) = false
 
 module _ {X S H : Type 0} (means : Means X S H) (rules : Rules) (name : List ℕ) where
-  abbrev here : Mode
+  abbrev pub here : Mode
   here = RawText Rcdata name
 
   -- where RCDATA is read
-  record IsWithin (K : Start) : Type 0 where
-    starts : K.opened ≡ Between here
-    no_break : K.input.after_carriage_return ≡ false
+  pub record IsWithin (K : Start) : Type 0 where
+    pub starts : K.opened ≡ Between here
+    pub no_break : K.input.after_carriage_return ≡ false
 
   -- a character tells itself, where it is read as its own reference or as it stands
   abbrev TellsItself : ℕ → Type 0
@@ -132,7 +132,7 @@ module _ {X S H : Type 0} (means : Means X S H) (rules : Rules) (name : List ℕ
   none-told K s starts = trace-by_itself means rules K s [] [] (Between here) K.last_start_tag (rw starts refl)
 
   -- a text that is escaped tells its characters
-  text-told : (K : Start) (s : S) (text : List ℕ) → IsWithin K → has_no_null text ≡ true
+  pub text-told : (K : Start) (s : S) (text : List ℕ) → IsWithin K → has_no_null text ≡ true
       → TellsByItself means rules K s (escaped_text text) (text_messages rules.exact K.input text) (start_beyond K (escaped_text text) (Between here) K.last_start_tag)
   unfolding text_messages
   text-told K s [] within nulls = none-told K s within.starts

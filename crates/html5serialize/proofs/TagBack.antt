@@ -135,10 +135,10 @@ are-back (a ∷ attributes) texts h =
 abbrev parts_with : AttributeOf → List Part
 parts_with a = Blank space ∷ attribute_part (chars a.name.local) (escaped_text (chars a.value)) ∷ []
 
-abbrev parts_of : List AttributeOf → List Part
+abbrev pub parts_of : List AttributeOf → List Part
 parts_of attributes = flat_map parts_with attributes
 
-abbrev end_parts : Bool → List Part
+abbrev pub end_parts : Bool → List Part
 end_parts self_closing = if self_closing then Solidus ∷ [] else []
 
 abbrev pub named : TagKind → List ℕ → List Part → WrittenTag

@@ -196,7 +196,7 @@ shape-tag_name : (first : ℕ) (rest : List ℕ) → is_letter first ≡ true �
 unfolding is_tag_name
 shape-tag_name first rest l h r = rw (letter-bytes first l, letter-lower first l) (bytes-name rest h r)
 
-pub shape-tag : (rules : Rules) (tag : WrittenTag) → is_written tag ≡ true → has_no_return (written tag) ≡ true → is_shaped (Tag (tag_told rules tag)) ≡ true
+pub shape-tag : (rules : Rules) (tag : WrittenTag) → is_written tag ≡ true → has_no_return (written tag) ≡ true → is_shaped true (Tag (tag_told rules tag)) ≡ true
 unfolding is_written written
 shape-tag rules tag h r =
     let p = and_parts (is_letter tag.first) (list_all in_tag_name tag.rest && can_follow InName tag.parts) h in

@@ -6,3 +6,4 @@ pub mod ReadBack
 pub mod RawTexts
 pub mod RawRefusals
 pub mod Pages
+pub mod Page

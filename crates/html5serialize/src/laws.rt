@@ -9,6 +9,9 @@ ghost use Rattle.html5ever_interface.specs.Token.Told.{End};
 ghost use Rattle.html5ever_interface.specs.declared.states.RawKind.{RawKind};
 ghost use Rattle.html5reading.specs.Reading.{all_messages};
 ghost use Rattle.html5reading.specs.Start.{Start, Rules, nothing_open};
+ghost use Rattle.html5reading.specs.Start.Mode.{Data};
+ghost use Rattle.html5reading.specs.Start.Open.{Between};
+ghost use Rattle.html5serialize.specs.Page.{AsksAsStandard, page_text};
 ghost use Rattle.html5serialize.specs.Pages.{Part, AsksForParts, PartsHaveTexts, ReadsParts, can_write_part, part_read_back, parts_text};
 ghost use Rattle.html5serialize.specs.RawRefusals.{raw_refusal};
 ghost use Rattle.html5serialize.specs.RawTexts.{IsOpenRaw, ReadsRaw, can_write_raw};
@@ -74,6 +77,20 @@ pub fn pages<S: TokenSink<Token<A>>, A: Allocator>()
     ensures alone { (rules : Rules) (K : Start) (s : S.State) (parts : List Part) → IsTable rules.references → IsOpen K
         → PartsHaveTexts parts → list_all can_write_part parts ≡ true → AsksForParts {S = S.State} S.means.reply parts
         → proper (all_messages S.means rules K s (parts_text parts)) ≡ flat_map part_read_back parts ++ End ∷ [] }
+{}
+
+/// Take the tokens that a text tells, read from Data on, to a sink that asks after each tag for what the
+/// standard's elements ask for, and write them as a page: raw text in `script`, `style`, `textarea` and others
+/// as raw text, up to its end tag, and what stands after `plaintext` as plain text. Another sink that asks so,
+/// by rules of its own, is told exactly these tokens and the end by that page, but for errors, whatever the
+/// text was.
+pub fn page_read_again<S: TokenSink<Token<A>>, R: TokenSink<Token<A>>, A: Allocator>()
+    ensures { (source rules : Rules) (K later : Start) (s : S.State) (t : R.State) (text : List ℕ)
+        → IsTable source.references → IsTable rules.references → K.opened ≡ Between Data → IsOpen later
+        → AsksAsStandard {S = S.State} S.means.reply → AsksAsStandard {S = R.State} R.means.reply
+        → let tokens : List Told = tokens_of (all_messages S.means source K s text) in
+        HaveTexts tokens
+        → proper (all_messages R.means rules later t (page_text tokens)) ≡ flat_map read_back tokens ++ End ∷ [] }
 {}
 
 /// Raw text is refused for some reason exactly where it can't be written.

@@ -160,7 +160,7 @@ pub fn raw_text_refusal(kind: RawKind, name: &str, text: &str) -> Option<RawText
 }
 
 // Appends a text as it is.
-fn push_as_it_is<A: Allocator>(out: &mut String<A>, text: &str) -> Result<(), AllocError>
+pub fn push_as_it_is<A: Allocator>(out: &mut String<A>, text: &str) -> Result<(), AllocError>
     ensures { OnOk result (string_bytes out.new ≡ string_bytes out.old ++ encode_utf8_all (chars text.now)) }
 {
     out.push_str(text)?;

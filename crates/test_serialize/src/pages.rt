@@ -1,0 +1,301 @@
+//! Whole pages that are written token by token, with raw text and plain text, and read again.
+ghost use Rattle.std.specs.Prelude.{◌≡◌, true};
+ghost use Rattle.html5ever_interface.specs.States.{is_text_state};
+
+use html5entities::standard_references;
+use html5ever::TokenizerError;
+use html5ever::tokenizer::collect::Collector;
+use html5ever::tokenizer::{NamedReferences, TokenizerOpts, read_whole};
+use html5ever_interface::interface::token::{Tag, TagKind, Token};
+use html5ever_interface::states::{RawKind, State};
+use html5serialize::{PageWriter, Place};
+use markup5ever::interface::LocalName;
+use std::alloc::{AllocError, Allocator, Global};
+use std::process::Abort;
+use testing_alloc::Refusing;
+
+// A start tag of this name, without attributes.
+fn start<A: Allocator + Copy>(alloc: A, name: &str) -> Result<Token<A>, AllocError> {
+    Ok(Token::TagToken(Tag {
+        kind: TagKind::StartTag,
+        name: LocalName(String::from_str(alloc, name)?),
+        attrs: Vec::new(alloc),
+        self_closing: false,
+        had_duplicate_attributes: false,
+    }))
+}
+
+// The state in which the text after the start tag is read.
+fn state_of(place: Place) -> State
+    ensures { is_text_state result ≡ true }
+{
+    match place {
+        Place::Data => State::Data,
+        Place::RawText(kind) => State::RawData(kind),
+        Place::PlainText => State::Plaintext,
+    }
+}
+
+// The tokens of what stands after a start tag of this name.
+fn read(
+    alloc: Global,
+    references: &NamedReferences,
+    place: Place,
+    name: &str,
+    text: &str,
+) -> Result<Collector<Global>, TokenizerError> {
+    let sink = Collector::new(alloc, false);
+    let opts = TokenizerOpts {
+        exact_errors: false,
+        discard_bom: false,
+        initial_state: Some(state_of(place)),
+        last_start_tag_name: Some(String::from_str(alloc, name)?),
+    };
+    let whole = String::from_str(alloc, text)?;
+    let (sink, read) = read_whole(alloc, sink, opts, references, whole);
+    read?;
+    Ok(sink)
+}
+
+// What is written for a start tag of that name and these tokens after it.
+fn written(
+    rt: &impl Abort,
+    alloc: Global,
+    name: &str,
+    place: Place,
+    tokens: &Collector<Global>,
+) -> String {
+    let mut page = PageWriter::new();
+    let mut out = String::new(alloc);
+    let tag = start(alloc, name).expect(rt, "memory");
+    page.push(&mut out, &tag).expect(rt, "memory");
+    assert!(rt; page.place() == place, "{name}");
+    for (token, _) in tokens.entries() {
+        page.push(&mut out, token).expect(rt, "memory");
+    }
+    out
+}
+
+// The texts of tokens, one after another.
+fn texts(rt: &impl Abort, alloc: Global, tokens: &Collector<Global>) -> String {
+    let mut told = String::new(alloc);
+    for (token, _) in tokens.entries() {
+        if let Token::CharacterTokens(run) = token {
+            told.push_str(run.as_str()).expect(rt, "memory");
+        }
+    }
+    told
+}
+
+// Whether a token is no error, and no text: an error stands between two runs of one text.
+fn is_markup(token: &Token) -> bool {
+    !matches!(token, Token::ParseError(_) | Token::CharacterTokens(_))
+}
+
+// Whether these are the same tokens but for errors and texts.
+fn are_same(tokens: &[(Token, u64)], others: &[(Token, u64)]) -> bool {
+    let mut rest = others.iter().filter(|entry| is_markup(&entry.0));
+    for (token, _) in tokens {
+        if is_markup(token) {
+            match rest.next() {
+                Some((other, _)) if other == token => {}
+                _ => return false,
+            }
+        }
+    }
+    rest.next().is_none()
+}
+
+// That a start tag of that name and this text after it are written so, and that this is read as the same
+// tokens.
+fn check(rt: &impl Abort, alloc: Global, name: &str, place: Place, text: &str, wanted: &str) {
+    let references = standard_references(alloc).expect(rt, "memory");
+    let tokens = read(alloc, &references, place, name, text).expect(rt, "a reading");
+    let out = written(rt, alloc, name, place, &tokens);
+    assert!(rt; out.as_str() == wanted, "{text:?}: {out:?}");
+    let (_, rest) = out.as_str().split_once('>').expect(rt, "a start tag");
+    let again = read(alloc, &references, place, name, rest).expect(rt, "a reading");
+    assert!(rt; are_same(tokens.entries(), again.entries()), "{text:?}");
+    let told = texts(rt, alloc, &tokens);
+    assert!(rt;
+        texts(rt, alloc, &again).as_str() == told.as_str(),
+        "{text:?}"
+    );
+}
+
+#[test]
+fn pages_with_rcdata(rt: HostRuntime) {
+    for (name, text, wanted) in [
+        (
+            "title",
+            "a&lt;b<i></title>c&lt;<b>",
+            "<title>a&#60;b&#60;i&#62;</title>c&#60;<b>",
+        ),
+        (
+            "textarea",
+            "\na&amp;\0\u{feff}</TEXTAREA x=1 />\n&gt;",
+            "<textarea>\na&#38;\u{fffd}&#65279;</textarea x=\"1\"/>\n&#62;",
+        ),
+        (
+            "title",
+            "</title</titlex&#13;</tit",
+            "<title>&#60;/title&#60;/titlex&#13;&#60;/tit",
+        ),
+        ("title", "a</title b", "<title>a"),
+    ] {
+        check(
+            &rt,
+            rt.alloc(),
+            name,
+            Place::RawText(RawKind::Rcdata),
+            text,
+            wanted,
+        );
+    }
+}
+
+#[test]
+fn pages_with_rawtext(rt: HostRuntime) {
+    for (name, text, wanted) in [
+        (
+            "style",
+            "a<b>&amp;\"</style >&amp;</b>",
+            "<style>a<b>&amp;\"</style>&#38;</b>",
+        ),
+        (
+            "noframes",
+            "<!--</noframe></noframes><!--a--!>",
+            "<noframes><!--</noframe></noframes><!--a-->",
+        ),
+        (
+            "xmp",
+            "\r\n\u{feff}\0</XMP\n>",
+            "<xmp>\n\u{feff}\u{fffd}</xmp>",
+        ),
+        ("iframe", "<</iframe>", "<iframe><</iframe>"),
+        ("noembed", "</noembed", "<noembed></noembed"),
+        ("style", "", "<style>"),
+    ] {
+        check(
+            &rt,
+            rt.alloc(),
+            name,
+            Place::RawText(RawKind::Rawtext),
+            text,
+            wanted,
+        );
+    }
+}
+
+#[test]
+fn pages_with_scripts(rt: HostRuntime) {
+    for (text, wanted) in [
+        (
+            "<!--<script></script>--></script>&lt;",
+            "<script><!--<script></script>--></script>&#60;",
+        ),
+        (
+            "<!--<SCRIPT >\0</script x>--<!-->a</script/>b",
+            "<script><!--<SCRIPT >\u{fffd}</script x>--<!-->a</script/>b",
+        ),
+        (
+            "<!--<script></script></script c='d'><p>",
+            "<script><!--<script></script></script c=\"d\"><p>",
+        ),
+        (
+            "<script><!-</script><script>",
+            "<script><script><!-</script><script>",
+        ),
+        ("if (a && b < c)\u{2028}", "<script>if (a && b < c)\u{2028}"),
+        ("<!--<script></script", "<script><!--<script></script"),
+        ("<!--<scr</script a=\"", "<script><!--<scr"),
+        ("a</scri", "<script>a</scri"),
+    ] {
+        check(
+            &rt,
+            rt.alloc(),
+            "script",
+            Place::RawText(RawKind::ScriptData),
+            text,
+            wanted,
+        );
+    }
+}
+
+#[test]
+fn pages_with_plain_text(rt: HostRuntime) {
+    for (text, wanted) in [
+        (
+            "a</plaintext>&amp;\0<b>\r",
+            "<plaintext>a</plaintext>&amp;\u{fffd}<b>\n",
+        ),
+        ("\n\u{feff}\"", "<plaintext>\n\u{feff}\""),
+        ("", "<plaintext>"),
+    ] {
+        check(&rt, rt.alloc(), "plaintext", Place::PlainText, text, wanted);
+    }
+}
+
+#[test]
+fn pages_in_data(rt: HostRuntime) {
+    for (name, text, wanted) in [
+        ("p", "&lt;\0</p>", "<p>&#60;\0</p>"),
+        ("noscript", "<b>&", "<noscript><b>&#38;"),
+        ("scripts", "<b>", "<scripts><b>"),
+    ] {
+        check(&rt, rt.alloc(), name, Place::Data, text, wanted);
+    }
+}
+
+// An end tag opens nothing, and nothing ends plain text.
+#[test]
+fn places_after_tags(rt: HostRuntime) {
+    let mut page = PageWriter::new();
+    let mut out = String::new(rt.alloc());
+    let mut script = start(rt.alloc(), "script").expect(&rt, "memory");
+    page.push(&mut out, &script).expect(&rt, "memory");
+    assert!(rt; page.place() == Place::RawText(RawKind::ScriptData));
+    if let Token::TagToken(tag) = &mut script {
+        tag.kind = TagKind::EndTag;
+    }
+    page.push(&mut out, &script).expect(&rt, "memory");
+    assert!(rt; page.place() == Place::Data);
+    page.push(&mut out, &script).expect(&rt, "memory");
+    assert!(rt; page.place() == Place::Data);
+    let plaintext = start(rt.alloc(), "plaintext").expect(&rt, "memory");
+    page.push(&mut out, &plaintext).expect(&rt, "memory");
+    page.push(&mut out, &script).expect(&rt, "memory");
+    assert!(rt; page.place() == Place::PlainText);
+    assert!(rt;
+        out.as_str() == "<script></script></script><plaintext></script>",
+        "{out:?}"
+    );
+}
+
+// Whether a start tag of `script` is written with so many growths, and the place after it.
+fn opens<A: Allocator + Copy>(alloc: A) -> (bool, Place) {
+    let mut page = PageWriter::new();
+    let mut out = String::new(alloc);
+    let Ok(tag) = start(alloc, "script") else {
+        return (false, page.place());
+    };
+    let is_written = page.push(&mut out, &tag).is_ok();
+    (is_written, page.place())
+}
+
+#[test]
+fn a_refused_growth_leaves_the_place(rt: HostRuntime) {
+    let mut finished = false;
+    for admitted in 0..100 {
+        let heap = Refusing::<Global>::new(rt.alloc(), admitted);
+        let (is_written, place) = opens(&heap);
+        if is_written {
+            assert!(rt; place == Place::RawText(RawKind::ScriptData));
+            assert!(rt; admitted > 1, "{admitted}");
+            finished = true;
+            break;
+        }
+        assert!(rt; place == Place::Data);
+    }
+    assert!(rt; finished);
+}
