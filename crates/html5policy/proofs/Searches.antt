@@ -1,5 +1,5 @@
 -- Searches of a list, from a place on.
-use Rattle.std.proofs.Common.{◌≡◌, ℕ, ◌+◌, ◌<◌, ◌≤◌, Bool, true, false, List, [], ◌∷◌, length, get_or, drop, map, refl, ap, sym, ◌∙◌}
+use Rattle.std.proofs.Common.{◌≡◌, ℕ, zero, suc, ◌+◌, ◌<◌, ◌≤◌, Bool, true, false, List, [], ◌∷◌, length, get_or, drop, map, refl, ap, sym, ◌∙◌}
 use Rattle.std.specs.Prelude.{◌||◌, ◌&&◌}
 use Rattle.std.specs.List.{list_all, list_any}
 use Rattle.std.specs.Str.{bytes_eq}
@@ -35,6 +35,20 @@ any-later f test i xs x within is fails =
 
 pub any-none : {X Y : Type 0} (f : X → Y) (test : Y → Bool) (xs : List X) (i : ℕ) → length xs ≤ i → list_any test (map f (drop i xs)) ≡ false
 any-none f test xs i past = at_drop_all (λ l. list_any test (map f l)) xs i past
+
+-- one from a place on passes, so one of all does
+any-part : {X Y : Type 0} (f : X → Y) (test : Y → Bool) (i : ℕ) (xs : List X) → list_any test (map f (drop i xs)) ≡ true → list_any test (map f xs) ≡ true
+any-part f test zero xs passes = passes
+any-part f test (suc i) [] passes = passes
+any-part f test (suc i) (x ∷ xs) passes = or-right (test (f x)) (any-part f test i xs passes)
+  where
+    or-right : (a : Bool) {b : Bool} → b ≡ true → (a || b) ≡ true
+    or-right true is = refl
+    or-right false is = is
+
+pub any-at : {X Y : Type 0} (f : X → Y) (test : Y → Bool) (i : ℕ) (xs : List X) (x : X) → i < length xs → x ≡ get_or xs i x
+    → test (f x) ≡ true → list_any test (map f xs) ≡ true
+any-at f test i xs x within is passes = any-part f test i xs (any-here f test i xs x within is passes)
 
 -- the next element fails
 pub all-here : {X Y : Type 0} (f : X → Y) (test : Y → Bool) (i : ℕ) (xs : List X) (x : X) → i < length xs → x ≡ get_or xs i x

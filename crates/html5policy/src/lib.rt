@@ -5,6 +5,7 @@
 mod addresses;
 mod error;
 mod faults;
+mod guesses;
 mod names;
 mod policy;
 mod rule;

@@ -20,27 +20,40 @@ pub fn is_one_of<A: Allocator>(names: &[String<A>], name: &str) -> bool
     false
 }
 
+/// Whether a name is one of these, where it may be the one at a place that was guessed.
+#[tactic(auto, unfolding(crate::specs::Names::is_one_of))]
+pub fn is_one_of_by_guess<A: Allocator>(names: &[String<A>], guess: usize, name: &str) -> bool
+    ensures { result ≡ is_one_of (map string_bytes names.now) name.now }
+{
+    if guess < names.len() && names[guess].as_str() == name {
+        return true;
+    }
+    is_one_of(names, name)
+}
+
 /// Whether an element of this name is dropped with what stands in it, by each policy.
 #[tactic(auto, unfolding(crate::specs::Names::always_hides))]
 pub fn always_hides(name: &str) -> bool
     ensures { result ≡ always_hides name.now }
 {
-    matches!(
-        name,
-        "iframe"
-            | "math"
-            | "noembed"
-            | "noframes"
-            | "noscript"
-            | "plaintext"
-            | "script"
-            | "style"
-            | "svg"
-            | "template"
-            | "textarea"
-            | "title"
-            | "xmp"
-    )
+    // Most names are shorter than each of these.
+    name.len() > 2
+        && matches!(
+            name,
+            "iframe"
+                | "math"
+                | "noembed"
+                | "noframes"
+                | "noscript"
+                | "plaintext"
+                | "script"
+                | "style"
+                | "svg"
+                | "template"
+                | "textarea"
+                | "title"
+                | "xmp"
+        )
 }
 
 /// Whether no policy keeps an element of this name, since it acts on more than the place where it stands.

@@ -9,7 +9,7 @@ ghost use Rattle.html5policy.specs.declared.error.RuleError.TheVariants.{Memory}
 use crate::addresses::is_safe_address;
 use crate::error::RuleError;
 use crate::faults::fault_of;
-use crate::names::{always_hides, is_address, is_one_of};
+use crate::names::{always_hides, is_address, is_one_of, is_one_of_by_guess};
 use crate::rule::Rule;
 use crate::rules::{Rules, is_own};
 use std::alloc::{Allocator, Global};
@@ -72,7 +72,8 @@ impl<A: Allocator> Policy<A> {
     pub fn is_allowed(&self, name: &str) -> bool
         ensures { result ≡ is_allowed self.now name.now }
     {
-        is_one_of(&self.rules.elements, name)
+        let guess = self.rules.guesses.place_of(name);
+        is_one_of_by_guess(&self.rules.elements, guess, name)
     }
 
     /// Whether an element of this name is dropped with what stands in it.

@@ -4,6 +4,7 @@ ghost use Rattle.html5policy.specs.Policy.{implied_elements, is_own, nothing_kep
 ghost use Rattle.html5policy.specs.Rules.{with_rule};
 ghost use Rattle.html5policy.specs.Code.{own_of, policy_of, rule_of};
 
+use crate::guesses::Guesses;
 use crate::rule::Rule;
 use std::alloc::{AllocError, Allocator};
 
@@ -18,6 +19,8 @@ pub struct OwnAttribute<A: Allocator> {
 #[derive(Drop)]
 pub struct Rules<A: Allocator> {
     pub elements: Vec<String<A>, A>,
+    /// Where the name of an element may stand among these.
+    pub guesses: Guesses,
     pub own: Vec<OwnAttribute<A>, A>,
     pub everywhere: Vec<String<A>, A>,
     pub schemes: Vec<String<A>, A>,
@@ -113,6 +116,7 @@ impl<A: Allocator + Copy> Rules<A> {
     {
         Rules {
             elements: Vec::new(alloc),
+            guesses: Guesses::none(),
             own: Vec::new(alloc),
             everywhere: Vec::new(alloc),
             schemes: Vec::new(alloc),
@@ -131,7 +135,10 @@ impl<A: Allocator + Copy> Rules<A> {
         ensures err { OnErr result (policy_of self.new ≡ policy_of self.old) }
     {
         match rule {
-            Rule::Element(name) => push_name(alloc, &mut self.elements, name),
+            Rule::Element(name) => {
+                self.guesses.note(name, self.elements.len());
+                push_name(alloc, &mut self.elements, name)
+            }
             Rule::Attribute { element, name } => push_own(alloc, &mut self.own, element, name),
             Rule::Everywhere(name) => push_name(alloc, &mut self.everywhere, name),
             Rule::Scheme(scheme) => push_name(alloc, &mut self.schemes, scheme),

@@ -1,9 +1,9 @@
 -- Names and texts by their first characters, in bytes.
-use Rattle.std.proofs.Common.{◌≡◌, ◌≢◌, ℕ, ◌+◌, length, None, Some, true, false, List, [], ◌++◌, refl, ap, ◌∙◌}
+use Rattle.std.proofs.Common.{◌≡◌, ℕ, Some, true, false, List, [], ◌++◌, refl, ap, ◌∙◌}
 use Rattle.std.specs.Prelude.{◌==◌, ◌&&◌, not, encode_utf8}
 use Rattle.std.specs.List.{list_all}
 use Rattle.std.specs.Str.{IsUtf8, chars}
-use Rattle.std.proofs.lemmas.Bool.{eq-eqb, ne_eqb}
+use Rattle.std.proofs.lemmas.Bool.{eq-eqb}
 use Rattle.std.proofs.lemmas.Str.{chars_past_char, chars-nil}
 use Rattle.html5reading.specs.Characters.{null, greater_than, hyphen, is_between}
 use Rattle.html5write.specs.Pieces.{is_tag_name, is_name_character, is_attribute_name, is_attribute_character, can_begin_comment}
@@ -41,12 +41,3 @@ comment-none text none = ap can_begin_comment (ap chars none ∙ chars-nil)
 pub null-here : (at : ℕ) (text rest : List ℕ) (c : ℕ) → IsUtf8 text → text ≡ encode_utf8 c ++ rest → c ≡ null → null_from at (chars text) ≡ Some at
 unfolding null_from
 null-here at text rest c utf8 first is = rw (chars_past_char text rest c utf8 first, eq-eqb c null is) refl
-
-pub null-later : (at : ℕ) (text rest : List ℕ) (c : ℕ) → IsUtf8 text → text ≡ encode_utf8 c ++ rest → c ≢ null
-    → null_from at (chars text) ≡ null_from (at + length (encode_utf8 c)) (chars rest)
-unfolding null_from
-null-later at text rest c utf8 first other = rw (chars_past_char text rest c utf8 first, ne_eqb c null other) refl
-
-pub null-none : (at : ℕ) (text : List ℕ) → text ≡ [] → null_from at (chars text) ≡ None
-unfolding null_from
-null-none at text none = ap (null_from at) (ap chars none ∙ chars-nil)

@@ -16,5 +16,6 @@ pub mod LoneDashes
 pub mod Repeats
 pub mod Refused
 pub mod Bytes
+pub mod PlainRuns
 pub mod Said
 pub mod PiecesLemmas

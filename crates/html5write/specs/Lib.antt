@@ -3,3 +3,4 @@ pub mod Pieces
 pub mod Told
 pub mod Writing
 pub mod Refusals
+pub mod Runs

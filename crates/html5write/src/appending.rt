@@ -7,6 +7,7 @@ ghost use Rattle.html5write.specs.Pieces.Piece.{CommentPiece, EndTagPiece, Start
 ghost use Rattle.html5write.specs.Writing.{attribute_of, piece_of};
 
 use crate::piece::{Attribute, Piece};
+use crate::runs::plain_prefix_len;
 use std::alloc::{AllocError, Allocator};
 
 // The reference that is written for a character that can't stand for itself.
@@ -36,15 +37,23 @@ fn push_character<A: Allocator>(out: &mut String<A>, c: char) -> Result<(), Allo
     Ok(())
 }
 
-// Appends a text, with references for the characters that can't stand for themselves.
+// Appends a text, with references for the characters that can't stand for themselves: what stands between them goes at
+// once.
 fn push_text<A: Allocator>(out: &mut String<A>, text: &str) -> Result<(), AllocError>
     ensures { OnOk result (string_bytes out.new
         ≡ string_bytes out.old ++ encode_utf8_all (escaped_text (chars text.now))) }
 {
-    for c in text.chars() {
+    let mut rest = text;
+    loop {
+        let plain = plain_prefix_len(rest);
+        out.push_str(&rest[..plain])?;
+        let mut characters = rest[plain..].chars();
+        let Some(c) = characters.next() else {
+            return Ok(());
+        };
         push_character(out, c)?;
+        rest = characters.as_str();
     }
-    Ok(())
 }
 
 // Appends an attribute.

@@ -11,6 +11,7 @@ ghost use Rattle.html5write.specs.declared.error.WriteError.TheVariants.{Repeate
 
 use crate::error::WriteError;
 use crate::piece::{Attribute, Piece};
+use crate::runs::first_null;
 
 // Whether a character can stand in the name of a tag.
 #[tactic(auto, unfolding(crate::specs::Pieces::is_name_character, html5reading::specs::Characters::is_white_space))]
@@ -73,12 +74,8 @@ pub fn is_attribute_name(name: &str) -> bool
 fn null_in(text: &str) -> Option<usize>
     ensures { result ≡ null_from 0 (chars text.now) }
 {
-    for (at, c) in text.char_indices() {
-        if c == '\0' {
-            return Some(at);
-        }
-    }
-    None
+    let at = first_null(text.as_bytes());
+    if at < text.len() { Some(at) } else { None }
 }
 
 // Whether the text of a comment can begin so.

@@ -6,6 +6,7 @@ mod checks;
 mod error;
 pub mod laws;
 mod piece;
+mod runs;
 mod trail;
 mod utf8;
 mod writer;

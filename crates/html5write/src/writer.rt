@@ -112,6 +112,14 @@ impl<A: Allocator + Copy> Writer<A> {
         Ok(())
     }
 
+    /// Takes all pieces away. Their memory stays, for those that are written next.
+    pub fn clear(&mut self)
+        ensures { self.new ≡ [] }
+    {
+        self.written.clear();
+        self.trail = Trail::new();
+    }
+
     /// Writes a text, as it is to be read.
     pub fn text(&mut self, text: &str) -> Result<(), WriteError>
         ensures { Writes result self.old self.new (TextPiece (chars text.now)) }

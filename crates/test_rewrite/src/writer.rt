@@ -1,4 +1,5 @@
 //! Worked cases of pages that are written piece by piece.
 mod memory;
 mod pages;
+mod places;
 mod refusals;

@@ -1,37 +1,49 @@
-use Rattle.std.proofs.Common.{◌≡◌, ◌++◌, string_bytes, sym, ap, ◌∙◌, subst, append_assoc}
-use Rattle.std.specs.Prelude.{encode_utf8_all}
-use Rattle.std.specs.Str.{IsUtf8, chars}
+use Rattle.std.proofs.Common.{◌++◌, string_bytes, refl, sym, ap, ◌∙◌}
+use Rattle.std.specs.Prelude.{encode_utf8}
 use Rattle.std.specs.Str.Iter.{chars_rest}
-use Rattle.std.proofs.lemmas.List.{append-nil, nil_from_length}
-use Rattle.std.proofs.lemmas.Str.{chars_past_char, IsUtf8-past_char, chars-nil}
-use Rattle.html5write.specs.Escaped.{escaped, escaped_text}
-use Rattle.html5write.proofs.Bytes.{bytes-escaped}
+use Rattle.std.proofs.lemmas.List.{nil_from_length}
+use Rattle.std.proofs.lemmas.Str.{IsCharBoundary-from_drop, IsUtf8-past_char}
+use Rattle.markup5ever.proofs.BufferQueueLemmas.{range_from_start}
+use Rattle.html5write.proofs.PlainRuns.{spelled-step, spelled-end, shorter}
 use Rattle.html5write.proofs.appending.push_text.Goals as goal
 
-pub loop-c-init : goal.loop-c-init
-loop-c-init g c =
-    let all : chars_rest c.into_iter-c-iterator.result ≡ c.args.text.now = ap chars_rest c.into_iter-c-iterator.ensures.into_iter_gives ∙ c.chars-c-items.ensures.rest in
-    (tt, tt, subst IsUtf8 (sym all) c.utf8.text, ap (λ bytes. string_bytes c.args.out.now ++ encode_utf8_all (escaped_text (chars bytes))) all)
+pub loop-characters-init : goal.loop-characters-init
+loop-characters-init g c = (c.utf8.text, refl)
 
-pub loop-c-preserved : goal.loop-c-preserved
-loop-c-preserved g c =
-    let before = chars_rest c.loop-c.c-iterator in
-    let after = chars_rest c.next.new.self in
-    let first = c.in-Some.ensures.steps.0 in
-    let utf8 : IsUtf8 before = c.loop-c.invariant.2 in
-    let later = encode_utf8_all (escaped_text (chars after)) in (
-      tt,
-      tt,
-      IsUtf8-past_char before after c.in-Some.c utf8 first,
-      ap (λ out. out ++ later) c.in_ok-push_character.ensures
-          ∙ append_assoc (string_bytes c.loop-c.out) (encode_utf8_all (escaped c.in-Some.c)) later
-          ∙ ap (λ l. string_bytes c.loop-c.out ++ l) (sym (ap (λ l. encode_utf8_all (escaped_text l)) (chars_past_char before after c.in-Some.c utf8 first) ∙ bytes-escaped c.in-Some.c (chars after)))
-          ∙ c.loop-c.invariant.3,
+pub range-requires-clause-end_boundary : goal.range-requires-clause-end_boundary
+range-requires-clause-end_boundary g c =
+    let begins = c.plain_prefix_len-plain.ensures in
+    IsCharBoundary-from_drop c.loop-characters.rest.now c.plain_prefix_len-plain.result begins.within begins.rest_utf8
+
+pub range_from-requires : goal.range_from-requires
+range_from-requires g c =
+    let begins = c.plain_prefix_len-plain.ensures in
+    λ some. IsCharBoundary-from_drop c.loop-characters.rest.now c.plain_prefix_len-plain.result begins.within begins.rest_utf8
+
+pub returns-in_default : goal.returns-in_default
+returns-in_default g c =
+    let rest = c.loop-characters.rest.now in
+    let len = c.plain_prefix_len-plain.result in
+    let ran = c.in_ok-push_str.ensures.bytes ∙ ap (λ l. string_bytes c.loop-characters.out ++ l) (c.range.ensures.value ∙ range_from_start rest len) in
+    let none = sym c.range_from.ensures.value ∙ sym c.chars-characters.ensures.rest ∙ nil_from_length (chars_rest c.chars-characters.result) c.in_default.ensures.steps.0.0 in
+    spelled-end (string_bytes c.loop-characters.out) (string_bytes c.push_str.new.self) rest len c.loop-characters.invariant.0 c.plain_prefix_len-plain.ensures ran none
+    ∙ c.loop-characters.invariant.1
+
+pub loop-characters-smaller : goal.loop-characters-smaller
+loop-characters-smaller g c =
+    shorter c.loop-characters.rest.now c.as_str-rest.result.now c.plain_prefix_len-plain.result c.in-Some.c
+    (sym c.range_from.ensures.value ∙ sym c.chars-characters.ensures.rest ∙ c.in-Some.ensures.steps.0 ∙ ap (λ l. encode_utf8 c.in-Some.c ++ l) (sym c.as_str-rest.ensures))
+
+pub loop-characters-preserved : goal.loop-characters-preserved
+loop-characters-preserved g c =
+    let rest = c.loop-characters.rest.now in
+    let after = c.as_str-rest.result.now in
+    let len = c.plain_prefix_len-plain.result in
+    let begins = c.plain_prefix_len-plain.ensures in
+    let ran = c.in_ok-push_str.ensures.bytes ∙ ap (λ l. string_bytes c.loop-characters.out ++ l) (c.range.ensures.value ∙ range_from_start rest len) in
+    let first = sym c.range_from.ensures.value ∙ sym c.chars-characters.ensures.rest ∙ c.in-Some.ensures.steps.0 ∙ ap (λ l. encode_utf8 c.in-Some.c ++ l) (sym c.as_str-rest.ensures) in (
+      IsUtf8-past_char _ after c.in-Some.c begins.rest_utf8 first,
+      spelled-step (string_bytes c.loop-characters.out) (string_bytes c.push_str.new.self) (string_bytes c.push_character.new.out) rest after len c.in-Some.c
+          c.loop-characters.invariant.0 begins ran c.in_ok-push_character.ensures first
+          ∙ c.loop-characters.invariant.1,
     )
-
-pub returns : goal.returns
-returns g c =
-    let none = nil_from_length (chars_rest c.loop-c.c-iterator) c.in-None.ensures.steps.0.0 in
-    sym (append-nil (string_bytes c.loop-c.out))
-    ∙ ap (λ l. string_bytes c.loop-c.out ++ encode_utf8_all (escaped_text l)) (sym (ap chars none ∙ chars-nil))
-    ∙ c.loop-c.invariant.3

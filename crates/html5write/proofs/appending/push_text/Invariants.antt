@@ -1,13 +1,14 @@
-use Rattle.std.proofs.Common.{◌≡◌, ◌++◌, string_bytes}
+use Rattle.std.proofs.Common.{◌≡◌, ◌++◌, length, string_bytes}
 use Rattle.std.specs.Prelude.{encode_utf8_all}
 use Rattle.std.specs.Str.{IsUtf8, chars}
-use Rattle.std.specs.Str.Iter.{chars_rest}
 use Rattle.html5write.specs.Escaped.{escaped_text}
 use Rattle.html5write.proofs.appending.push_text.Given as goal
 
--- what was appended and what the iterator has left are the text before and the text
-abbrev pub invariant-loop-c : goal.invariant-loop-c
-invariant-loop-c g l =
-    (goal.iterator-loop-c g).can_next l.c-iterator × (goal.iterator-loop-c g).is_finite l.c-iterator
-    × IsUtf8 (chars_rest l.c-iterator)
-    × (string_bytes l.out ++ encode_utf8_all (escaped_text (chars (chars_rest l.c-iterator))) ≡ string_bytes l.initial.out ++ encode_utf8_all (escaped_text (chars l.text)))
+-- what was appended and what is left are the text before and the text
+abbrev pub invariant-loop-characters : goal.invariant-loop-characters
+invariant-loop-characters g l =
+    IsUtf8 l.rest
+    × (string_bytes l.out ++ encode_utf8_all (escaped_text (chars l.rest)) ≡ string_bytes l.initial.out ++ encode_utf8_all (escaped_text (chars l.text)))
+
+abbrev pub decreases-loop-characters : goal.decreases-loop-characters
+decreases-loop-characters g l = length l.rest
