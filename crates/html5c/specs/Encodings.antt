@@ -1,5 +1,6 @@
 -- The encoding of a page, as C says it and is told it, of a handle of either kind.
-use Rattle.std.specs.Prelude.{◌≡◌, ◌≢◌, ◌↔◌, ◌⊎◌, ℕ, true, false, List, [], ◌∷◌, ◌++◌, length, take, drop, min, Option, None, Some, option_map}
+use Rattle.std.specs.Prelude.{◌≡◌, ◌≢◌, ◌↔◌, ◌⊎◌, ℕ, true, false, List, [], ◌∷◌, Option, None, Some, option_map}
+use Rattle.html5c.specs.Names.{CopiesName}
 use Rattle.html5c.specs.Slots.{WhereOpen}
 use Rattle.html5c.specs.declared.slot.PageSlot.{PageSlot}
 use Rattle.html5c.specs.declared.slot.PageSlot.TheVariants.{Tokenizer, Cleaner}
@@ -47,7 +48,6 @@ abbrev pub name_in : Option Encoding → List ℕ
 name_in None = []
 name_in (Some encoding) = name_of encoding
 
--- the front of its name was copied, as much as there was room for
-pub record NamesEncoding (encoding : Option Encoding) (room out : List ℕ) (n : ℕ) : Type 0 where
-  pub count : n ≡ min (length room) (length (name_in encoding))
-  pub copied : out ≡ take n (name_in encoding) ++ drop n room
+-- its name is told
+abbrev pub NamesEncoding : Option Encoding → List ℕ → List ℕ → ℕ → Type 0
+NamesEncoding encoding room out n = CopiesName (name_in encoding) room out n

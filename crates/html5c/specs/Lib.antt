@@ -1,4 +1,5 @@
 pub mod Held
+pub mod Names
 pub mod Said
 pub mod Slots
 pub mod Calls

@@ -1,8 +1,9 @@
 //! The encoding of a page, as C says it and is told it.
-ghost use Rattle.std.specs.Prelude.{◌≡◌, ◌++◌, None, drop, length, min, take};
+ghost use Rattle.std.specs.Prelude.{◌≡◌, None};
 ghost use Rattle.html5c.specs.Encodings.{EncodingSays, NamesEncoding, SetsEncoding, encoding_in_slot, said_by};
 ghost use Rattle.html5c.specs.Slots.{cleaner_in, placed_in, session_in};
 
+use crate::names::copy_name;
 use crate::slot::PageSlot;
 use crate::status;
 use html5cleaning::CleaningSession;
@@ -56,16 +57,6 @@ fn set_in_cleaner(session: &mut CleaningSession<Global>, label: &[u8]) -> u32
     };
     session.decode_page(said);
     status::DONE
-}
-
-// Copies the front of a name, as much as there is room for, and answers how many bytes that is.
-fn copy_name(name: &[u8], out: &mut [u8]) -> usize
-    ensures count { result ≡ min (length out.old) (length name.now) }
-    ensures copied { out.new ≡ take result name.now ++ drop result out.old }
-{
-    let count = out.len().min(name.len());
-    out[..count].copy_from_slice(&name[..count]);
-    count
 }
 
 impl PageSlot {

@@ -9,6 +9,7 @@ mod cleaner_slot;
 mod encoding;
 mod ending;
 mod handle;
+mod names;
 mod opening;
 mod options;
 mod placed_slot;
@@ -25,5 +26,6 @@ pub use cleaner_calls::{
     html5_cleaner_new, html5_cleaner_restart, html5_cleaner_take,
 };
 pub use handle::Handle;
+pub use names::html5_error_code;
 pub use options::Options;
 pub use version::html5_version;

@@ -179,10 +179,11 @@ pub const CHECK: &str = reading_help!(
     "usage: firnuubal check [OPTION...] [FILE...]
 Prints what is wrong in HTML pages, a line each: the name of the file, the line and the column, and
 the code of it, as page.html:12:5: error: unexpected-null-character. Parse errors have the codes of
-the HTML Standard. The others are: end-tag-without-start, end-tag-of-void-element,
-unclosed-element, non-void-html-element-start-tag-with-trailing-solidus, duplicate-id,
-misspelled-element, misspelled-attribute. Each page is read whole before it is checked. The status
-is 1 where something was found.
+the HTML Standard; one without a code there is a parse-error. The others are:
+end-tag-without-start, end-tag-of-void-element, unclosed-element,
+non-void-html-element-start-tag-with-trailing-solidus, duplicate-id, misspelled-element,
+misspelled-attribute. Each page is read whole before it is checked. The status is 1 where something
+was found.
   Example: firnuubal check page.html
 ",
     [],
