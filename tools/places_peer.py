@@ -15,6 +15,9 @@ import subprocess
 import sys
 from html.parser import HTMLParser
 
+from cases.peer import event_of_line
+from places import tokens_of
+
 PROGRAM = pathlib.Path(__file__).resolve().parent.parent / "crates/print_places/out/print_places"
 
 
@@ -52,12 +55,13 @@ def ours(page):
     """The bytes at which tags begin here, and the places that have no tag's text."""
     ran = subprocess.run([PROGRAM], input=page, capture_output=True, check=True)
     found, wrong = {}, []
-    for line in ran.stdout.decode().splitlines():
-        begin, end, kind, name = line.split(" ", 3)
-        found[int(begin)] = (kind, name)
-        text = page[int(begin) : int(end)]
-        if not (text.startswith(b"</" if kind == "end" else b"<") and text.endswith(b">")):
-            wrong.append((line, text))
+    for token in tokens_of(ran.stdout.decode()):
+        if token.kind not in ("start", "end"):
+            continue
+        found[token.begin] = (token.kind, event_of_line(token.line)[1])
+        text = page[token.begin : token.end]
+        if not (text.startswith(b"</" if token.kind == "end" else b"<") and text.endswith(b">")):
+            wrong.append((token.line, text))
     return found, wrong
 
 

@@ -23,9 +23,9 @@ class Change:
 
 
 BAD_CHARACTER = '''        if reading.exact and is_bad_character(c):
-            yield Error(f"Bad character {c}"), line
+            yield Event(Error(f"Bad character {c}"), line, place, place, place + 1)
 '''
-PLACE = "        yield from ((token, line) for token in told_at.get(place, []))\n"
+PLACE = "        yield from (Event(token, line, place, *item) for token, *item in told_at.get(place, []))\n"
 
 CHANGES = (
     Change("a CR LF is two line breaks", "reading", '.replace("\\r\\n", "\\n").replace', ".replace"),
@@ -70,6 +70,37 @@ CLEANING_CHANGES = (
     cleaning("end tags of void elements are kept", END_OF_VOID, END_OF_VOID.replace("tag.name not in VOID", "True")),
     cleaning("a CR is written as it is", "\\r", ""),
     cleaning("comments are shown through what hides", "is_shown = self.depth == 0", "is_shown = not isinstance(token, Tag)"),
+)
+
+
+def places(name: str, right: str, wrong: str) -> Change:
+    return Change(name, "places", right, wrong)
+
+
+AFTER_KEYWORD = ", decided=self.reading.after_longest(at, begins_keyword)"
+AFTER_SEMICOLON = 'begin = item.end - reading.text.endswith(";", 0, item.end)'
+NEXT = "at, before = at + size, c"
+NEXT_RUN = 'run, text = "", end'
+IS_MARKUP = "isinstance(event.token, MARKUP)"
+ERROR_KEPT = "            continue\n        yield"
+
+PLACES_CHANGES = (
+    Change("the error of a reference stands at its &", "reference", "decided = place + 1 + found.held", "decided = place"),
+    Change("that of a reference in a value does", "tag", "Error(message, at + 1 + found.held)", "Error(message, at)"),
+    Change("the error of <! stands at its !", "comment", '"MarkupDeclarationOpen", decided', '"MarkupDeclarationOpen"'),
+    Change("no keyword is decided at its first letter", "doctype", AFTER_KEYWORD, ""),
+    Change("markup after a ; stands too early", "items", "begin = item.end", AFTER_SEMICOLON),
+    places("a CR LF is one byte", NEXT, 'at, before = at + size * (before + c != "\\r\\n"), c'),
+    places("an error at a CR LF has both bytes", "(at, at + size)", '(at, at + size + (c == "\\r"))'),
+    places("a byte order mark is no byte", NEXT, "at, before = at + size * (not is_mark), c"),
+    places("places count characters", "len(c.encode())", "1"),
+    places("a character has three bytes at most", "len(c.encode())", "min(len(c.encode()), 3)"),
+    places("a run begins after an error", ERROR_KEPT, "            text = end\n" + ERROR_KEPT),
+    places("a NUL ends no run", NEXT_RUN, f"{NEXT_RUN} if {IS_MARKUP} else text"),
+    places("a run begins where the token before it does", NEXT_RUN, 'run, text = "", begin'),
+    places("markup ends before its >", "places[event.end][0]", "places[event.end][0] - 1"),
+    places("what is cut off stands at the end", IS_MARKUP, IS_MARKUP + " and event.place < event.end"),
+    places("an instruction stands at its >", "Comment, Instruction, Doctype)\nBYTE", "Comment, Doctype)\nBYTE"),
 )
 
 

@@ -21,7 +21,13 @@ def declaration_item(reading: Reading, place: int) -> Item:
         return doctype_item(reading, place + 9)
     if reading.foreign and reading.stands_at(place + 2, "[CDATA["):
         return cdata_item(reading, place + 9, CDATA)
-    return bogus_comment(reading, place + 2, reading.saw(place + 1, "MarkupDeclarationOpen"))
+    decided = reading.after_longest(place + 2, lambda held: begins_keyword(reading, held))
+    return bogus_comment(reading, place + 2, reading.saw(place + 1, "MarkupDeclarationOpen", decided))
+
+
+def begins_keyword(reading: Reading, held: str) -> bool:
+    in_data = "--".startswith(held) or "doctype".startswith(lower_case(held))
+    return in_data or (reading.foreign and "[CDATA[".startswith(held))
 
 
 def bogus_comment(reading: Reading, start: int, told: Told) -> Item:

@@ -17,6 +17,10 @@ AFTER_SYSTEM = ("AfterDoctypeKeyword(System)", "BeforeDoctypeIdentifier(System)"
 BETWEEN = ("AfterDoctypeIdentifier(Public)", "BetweenDoctypePublicAndSystemIdentifiers")
 
 
+def begins_keyword(held: str) -> bool:
+    return "public".startswith(lower_case(held)) or "system".startswith(lower_case(held))
+
+
 class WrittenDoctype:
     """A doctype as it is written, read from after its word up to its `>`, or to the end, with what its places tell.
     `wanted` is the state that the error of the end names, and nothing where a rest is skipped."""
@@ -62,7 +66,7 @@ class WrittenDoctype:
         elif keyword == "system":
             self.read_identifier("System", at + 6, AFTER_SYSTEM)
         elif at < self.stop:
-            self.skip(at, "AfterDoctypeName", quirks=True)
+            self.skip(at, "AfterDoctypeName", quirks=True, decided=self.reading.after_longest(at, begins_keyword))
 
     def read_identifier(self, kind: str, start: int, states: tuple[str, str]):
         """Reads what stands where an identifier can. After a keyword one has to."""
@@ -105,9 +109,9 @@ class WrittenDoctype:
             self.told += self.reading.saw(self.stop, state)
             self.quirks = True
 
-    def skip(self, at: int, state: str, quirks: bool):
+    def skip(self, at: int, state: str, quirks: bool, decided: int | None = None):
         """Skips a rest, whose first character is an error."""
-        self.told += self.reading.saw(at, state) + self.reading.nuls(at, self.stop, "BogusDoctype")
+        self.told += self.reading.saw(at, state, decided) + self.reading.nuls(at, self.stop, "BogusDoctype")
         self.quirks = quirks
         self.wanted = None
 

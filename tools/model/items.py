@@ -8,7 +8,7 @@ from .cdata import cdata_item
 from .characters import in_value, is_bad_character, is_letter
 from .comment import bogus_comment, declaration_item
 from .instruction import instruction_item
-from .messages import End, Error, Null, Told, texts
+from .messages import End, Error, Event, Null, Told, texts
 from .raw_text import raw_item
 from .reading import DATA, ESCAPED_KINDS, Item, Mode, Reading
 from .reference import reference_item
@@ -80,19 +80,26 @@ ITEM_IN |= dict.fromkeys(("Rcdata", "Rawtext", "ScriptData", *ESCAPED_KINDS), ra
 
 
 def messages(reading: Reading, mode: Mode):
-    """The messages of a text and of its end, each with its line. The error of a bad character comes before all else
-    that its place tells."""
+    """The messages of a text and of its end, each with its line."""
+    return ((event.token, event.line) for event in events(reading, mode))
+
+
+def events(reading: Reading, mode: Mode):
+    """What a text and its end tell. The error of a bad character comes before all else that its place tells."""
     told_at: dict[int, list] = {}
+    begin = 0
     for item in items_of(reading, mode):
         for place, token in item.told:
-            told_at.setdefault(place, []).append(token)
+            told_at.setdefault(place, []).append((token, begin, item.end))
+        begin = item.end
     line = 1
     for place, c in enumerate(reading.text):
         line += c == "\n"
         if reading.exact and is_bad_character(c):
-            yield Error(f"Bad character {c}"), line
-        yield from ((token, line) for token in told_at.get(place, []))
-    yield from ((token, line) for token in [*told_at.get(reading.end, []), End()])
+            yield Event(Error(f"Bad character {c}"), line, place, place, place + 1)
+        yield from (Event(token, line, place, *item) for token, *item in told_at.get(place, []))
+    at_end = [*told_at.get(reading.end, []), (End(), reading.end, reading.end)]
+    yield from (Event(token, line, reading.end, *item) for token, *item in at_end)
 
 
 def items_of(reading: Reading, mode: Mode):

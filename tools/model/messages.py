@@ -18,6 +18,7 @@ class Null:
 @dataclass(frozen=True)
 class Error:
     message: str
+    decided: int | None = None  # the place that decides it, where that is a later one
 
 
 @dataclass(frozen=True)
@@ -50,6 +51,17 @@ class Doctype:
 @dataclass(frozen=True)
 class End:
     pass
+
+
+@dataclass(frozen=True)
+class Event:
+    """A token with its line, the place where it stands, and where its item begins and ends."""
+
+    token: object
+    line: int
+    place: int
+    begin: int
+    end: int
 
 
 # tokens, each at the place that tells it

@@ -5,6 +5,7 @@ from __future__ import annotations
 import functools
 import re
 import sys
+from collections.abc import Callable
 from dataclasses import dataclass, field
 
 from .items import messages
@@ -88,13 +89,18 @@ def table_fault(entries: Entries) -> str | None:
     return None
 
 
+def reading_by(text: str, settings: Settings) -> tuple[Reading, Mode]:
+    """What is read of a text, and the mode in which it begins."""
+    reading = Reading(normalised(text, settings.keep_bom), settings.exact, settings.foreign, table_of(settings.entries))
+    return reading, Mode(INITIAL_MODES[settings.state], settings.last)
+
+
 def printed(text: str, settings: Settings) -> str:
     """The lines of a text."""
-    reading = Reading(normalised(text, settings.keep_bom), settings.exact, settings.foreign, table_of(settings.entries))
-    return printed_lines(messages(reading, Mode(INITIAL_MODES[settings.state], settings.last)))
+    return printed_lines(messages(*reading_by(text, settings)))
 
 
-def run(words: list[str], given: bytes) -> tuple[int, str, str]:
+def run(words: list[str], given: bytes, shown: Callable[[str, Settings], str] = printed) -> tuple[int, str, str]:
     """The status of a run, what it prints, and its line on standard error."""
     try:
         settings = settings_said(words)
@@ -104,7 +110,7 @@ def run(words: list[str], given: bytes) -> tuple[int, str, str]:
     if fault is not None:
         return 4, "", fault + "\n"
     try:
-        return 0, printed(given.decode(), settings), ""
+        return 0, shown(given.decode(), settings), ""
     except UnicodeDecodeError:
         return 3, "", "input is not UTF-8\n"
 

@@ -4,6 +4,7 @@ from __future__ import annotations
 
 import functools
 import re
+from collections.abc import Callable
 from dataclasses import dataclass, field
 
 from .messages import Error, Told
@@ -76,18 +77,25 @@ class Reading:
         found = self.text.find(word, place)
         return None if found < 0 else found
 
+    def after_longest(self, place: int, begins: Callable[[str], bool]) -> int:
+        """The place after the longest beginning of the text from a place on of which each beginning is such a one."""
+        after = place
+        while after < self.end and begins(self.text[place : after + 1]):
+            after += 1
+        return after
+
     def run(self, kind: re.Pattern, place: int) -> str:
         """The longest run of a kind from a place on."""
         return kind.match(self.text, place).group()
 
     # ---- Errors
 
-    def saw(self, place: int, state: str) -> Told:
+    def saw(self, place: int, state: str, decided: int | None = None) -> Told:
         """The error of the character at a place."""
-        return [(place, self.error_of(self.text[place], state))]
+        return [(place, self.error_of(self.text[place], state, decided))]
 
-    def error_of(self, c: str, state: str) -> Error:
-        return Error("Bad character" if self.exact else f"Saw {c} in state {state}")
+    def error_of(self, c: str, state: str, decided: int | None = None) -> Error:
+        return Error("Bad character" if self.exact else f"Saw {c} in state {state}", decided)
 
     def saw_end(self, state: str) -> Told:
         """The error of the end."""

@@ -18,9 +18,10 @@ C1_CHARACTERS = dict(zip(range(0x80, 0xA0), "€\0‚ƒ„…†‡ˆ‰Š‹Œ\
 
 @dataclass(frozen=True)
 class Found:
-    """What the `&` before a text comes to: how much of the text it takes, its errors and its characters. It is decided
-    where a character stands after all that is held."""
+    """What the `&` before a text comes to: how much of the text it holds, how much of that it takes, its errors and its
+    characters. It is decided where a character stands after all that is held."""
 
+    held: int
     taken: int
     errors: list[str]
     characters: str
@@ -49,7 +50,7 @@ def found_in(reading: Reading, text: str, is_value: bool) -> Found:
         taken, errors, characters = number_reference(reading.exact, held, deciding)
     else:
         taken, errors, characters = named_reference(reading, held, text, is_value)
-    return Found(taken, errors, characters, deciding != "")
+    return Found(len(held), taken, errors, characters, deciding != "")
 
 
 def number_reference(exact: bool, held: str, deciding: str) -> tuple[int, list[str], str]:
@@ -104,7 +105,8 @@ def named_reference(reading: Reading, held: str, text: str, is_value: bool) -> t
 def reference_item(reading: Reading, place: int, mode: Mode) -> Item:
     """A reference in Data or in RCDATA. Its `&` tells all of it."""
     found = found_in(reading, reading.text[place + 1 :], is_value=False)
-    told = [(place, Error(message)) for message in found.errors] + texts(place, found.characters)
+    decided = place + 1 + found.held
+    told = [(place, Error(message, decided)) for message in found.errors] + texts(place, found.characters)
     if found.is_decided:
         return Item(place + 1 + found.taken, told, mode)
     rest = texts(reading.end, reading.text[place + 1 + found.taken :])

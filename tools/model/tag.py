@@ -142,7 +142,7 @@ class WrittenTag:
     def tell_reference(self, at: int, found: Found):
         """The errors of a reference are told at its `&`, and where it is not decided at the end."""
         if found.is_decided:
-            self.told += [(at, Error(message)) for message in found.errors]
+            self.told += [(at, Error(message, at + 1 + found.held)) for message in found.errors]
         else:
             self.at_end += [(self.reading.end, Error(message)) for message in found.errors]
 

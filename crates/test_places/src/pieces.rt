@@ -10,7 +10,7 @@ use std::process::Abort;
 use testing_alloc::Refusing;
 
 // What stands in the places of a page's tokens, each after the run before it.
-const PAGES: [(&str, &str); 6] = [
+const PAGES: [(&str, &str); 20] = [
     ("a<b>c", "a|<b>|tag;c||end;"),
     (
         "\u{E9}<b\r\n>\u{1F600}&ampx<!--\u{E9}-->",
@@ -29,6 +29,43 @@ const PAGES: [(&str, &str); 6] = [
         "|<!doctype html>|doctype;||error;a<p cla||end;",
     ),
     ("\u{FEFF}<b>", "\u{FEFF}|<b>|tag;||end;"),
+    (
+        "&amp;<b>&lt<i>",
+        "&amp;|<b>|tag;|<|error;&lt|<i>|tag;||end;",
+    ),
+    (
+        "&#38\u{1F600}<b>",
+        "|\u{1F600}|error;&#38\u{1F600}|<b>|tag;||end;",
+    ),
+    (
+        "\r\n<b\r\nc>\r\n</b>",
+        "\r\n|<b\r\nc>|tag;\r\n|</b>|tag;||end;",
+    ),
+    // The CR is the line break that is no `>`.
+    ("<b/\r\n>", "|\r|error;|<b/\r\n>|tag;||end;"),
+    (
+        "<!--a\0--><b\0 c='\0'>",
+        "|\0|error;|<!--a\0-->|comment;|\0|error;|\0|error;|<b\0 c='\0'>|tag;||end;",
+    ),
+    ("a</>b<i>", "|>|error;a</>b|<i>|tag;||end;"),
+    ("a<?pi?>b", "a|<?pi?>|instruction;b||end;"),
+    (
+        "<!DOCTYPE html PUBLIC \"a\" 'b'>",
+        "|<!DOCTYPE html PUBLIC \"a\" 'b'>|doctype;||end;",
+    ),
+    // The `x` shows that no keyword comes.
+    (
+        "<!doctype html pux><!dox>",
+        "|x|error;|<!doctype html pux>|doctype;|x|error;|<!dox>|comment;||end;",
+    ),
+    (
+        "<title>&lt;</title>",
+        "|<title>|tag;&lt;|</title>|tag;||end;",
+    ),
+    ("<plaintext><b>", "|<plaintext>|tag;<b>||end;"),
+    ("a<!--b-", "||error;a|<!--b-|comment;||end;"),
+    ("<![CDATA[x]]>", "|[|error;|<![CDATA[x]]>|comment;||end;"),
+    ("<b c c>", "|>|error;|<b c c>|tag;||end;"),
 ];
 
 // Reads a text as it is cut, and its end.
@@ -45,36 +82,46 @@ fn read_pieces<A: Allocator + Copy>(
     reader.end(handler)
 }
 
-fn check_pieces(rt: &impl Abort, alloc: Global, source: &str, pieces: &[&str], wanted: &str) {
-    let references = standard_references(alloc).expect(rt, "memory");
+fn check_pieces(
+    rt: &impl Abort,
+    alloc: Global,
+    references: &NamedReferences,
+    source: &str,
+    pieces: &[&str],
+    wanted: &str,
+) {
     let mut handler = Cuts::new(alloc, source);
-    let read = read_pieces(alloc, &references, pieces, &mut handler);
+    let read = read_pieces(alloc, references, pieces, &mut handler);
     assert!(rt; read.is_ok(), "of {pieces:?}");
     assert_eq!(rt; handler.kept.as_str(), wanted, "of {pieces:?}");
 }
 
 #[test]
 fn two_pieces_tell_what_the_page_does(rt: HostRuntime) {
+    let alloc = rt.alloc();
+    let references = standard_references(alloc).expect(&rt, "memory");
     for (source, wanted) in PAGES {
-        assert!(rt; stand_so(&rt, rt.alloc(), source, wanted), "of {source}");
-        for at in 0..=source.len() {
+        assert!(rt; stand_so(&rt, alloc, source, wanted), "of {source}");
+        for at in 0..source.len() {
             if let (Some(first), Some(second)) = (source.get(..at), source.get(at..)) {
-                check_pieces(&rt, rt.alloc(), source, &[first, second], wanted);
+                check_pieces(&rt, alloc, &references, source, &[first, second], wanted);
             }
         }
+        check_pieces(&rt, alloc, &references, source, &[source, ""], wanted);
     }
 }
 
 #[test]
 fn single_characters_tell_what_the_page_does(rt: HostRuntime) {
     let alloc = rt.alloc();
+    let references = standard_references(alloc).expect(&rt, "memory");
     for (source, wanted) in PAGES {
         let mut pieces = Vec::new(alloc);
         for (at, c) in source.char_indices() {
             let piece = source.get(at..at + c.len_utf8()).unwrap_or("none");
             pieces.push(piece).expect(&rt, "memory");
         }
-        check_pieces(&rt, alloc, source, &pieces, wanted);
+        check_pieces(&rt, alloc, &references, source, &pieces, wanted);
     }
 }
 
