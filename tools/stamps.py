@@ -16,6 +16,7 @@ that were proved. Each that is refused is said in a line, and then the status is
 Where the toolchain has no such function it writes no stamps, and all is proved again, in some half an hour.
 """
 
+import functools
 import hashlib
 import importlib.machinery
 import importlib.util
@@ -40,6 +41,14 @@ def toolchain():
     module = importlib.util.module_from_spec(importlib.util.spec_from_loader("rtlib", loader))
     loader.exec_module(module)
     return module
+
+
+def stamps_of(crates):
+    """The stamp of each of these crates, by its name. A stamp is made from those of the crates below, each of which is asked
+    once, and not once for each way that leads to it."""
+    for kind in {type(it) for it in crates}:
+        kind.stamp = functools.cache(kind.stamp)
+    return {it.name: it.stamp() for it in crates}
 
 
 def sum_of(words, folder, files):
@@ -148,7 +157,7 @@ def write_stamps():
     record = json.loads(RECORD.read_text(encoding="utf-8")) if RECORD.exists() else {}
     wanted = unstamped()
     # The stamps come first: they are of no later files than those whose sums are looked at.
-    stamps = {it.name: it.stamp() for it in toolchain().crates_below(str(TOP)) if it.name in wanted}
+    stamps = stamps_of([it for it in toolchain().crates_below(str(TOP)) if it.name in wanted])
     files = sums()
     reasons = {name: refusal(name, files[name], record) for name in stamps}
     for name, why in reasons.items():
