@@ -1,7 +1,7 @@
 #!/bin/bash
 # Builds the library (build.sh), and checks it and the one that is shipped in dist/: the calls from C, also under valgrind,
 # and what stands on them in C, Rust and Python. Their readers, for Python those in Python and those of the extension, print
-# pages in pieces of 1, 7 and 4,096 bytes as html5tok does, and clean them as firnuubal. The wheel is installed as a user
+# pages in pieces of 1, 7 and 4,096 bytes as html5tok does, with places as print_places, and clean them as firnuubal. The wheel is installed as a user
 # would, and so is the library for C. What is made stands in bindings/out. It wants the toolchain and, for each language, gcc
 # with valgrind and pkg-config, cargo, and python3; what isn't there is left out, and it says so, also at the end.
 set -eu
@@ -46,11 +46,12 @@ rust() {
 
 # Whether a program prints the pages as the lines of another say, whose name ends the names of their files.
 prints_as() {
-    local kind=$1 page piece
+    local kind=$1 page piece words=()
     shift
+    [ "$kind" != places ] || words=(places)
     for page in "$out/page.html" "$out/odd.html"; do
         for piece in 1 7 4096; do
-            "$@" "$piece" <"$page" | cmp - "$page.$kind" || return 1
+            "$@" "$piece" "${words[@]}" <"$page" | cmp - "$page.$kind" || return 1
         done
     done
 }
@@ -62,13 +63,23 @@ leaks_nothing() {
         $under "$out/clean-c" 7 <"$out/page.html" >/dev/null && $under "$out/cleaning-c"
 }
 
-# The pages, what html5tok prints of each, and what firnuubal cleans of it.
+# The lines of print_places with the place of each at its front: the three numbers of a token stand on a line before its text's
+# and its own. With places nothing pauses.
+placed_lines() {
+    awk '/^[0-9]+ [0-9]+ [0-9]+$/ { split($0, places, " "); next }
+        $1 == "pause" { next }
+        { print ($1 == "text" ? places[1] " " places[2] : places[2] " " places[3]) " " $0 }'
+}
+
+# The pages, what html5tok and print_places print of each, and what firnuubal cleans of it.
 pages() {
-    local page
+    local page table
+    table=$(python3 ../tools/entities.py)
     cp page.html "$out/page.html"
     printf 'a\0b\1\177<a href="x\ny">\r\n<p\0><!--\0' >"$out/odd.html"
     for page in "$out/page.html" "$out/odd.html"; do
-        ../crates/html5tok/out/html5tok --table "$(python3 ../tools/entities.py)" <"$page" >"$page.tokens"
+        ../crates/html5tok/out/html5tok --table "$table" <"$page" >"$page.tokens"
+        ../crates/print_places/out/print_places --table "$table" <"$page" | placed_lines >"$page.places"
         ../crates/firnuubal/out/firnuubal clean <"$page" >"$page.cleaned"
     done
 }
@@ -110,6 +121,7 @@ in_c() {
     check "cleaning from C" "$out/cleaning-c"
     check "the reader in C" built_in_c examples/tokens.c tokens-c
     check "the tokens from C" prints_as tokens "$out/tokens-c"
+    check "the places from C" prints_as places "$out/tokens-c"
     check "the cleaner in C" built_in_c examples/clean.c clean-c
     check "cleaned pages from C" prints_as cleaned "$out/clean-c"
     has valgrind "the check for leaks" && check "leaks" leaks_nothing
@@ -120,6 +132,7 @@ in_rust() {
     check "the tests in Rust" rust test >/dev/null
     check "the examples in Rust" rust build --release --examples
     check "the tokens from Rust" prints_as tokens "$out/target/release/examples/tokens"
+    check "the places from Rust" prints_as places "$out/target/release/examples/tokens"
     check "cleaned pages from Rust" prints_as cleaned "$out/target/release/examples/clean"
 }
 
@@ -130,6 +143,7 @@ with_readers() {
     check "$readers" env PYTHONPATH=python/src "${run[@]}" -c "import firnuubal; assert firnuubal.IS_FAST == (not $pure)"
     check "the tests in Python, $readers" env PYTHONPATH=python/src "${run[@]}" -m unittest discover --quiet -s python/tests
     check "the tokens from Python, $readers" prints_as tokens "${run[@]}" python/examples/tokens.py
+    check "the places from Python, $readers" prints_as places "${run[@]}" python/examples/tokens.py
 }
 
 in_python() {
@@ -154,10 +168,10 @@ check_library() {
 
 mkdir -p "$out"
 ./build.sh
-for program in html5tok firnuubal; do
+for program in html5tok print_places firnuubal; do
     [ -x "../crates/$program/out/$program" ] || (cd "../crates/$program" && rt run </dev/null >/dev/null 2>"$out/rt.log")
 done
-check "html5tok and firnuubal" pages
+check "html5tok, print_places and firnuubal" pages
 check_library "$out"
 if [ -d ../dist ]; then
     check "what is shipped" python3 ../tools/dist.py --check

@@ -1,7 +1,9 @@
 /*
  * Counts the tokens of a page, which it reads as it arrives from standard input.
  *
- *     count < PAGE
+ *     count [PIECE] < PAGE
+ *
+ * The page is fed in pieces of PIECE bytes, or 65,536.
  */
 #include "../firnuubal.h"
 
@@ -39,11 +41,11 @@ static bool count_waiting(counts *found, html5_reader *reader, html5_handle *han
     return true;
 }
 
-static html5_status count_page(counts *found, html5_reader *reader, html5_handle *handle) {
+static html5_status count_page(counts *found, html5_reader *reader, html5_handle *handle, size_t piece) {
     static uint8_t bytes[1 << 16];
     html5_options options = {0};
     html5_status status = html5_new(handle, bytes, 0, &options);
-    for (size_t len; status == HTML5_DONE && (len = fread(bytes, 1, sizeof bytes, stdin)) > 0;) {
+    for (size_t len; status == HTML5_DONE && (len = fread(bytes, 1, piece, stdin)) > 0;) {
         status = html5_feed(handle, bytes, len);
         if (!count_waiting(found, reader, handle)) return HTML5_NO_MEMORY;
     }
@@ -51,11 +53,13 @@ static html5_status count_page(counts *found, html5_reader *reader, html5_handle
     return count_waiting(found, reader, handle) ? status : HTML5_NO_MEMORY;
 }
 
-int main(void) {
+int main(int count, char **words) {
+    size_t piece = count > 1 ? strtoul(words[1], NULL, 10) : 1 << 16;
+    if (piece == 0 || piece > 1 << 16) return 2;
     html5_handle handle = {0};
     html5_reader reader = {0};
     counts found = {0};
-    html5_status status = count_page(&found, &reader, &handle);
+    html5_status status = count_page(&found, &reader, &handle, piece);
     html5_reader_free(&reader);
     html5_free(&handle);
     printf("tags %" PRIu64 ", attributes %" PRIu64 " of %" PRIu64 " bytes, texts %" PRIu64 " of %" PRIu64 " bytes, comments %" PRIu64 ", errors %" PRIu64 "\n",

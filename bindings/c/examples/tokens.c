@@ -1,9 +1,10 @@
 /*
  * Prints the tokens of a page, a line each, as html5tok does.
  *
- *     tokens [PIECE] < PAGE
+ *     tokens [PIECE [places]] < PAGE
  *
- * The page is fed in pieces of PIECE bytes, or 4096.
+ * The page is fed in pieces of PIECE bytes, or 4096. With `places` each line begins with the byte of the page where the token
+ * begins, and the byte after its last; then nothing pauses.
  */
 #include "../firnuubal.h"
 
@@ -58,6 +59,7 @@ static void print_doctype(const html5_token *token) {
 }
 
 static void print_token(const html5_token *token) {
+    if (token->begin != HTML5_NO_PLACE) printf("%" PRIu64 " %" PRIu64 " ", token->begin, token->end);
     switch (token->kind) {
     case HTML5_START_TAG: print_tag("start", token); break;
     case HTML5_END_TAG: print_tag("end", token); break;
@@ -104,9 +106,9 @@ static html5_status feed(html5_reader *reader, html5_handle *handle, const uint8
     }
 }
 
-static html5_status print_page(html5_reader *reader, html5_handle *handle, size_t piece) {
+static html5_status print_page(html5_reader *reader, html5_handle *handle, size_t piece, bool places) {
     static uint8_t bytes[1 << 16];
-    html5_options options = {.replies = HTML5_PAUSING_REPLIES};
+    html5_options options = {.replies = places ? HTML5_STANDARD_REPLIES : HTML5_PAUSING_REPLIES, .places = places};
     html5_status status = html5_new(handle, bytes, 0, &options);
     for (size_t len; status == HTML5_DONE && (len = fread(bytes, 1, piece, stdin)) > 0;)
         status = feed(reader, handle, bytes, len);
@@ -117,10 +119,11 @@ static html5_status print_page(html5_reader *reader, html5_handle *handle, size_
 
 int main(int count, char **words) {
     size_t piece = count > 1 ? strtoul(words[1], NULL, 10) : 4096;
-    if (piece == 0 || piece > 1 << 16) return 2;
+    bool places = count > 2 && strcmp(words[2], "places") == 0;
+    if (piece == 0 || piece > 1 << 16 || count > 2 + places) return 2;
     html5_handle handle = {0};
     html5_reader reader = {0};
-    html5_status status = print_page(&reader, &handle, piece);
+    html5_status status = print_page(&reader, &handle, piece, places);
     if (status == HTML5_NOT_UTF8)
         fprintf(stderr, "byte %" PRIu64 " is no UTF-8\n", html5_error_at(&handle));
     else if (status != HTML5_DONE)

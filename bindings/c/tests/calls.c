@@ -289,6 +289,44 @@ static bool is_in(html5_handle *handle, size_t room, const char *name) {
     return len == strlen(name) && memcmp(out, name, len) == 0;
 }
 
+/* Whether this is the code of a message, as much as there is room for. */
+static bool is_code(const char *message, size_t message_len, size_t room, const char *code) {
+    uint8_t out[HTML5_ERROR_CODE_ROOM];
+    size_t len = html5_error_code(message, message_len, out, room);
+    return len == strlen(code) && memcmp(out, code, len) == 0;
+}
+
+/* Whether the first error that a page tells has this code. */
+static bool has_code(const char *page, const char *code) {
+    html5_handle handle = {0};
+    html5_reader reader = {0};
+    html5_options options = {0};
+    html5_token token = {0};
+    CHECK(open_after(&handle, "", options) == HTML5_DONE);
+    CHECK(feed(&handle, page) == HTML5_DONE && html5_end(&handle) == HTML5_DONE);
+    CHECK(html5_fill(&reader, &handle));
+    while (html5_next_token(&reader, &token) && token.kind != HTML5_PARSE_ERROR) {
+    }
+    bool has = token.kind == HTML5_PARSE_ERROR && is_code(token.text.at, token.text.len, HTML5_ERROR_CODE_ROOM, code);
+    html5_reader_free(&reader);
+    html5_free(&handle);
+    return has;
+}
+
+/* The codes are those of the standard's "Parse errors". */
+static void names_errors_as_the_standard_does(void) {
+    CHECK(has_code("<p a=>", "missing-attribute-value"));
+    CHECK(has_code("<p a a>", "duplicate-attribute"));
+    CHECK(has_code("</p/>", "end-tag-with-trailing-solidus"));
+    CHECK(has_code("&nosuch;", "unknown-named-character-reference"));
+    CHECK(has_code("<p", "eof-in-tag"));
+    CHECK(has_code("<!DOCTYPE a PUBLIC ''\"\">", "missing-whitespace-between-doctype-public-and-system-identifiers"));
+    CHECK(has_code("&#0;", ""));
+    CHECK(is_code("Duplicate attribute", 19, 9, "duplicate") && is_code("Duplicate attribute", 19, 0, ""));
+    CHECK(is_code("Duplicate attribute.", 20, HTML5_ERROR_CODE_ROOM, ""));
+    CHECK(is_code("\xff", 1, HTML5_ERROR_CODE_ROOM, "") && is_code(NULL, 0, HTML5_ERROR_CODE_ROOM, ""));
+}
+
 /* Bytes are read by what is said of the page, each character whole or cut. */
 static void reads_a_page_in_its_encoding(void) {
     html5_handle handle = {0};
@@ -475,6 +513,7 @@ int main(void) {
     counts_what_waits_after_a_pause();
     says_why_there_is_no_token();
     lets_the_caller_reply();
+    names_errors_as_the_standard_does();
     reads_a_page_in_its_encoding();
     determines_the_encoding();
     pauses_at_the_end_of_what_was_held();

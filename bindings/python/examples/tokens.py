@@ -1,9 +1,10 @@
 #!/usr/bin/env python3
 """Prints the tokens of a page, a line each, as html5tok does.
 
-    tokens.py [PIECE] < PAGE
+    tokens.py [PIECE [places]] < PAGE
 
-The page is fed in pieces of PIECE bytes, or 4096.
+The page is fed in pieces of PIECE bytes, or 4096. With `places` each line begins with the byte of the page where the token
+begins, and the byte after its last; then nothing pauses.
 """
 
 import pathlib
@@ -69,9 +70,14 @@ def print_waiting(tokenizer, fed, out):
         out.write(f"pause encoding {quoted(dict(reversed(last.attributes))['charset'])}\n")
 
 
-def main():
-    piece = int(sys.argv[1]) if len(sys.argv) > 1 else 4096
-    out = open(sys.stdout.fileno(), "w", encoding="utf-8", newline="\n", closefd=False)
+def print_placed(piece, out):
+    """Prints the tokens with their places."""
+    for token, begin, end in firnuubal.placed_tokens(sys.stdin.buffer, piece=piece):
+        out.write(f"{begin} {end} {line_of(token)}\n")
+
+
+def print_tokens(piece, out):
+    """Prints the tokens, and a line for each pause."""
     with firnuubal.Tokenizer(replies=firnuubal.Replies.PAUSING) as tokenizer:
         while given := sys.stdin.buffer.read(piece):
             fed = tokenizer.feed(given)
@@ -81,6 +87,13 @@ def main():
                 print_waiting(tokenizer, fed, out)
         tokenizer.end()
         print_waiting(tokenizer, Fed.DONE, out)
+
+
+def main():
+    piece = int(sys.argv[1]) if len(sys.argv) > 1 else 4096
+    out = open(sys.stdout.fileno(), "w", encoding="utf-8", newline="\n", closefd=False)
+    print_page = print_placed if sys.argv[2:] == ["places"] else print_tokens
+    print_page(piece, out)
     out.flush()
 
 

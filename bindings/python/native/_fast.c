@@ -34,6 +34,7 @@ struct reader {
     /* What is made after all that was taken is read, or null. */
     bool (*on_end)(reader *self, PyObject *found);
     PyObject *classes; /* those of the tokens by their kind, from 1 on; or that of links */
+    PyObject *placed;  /* with places the class of a token with its place, else null */
     PyObject *table;   /* a dict by names of tags in bytes; null where all tags are read */
     PyObject *words[MOST_MEMBERS + 1]; /* what `tuple.__new__` is called with, by how many members a tuple has */
     bool errors, texts;
@@ -41,8 +42,10 @@ struct reader {
     bool is_open;      /* what was taken last ends within a text */
     bool is_hidden;    /* texts are passed over up to an end tag */
     bool has_run;      /* a text is held that only a token ends */
+    bool has_places;   /* places were read, of the next token and of the run before it */
     uint64_t line;     /* the line that was reached */
     uint64_t run_line; /* the line on which the text begins that is held */
+    uint64_t places[3]; /* where the run and the token begin, and where the token ends */
     PyObject *number;  /* a line as an int, the last that was asked for */
     uint64_t numbered;
     char *held;        /* bytes of texts, kept from one call to the next */
@@ -177,20 +180,33 @@ static PyObject *words_of(reader *self, Py_ssize_t count) {
     return *words = NULL;
 }
 
-/* Appends a tuple of a class and of these members, which it takes over. */
-static bool append(reader *self, PyObject *found, PyObject *class, PyObject *const *members, Py_ssize_t count) {
+/* A tuple of a class and of these members, which it takes over; or null, with an exception. */
+static PyObject *made_of(reader *self, PyObject *class, PyObject *const *members, Py_ssize_t count) {
     PyObject *words = words_of(self, count);
     bool is_set = set_members(words ? PyTuple_GetItem(words, 0) : NULL, members, count);
     PyObject *made = is_set ? new_tuple((PyTypeObject *)class, words, NULL) : NULL;
-    if (!made) return false;
-    PyObject_GC_UnTrack(made);
-    bool is_appended = PyList_Append(found, made) == 0;
+    if (made) PyObject_GC_UnTrack(made);
+    return made;
+}
+
+/* Appends what was made, which it takes over, unless that is null. */
+static bool append_made(PyObject *found, PyObject *made) {
+    bool is_appended = made && PyList_Append(found, made) == 0;
     Py_DecRef(made);
     return is_appended;
 }
 
+/* A token, which it takes over, with its place: a text has that of its run. */
+static PyObject *with_place(reader *self, enum html5_kind kind, PyObject *token) {
+    if (!token) return NULL;
+    const uint64_t *place = kind == HTML5_TEXT ? self->places : self->places + 1;
+    PyObject *members[] = {token, PyLong_FromUnsignedLongLong(place[0]), PyLong_FromUnsignedLongLong(place[1])};
+    return made_of(self, self->placed, members, 3);
+}
+
 static bool append_token(reader *self, PyObject *found, enum html5_kind kind, PyObject *const *members, Py_ssize_t count) {
-    return append(self, found, PyTuple_GetItem(self->classes, kind - 1), members, count);
+    PyObject *token = made_of(self, PyTuple_GetItem(self->classes, kind - 1), members, count);
+    return append_made(found, self->placed ? with_place(self, kind, token) : token);
 }
 
 static bool append_text(reader *self, PyObject *found, enum html5_kind kind, uint64_t line, PyObject *text) {
@@ -278,11 +294,12 @@ static bool end_run(reader *self, PyObject *found) {
 
 static bool text_as_token(reader *self, html5_text part, PyObject *found) {
     if (!self->texts) return true;
-    if (self->errors && !self->is_open && self->held_len == 0)
+    bool is_whole = self->errors || self->placed;
+    if (is_whole && !self->is_open && self->held_len == 0)
         return append_text(self, found, HTML5_TEXT, self->line, str_of(part));
     if (!hold(self, part)) return false;
     if (self->is_open) return true;
-    if (self->errors) return append_text(self, found, HTML5_TEXT, self->line, held_str(self));
+    if (is_whole) return append_text(self, found, HTML5_TEXT, self->line, held_str(self));
     if (!self->has_run) self->run_line = self->line;
     self->has_run = true;
     return true;
@@ -294,8 +311,9 @@ static bool tag_as_token(reader *self, html5_token *tag, PyObject *found) {
     return (self->table && !named->meaning) || append_tag(self, found, tag);
 }
 
+/* With places an error comes before the text in which it stands. So the line where that begins stays. */
 static bool token_as_token(reader *self, html5_token *token, PyObject *found) {
-    self->line = token->line;
+    if (token->kind != HTML5_PARSE_ERROR || !self->placed) self->line = token->line;
     if (token->kind == HTML5_PARSE_ERROR && !self->errors) return true;
     if (!end_run(self, found)) return false;
     return is_tag(token) ? tag_as_token(self, token, found) : append_other(self, found, token);
@@ -319,7 +337,7 @@ static bool token_as_link(reader *self, html5_token *token, PyObject *found) {
     while (html5_next_attribute(&token->attributes, &attribute, &value)) {
         if (attribute.len != (size_t)len || memcmp(attribute.at, at, attribute.len) != 0) continue;
         PyObject *members[] = {line_of(self, token->line), str_of(value)};
-        return append(self, found, self->classes, members, 2);
+        return append_made(found, made_of(self, self->classes, members, 2));
     }
     return true;
 }
@@ -366,24 +384,40 @@ static const uint8_t *text_read(reader *self, const uint8_t *at, const uint8_t *
     return stop ? stop + 1 : end;
 }
 
+/* The place after a record, or null with an exception where it is none. */
+static const uint8_t *checked(const uint8_t *after) {
+    if (!after) PyErr_SetString(PyExc_ValueError, "what was taken is no whole record");
+    return after;
+}
+
+/* Reads the record of places that stands before a token and its run. It answers the place after it, or null. */
+static const uint8_t *places_read(reader *self, const uint8_t *at, const uint8_t *end) {
+    if (*at != HTML5_PLACES || end - at < 25) return checked(NULL);
+    for (int i = 0; i < 3; i++) self->places[i] = html5_number(at + 1 + 8 * i);
+    self->has_places = true;
+    return at + 25;
+}
+
 /* Reads any other record. It answers the place after it, or null. */
 static const uint8_t *token_read(reader *self, const uint8_t *at, const uint8_t *end, PyObject *found) {
     html5_token token;
     memset(&token, 0, sizeof token);
     bool is_known = 1 <= *at && *at <= KINDS;
     token.kind = (enum html5_kind)*at;
-    const uint8_t *after = is_known ? html5_read_other(&token, at, end) : NULL;
-    if (!after) {
-        PyErr_SetString(PyExc_ValueError, "what was taken is no whole record");
-        return NULL;
-    }
-    return self->on_token(self, &token, found) ? after : NULL;
+    const uint8_t *after = checked(is_known ? html5_read_other(&token, at, end) : NULL);
+    if (!after || !self->on_token(self, &token, found)) return NULL;
+    self->has_places = false;
+    return after;
+}
+
+static const uint8_t *record_read(reader *self, const uint8_t *at, const uint8_t *end, PyObject *found) {
+    if (self->placed && !self->has_places) return places_read(self, at, end);
+    return *at == HTML5_TEXT ? text_read(self, at + 1, end, found) : token_read(self, at, end, found);
 }
 
 static bool read_all(reader *self, const uint8_t *at, const uint8_t *end, PyObject *found) {
     if (self->is_open) at = text_read(self, at, end, found);
-    while (at && at < end)
-        at = *at == HTML5_TEXT ? text_read(self, at + 1, end, found) : token_read(self, at, end, found);
+    while (at && at < end) at = record_read(self, at, end, found);
     return at && (!self->on_end || self->on_end(self, found));
 }
 
@@ -412,6 +446,7 @@ static void reader_dealloc(reader *self) {
     PyTypeObject *type = Py_TYPE(self);
     for (size_t at = 0; at <= NAMES; at++) forget(&self->names[at]);
     Py_DecRef(self->classes);
+    Py_DecRef(self->placed);
     Py_DecRef(self->table);
     Py_DecRef(self->number);
     for (size_t at = 0; at <= MOST_MEMBERS; at++) Py_DecRef(self->words[at]);
@@ -482,16 +517,21 @@ static reader *new_reader(PyTypeObject *type, PyObject *classes, PyObject *table
 }
 
 static PyObject *token_reader(PyTypeObject *type, PyObject *words, PyObject *named) {
-    static char *keywords[] = {"classes", "errors", "texts", "tags", NULL};
-    PyObject *classes, *tags = Py_None;
-    int errors = 1, texts = 1;
-    if (!PyArg_ParseTupleAndKeywords(words, named, "O!|ppO", keywords, &PyTuple_Type, &classes, &errors, &texts, &tags))
+    static char *keywords[] = {"classes", "placed", "errors", "texts", "tags", "places", NULL};
+    PyObject *classes, *placed, *tags = Py_None;
+    int errors = 1, texts = 1, places = 0;
+    if (!PyArg_ParseTupleAndKeywords(words, named, "O!O|ppOp", keywords, &PyTuple_Type, &classes, &placed, &errors, &texts, &tags,
+                                     &places))
         return NULL;
-    if (!are_tuple_classes(classes)) return NULL;
+    if (!are_tuple_classes(classes) || !is_tuple_class(placed)) return NULL;
     reader *made = new_reader(type, classes, tags == Py_None ? NULL : table_of(tags, NULL));
     if (!made) return NULL;
     made->errors = errors;
     made->texts = texts;
+    if (places) {
+        Py_IncRef(placed);
+        made->placed = placed;
+    }
     made->on_text = text_as_token;
     made->on_token = token_as_token;
     return (PyObject *)made;

@@ -10,7 +10,7 @@ import tracemalloc
 import unittest
 
 import firnuubal
-from firnuubal import Comment, Doctype, End, EndTag, Instruction, NullCharacter, ParseError, StartTag, Text, Tokenizer
+from firnuubal import Comment, Doctype, End, EndTag, Instruction, NullCharacter, ParseError, Placed, StartTag, Text, Tokenizer
 from firnuubal import _readers, _records
 from firnuubal._library import library, taken
 
@@ -94,6 +94,39 @@ def random_records(choose):
     return pieces, tokens
 
 
+def cut(choose, record):
+    """A record as it is taken: one with a text that it begins with cut anywhere."""
+    whole = record.index(b"\xff") + 1
+    at = choose.randrange(26, whole + 1)
+    return [record[:at], record[at:]]
+
+
+def places(*numbers):
+    return b"\n" + b"".join(number(it) for it in numbers)
+
+
+def random_placed(choose):
+    """Records with places as they are taken, and the tokens that they are of. An error has no text before it."""
+    pieces, tokens, line, at = [], [], 1, 0
+    for _ in range(choose.randrange(20)):
+        record, token = random_record(choose, choose.choice((line, line + 1)))
+        content = "" if type(token) is ParseError else choose.choice(WORDS)
+        begin, end = at + choose.randrange(9), at + (1 << choose.randrange(40))
+        run = text(content) if content else b""
+        record = places(at, begin, end) + run + record
+        pieces += cut(choose, record) if run and choose.random() < 0.3 else [record]
+        tokens += [Placed(Text(line, content), at, begin)] if content else []
+        tokens.append(Placed(token, begin, end))
+        if type(token) is not ParseError:
+            line, at = token.line, end
+    return pieces, tokens
+
+
+def without_placed(tokens, errors, texts, tags):
+    """The tokens that are left by these options. No text is joined to the next."""
+    return [it for it in tokens if without([it.token], errors, texts, tags)]
+
+
 def without(tokens, errors, texts, tags):
     """The tokens that are left by these options."""
     left, is_run = [], False
@@ -173,6 +206,24 @@ class Records(unittest.TestCase):
                 self.assertEqual(read(links, pieces), links_of(tokens), (kind, pieces))
                 self.assertEqual("".join(read(texts, pieces)), text_of(tokens), (kind, pieces))
 
+    def test_places(self):
+        records = places(0, 2, 5) + text("é") + tag(1, 1, "p") + places(5, 7, 8) + with_text(8, 2, "e")
+        records += places(5, 9, 9) + text("1 < 2") + b"\11" + number(3)
+        due = [Placed(Text(1, "é"), 0, 2), Placed(StartTag(1, "p", (), False, False), 2, 5)]
+        due += [Placed(ParseError(2, "e"), 7, 8), Placed(Text(1, "1 < 2"), 5, 9), Placed(End(3), 9, 9)]
+        for kind in KINDS:
+            self.assertEqual(kind.Reader(places=True).read(records), due)
+
+    def test_random_records_with_places(self):
+        choose = random.Random(5)
+        for _ in range(4000):
+            pieces, tokens = random_placed(choose)
+            options = options_of(choose)
+            for kind in KINDS:
+                found = read(kind.Reader(**options, places=True), pieces)
+                self.assertEqual(found, without_placed(tokens, **options), (kind, pieces, options))
+                self.assertTrue(all(type(it) is Placed for it in found))
+
     def test_a_text_that_is_taken_byte_by_byte(self):
         content = "日本𝄞" * 50
         record = text(content)
@@ -204,6 +255,14 @@ class NoRecords(unittest.TestCase):
                 self.refuse(record[:end])
                 self.refuse(record + record[:end])
 
+    def test_places_that_are_cut_or_not_there(self):
+        whole = places(0, 1, 2) + text("x") + tag(1, 1, "p")
+        cuts = [whole[:end] for end in (*range(1, 25), *range(29, len(whole)))]
+        for records in (*cuts, tag(1, 1, "p"), text("x"), whole + tag(1, 1, "p"), places(0, 1, 2) * 2):
+            for kind in KINDS:
+                with self.assertRaises(ValueError, msg=(kind, records)):
+                    kind.Reader(places=True).read(records)
+
     def test_kinds_that_are_none(self):
         for kind in (0, *range(10, 256)):
             self.refuse(bytes([kind]) + number(1) * 9)
@@ -231,14 +290,15 @@ class NoRecords(unittest.TestCase):
         """Whatever is taken is read or refused, and both kinds of readers of tokens say the same of it."""
         choose = random.Random(2)
         for _ in range(4000):
-            records = bytearray(b"".join(random_records(choose)[0]))
+            placed = choose.random() < 0.4
+            records = bytearray(b"".join((random_placed if placed else random_records)(choose)[0]))
             for _ in range(choose.randrange(4) if records else 0):
-                records[choose.randrange(len(records))] = choose.choice((0, 1, 2, 3, 9, 0x61, 0xC3, 0xFF, choose.randrange(256)))
+                records[choose.randrange(len(records))] = choose.choice((0, 1, 2, 3, 9, 10, 0x61, 0xC3, 0xFF, choose.randrange(256)))
             options = options_of(choose)
             for kind in KINDS:
                 for reader in made_by(kind, options)[1:]:
                     outcome(reader, bytes(records))
-            said = [outcome(kind.Reader(**options), bytes(records)) for kind in KINDS]
+            said = [outcome(kind.Reader(**options, places=placed), bytes(records)) for kind in KINDS]
             self.assertEqual(said, said[:1] * len(KINDS), (bytes(records), options))
 
     def test_what_is_no_bytes(self):
@@ -322,7 +382,10 @@ class Extension(unittest.TestCase):
 
         for given in ((), _records.CLASSES[:8], (int,) * 9, (1,) * 9, [Text] * 9, None):
             with self.assertRaises(TypeError, msg=given):
-                _fast.Reader(given)
+                _fast.Reader(given, Placed)
+        for placed in (int, 1, None):
+            with self.assertRaises(TypeError, msg=placed):
+                _fast.Reader(_records.CLASSES, placed)
         for link in (int, 1, None):
             with self.assertRaises(TypeError, msg=link):
                 _fast.LinkReader(link, LINKS)

@@ -7,7 +7,7 @@ import threading
 import unittest
 
 import firnuubal
-from firnuubal import End, EndTag, Fed, Replies, StartTag, State, Status, Text, Tokenizer, TokenizerError
+from firnuubal import End, EndTag, Fed, ParseError, Replies, StartTag, State, Status, Text, Tokenizer, TokenizerError
 
 PAGE = pathlib.Path(__file__).resolve().parents[2] / "page.html"
 
@@ -182,6 +182,19 @@ class Tokens(unittest.TestCase):
         due = [Text(1, "a\u20acb"), firnuubal.NullCharacter(1), Text(1, "c"), End(1)]
         self.assertEqual(list(firnuubal.tokens(page, errors=False)), due)
 
+    def test_the_codes_of_errors(self):
+        pages = {
+            "<p a=>": "missing-attribute-value",
+            "</p x>": "end-tag-with-attributes",
+            "<!--": "eof-in-comment",
+            "a\0": "unexpected-null-character",
+            "&#0;": None,
+        }
+        for page, code in pages.items():
+            found = [token.code for token in firnuubal.tokens(page) if isinstance(token, firnuubal.ParseError)]
+            self.assertEqual(found, [code], page)
+        self.assertIsNone(firnuubal.ParseError(1, "\ud800").code)
+
     def test_pages_of_each_kind(self):
         page = "<p>é"
         due = [StartTag(1, "p", (), False, False), Text(1, "é"), End(1)]
@@ -206,6 +219,54 @@ class Tokens(unittest.TestCase):
         self.assertEqual(found, [Text(1, "1"), a, Text(1, "2"), end, Text(1, "3"), End(1)])
         for piece in range(1, len(page) + 1):
             self.assertEqual(list(firnuubal.tokens(page, piece=piece, texts=False, tags={"a"})), [a, end, End(1)])
+
+    def test_tokens_with_places(self):
+        """What stands in the places of a page's tokens, worked by hand: in characters of texts, in bytes of bytes."""
+        page = "é<p CLASS = x>1 &lt; 2\r\n<!--x--></p >𝄞<title>&lt;</title>1 < 2"
+        due = ["é", "<p CLASS = x>", "1 &lt; 2\r\n", "<!--x-->", "</p >", "𝄞", "<title>", "&lt;", "</title>", " ", "1 < 2", ""]
+        found = list(firnuubal.placed_tokens(page))
+        self.assertEqual([page[begin:end] for _, begin, end in found], due)
+        self.assertEqual([it.token for it in found[:2]], [Text(1, "é"), StartTag(1, "p", (("class", "x"),), False, False)])
+        self.assertEqual(found[5][1:], (37, 38))
+        in_bytes = list(firnuubal.placed_tokens(page.encode()))
+        self.assertEqual([page.encode()[begin:end].decode() for _, begin, end in in_bytes], due)
+        self.assertEqual(in_bytes[5][1:], (38, 42))
+        for size in range(1, 9):
+            pieces = [page[at : at + size] for at in range(0, len(page), size)]
+            self.assertEqual(list(firnuubal.placed_tokens(pieces)), found)
+            self.assertEqual(list(firnuubal.placed_tokens(io.StringIO(page), piece=size)), found)
+            self.assertEqual(list(firnuubal.placed_tokens(io.BytesIO(page.encode()), piece=size)), in_bytes)
+
+    def test_many_errors_in_one_run(self):
+        page = "𝄞< " * 50_000 + "<p>"
+        errors = [begin for token, begin, _ in firnuubal.placed_tokens(page) if isinstance(token, ParseError)]
+        self.assertEqual(errors, list(range(2, 150_000, 3)))
+
+    def test_a_tokenizer_with_places(self):
+        with Tokenizer(places=True) as tokenizer:
+            tokenizer.feed("é<b")
+            tokenizer.feed(">é")
+            self.assertEqual([it[1:] for it in tokenizer.placed_tokens()], [(0, 1), (1, 4)])
+            with self.assertRaises(TypeError):
+                tokenizer.feed(b"<i>")
+            with self.assertRaises(TokenizerError) as refused:
+                tokenizer.insert("x")
+            self.assertEqual(refused.exception.status, Status.CLOSED)
+            tokenizer.end()
+            self.assertEqual(list(tokenizer.tokens()), [Text(1, "é"), End(1)])
+        with Tokenizer() as tokenizer, self.assertRaises(ValueError):
+            tokenizer.placed_tokens()
+        for options in ({"replies": Replies.PAUSING}, {"foreign": True}, {"encoding": "auto"}):
+            with self.assertRaises(ValueError):
+                Tokenizer(places=True, **options)
+
+    def test_a_piece_that_goes_past_the_limit_has_no_places(self):
+        with Tokenizer(places=True, limit=200) as tokenizer:
+            with self.assertRaises(TokenizerError) as refused:
+                tokenizer.feed("é" * 200)
+            self.assertEqual(refused.exception.status, Status.LIMIT)
+            tokenizer.feed("é<b>")
+            self.assertEqual([it[1:] for it in tokenizer.placed_tokens()], [(0, 1), (1, 4)])
 
     def test_links(self):
         page = '<a href="/x?a&amp;b">\n<script><a href=no></script><img src=y><p href=z><a>'

@@ -1,8 +1,9 @@
 //! Prints the tokens of a page, a line each, as html5tok does.
 //!
-//!     tokens [PIECE] < PAGE
+//!     tokens [PIECE [places]] < PAGE
 //!
-//! The page is fed in pieces of PIECE bytes, or 4096.
+//! The page is fed in pieces of PIECE bytes, or 4096. With `places` each line begins with the byte of the page where the token
+//! begins, and the byte after its last; then nothing pauses.
 
 use firnuubal::{Doctype, Fed, Options, Replies, Tag, Token, Tokenizer};
 use std::env;
@@ -67,6 +68,15 @@ fn print_token(out: &mut impl Write, token: &Token<'_>) -> io::Result<()> {
     }
 }
 
+/// Prints what waits, with places.
+fn print_placed(out: &mut impl Write, tokenizer: &mut Tokenizer) -> io::Result<()> {
+    for (token, place) in tokenizer.placed_tokens() {
+        write!(out, "{} {} ", place.start, place.end)?;
+        print_token(out, &token)?;
+    }
+    Ok(())
+}
+
 /// Prints what waits, and after a pause its line.
 fn print_waiting(out: &mut impl Write, tokenizer: &mut Tokenizer, fed: Fed) -> io::Result<()> {
     let mut charset = "";
@@ -84,25 +94,39 @@ fn print_waiting(out: &mut impl Write, tokenizer: &mut Tokenizer, fed: Fed) -> i
     }
 }
 
+/// Feeds a piece, past all pauses, and prints what is told.
+fn feed(out: &mut impl Write, tokenizer: &mut Tokenizer, piece: &[u8], places: bool) -> Result<(), Box<dyn Error>> {
+    let mut fed = tokenizer.feed(piece)?;
+    if places {
+        return Ok(print_placed(out, tokenizer)?);
+    }
+    print_waiting(out, tokenizer, fed)?;
+    while fed != Fed::Done {
+        fed = tokenizer.feed(&[])?;
+        print_waiting(out, tokenizer, fed)?;
+    }
+    Ok(())
+}
+
 fn main() -> Result<(), Box<dyn Error>> {
     let piece = env::args().nth(1).map_or(Ok(4096), |word| word.parse())?;
+    let places = env::args().nth(2).is_some_and(|word| word == "places");
     let mut bytes = vec![0; piece];
     let out = &mut BufWriter::new(io::stdout().lock());
-    let options = Options { replies: Replies::Pausing, ..Options::default() };
-    let mut tokenizer = Tokenizer::new(&options)?;
+    let replies = if places { Replies::Standard } else { Replies::Pausing };
+    let mut tokenizer = Tokenizer::new(&Options { replies, places, ..Options::default() })?;
     loop {
         let len = io::stdin().read(&mut bytes)?;
         if len == 0 {
             break;
         }
-        let mut fed = tokenizer.feed(&bytes[..len])?;
-        print_waiting(out, &mut tokenizer, fed)?;
-        while fed != Fed::Done {
-            fed = tokenizer.feed(&[])?;
-            print_waiting(out, &mut tokenizer, fed)?;
-        }
+        feed(out, &mut tokenizer, &bytes[..len], places)?;
     }
     tokenizer.end()?;
-    print_waiting(out, &mut tokenizer, Fed::Done)?;
+    if places {
+        print_placed(out, &mut tokenizer)?;
+    } else {
+        print_waiting(out, &mut tokenizer, Fed::Done)?;
+    }
     Ok(out.flush()?)
 }

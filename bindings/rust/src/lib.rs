@@ -30,7 +30,7 @@ mod sink;
 pub use cleaner::{clean, Cleaner, Policy, PolicyBuilder};
 pub use owned::{OwnedTag, OwnedToken};
 pub use pages::{links, read_tokens, text, Link};
-pub use record::{Attributes, Doctype, Tag, Token, Tokens};
+pub use record::{Attributes, Doctype, PlacedTokens, Tag, Token, Tokens};
 pub use sink::{RawKind, SinkTokenizer, TokenSink, TokenSinkResult, TokenizerResult};
 
 use raw::{Handle, RawOptions};
@@ -118,6 +118,11 @@ pub struct Options<'o> {
     pub limit: Option<u64>,
     /// In which encoding the bytes are. Without one they are UTF-8, and others are refused.
     pub encoding: Option<Encoding<'o>>,
+    /// Each token comes with its place ([`Tokenizer::placed_tokens`]). Only with the standard's replies, in content that is not
+    /// foreign, and without an encoding. Nothing pauses then, and what steers the reading is refused: [`Error::Over`]. A text
+    /// comes with the token after it, and an error before the text in which it stands. It is slower, and holds the text since
+    /// the last token.
+    pub places: bool,
 }
 
 /// What a feed came to.
@@ -157,6 +162,8 @@ pub enum Error {
     UnknownEncoding,
     /// Bytes were fed already, so it can't be set in which encoding they are.
     Begun,
+    /// Places don't go with the other options.
+    NoPlaces,
     /// A policy takes no such rule as the one on this line.
     BadPolicy {
         /// The number of the line, from 1.
@@ -193,6 +200,7 @@ impl fmt::Display for Error {
             Error::Over => f.write_str("the reading is over"),
             Error::UnknownEncoding => f.write_str("no encoding has this label"),
             Error::Begun => f.write_str("bytes were fed already"),
+            Error::NoPlaces => f.write_str("places don't go with the other options"),
             Error::BadPolicy { line } => write!(f, "line {line} is no rule that a policy takes"),
         }
     }
@@ -200,12 +208,19 @@ impl fmt::Display for Error {
 
 impl std::error::Error for Error {}
 
+/// The code that the standard has for a parse error with this message, as `eof-in-tag`, if it has one. With exact errors that
+/// of a character or of the end is not known.
+pub fn error_code(message: &str) -> Option<String> {
+    raw::error_code(message)
+}
+
 /// A tokenizer. Its tokens wait in it until they are read.
 #[derive(Debug)]
 pub struct Tokenizer {
     handle: Handle,
     taken: Vec<u8>,
     read: record::Read,
+    places: bool,
 }
 
 // The handle has no tie to a thread, and each call takes it by `&mut`.
@@ -214,18 +229,23 @@ unsafe impl Send for Tokenizer {}
 impl Tokenizer {
     /// A tokenizer at the start of a page.
     pub fn new(options: &Options<'_>) -> Result<Tokenizer, Error> {
+        let is_plain = options.replies == Replies::Standard && !options.foreign && options.encoding.is_none();
+        if options.places && !is_plain {
+            return Err(Error::NoPlaces);
+        }
         let raw = RawOptions {
             state: options.state as u32,
             replies: options.replies as u32,
             exact_errors: options.exact_errors,
             keep_bom: options.keep_bom,
             foreign: options.foreign,
-            places: false,
+            places: options.places,
         };
         let mut tokenizer = Tokenizer {
             handle: Handle::CLOSED,
             taken: Vec::new(),
             read: record::Read::default(),
+            places: options.places,
         };
         let last = options.last_start_tag;
         let status = unsafe { raw::html5_new(&mut tokenizer.handle, last.as_ptr(), last.len(), &raw) };
@@ -301,6 +321,30 @@ impl Tokenizer {
     pub fn tokens(&mut self) -> Tokens<'_> {
         self.take_all();
         Tokens::new(&self.taken, &mut self.read)
+    }
+
+    /// The same tokens, each with its place: the bytes of the text that was fed which are it as it is written. So
+    /// `&page[place]` is a tag with all that stands in it. A text has the place of its run, with its references; an error that
+    /// of the character at which it is told, and the end an empty one.
+    ///
+    /// ```
+    /// use firnuubal::{Options, Token, Tokenizer};
+    ///
+    /// let page = "<p>1 &lt; 2<A HREF = x >";
+    /// let mut tokenizer = Tokenizer::new(&Options { places: true, ..Options::default() })?;
+    /// tokenizer.feed(page.as_bytes())?;
+    /// tokenizer.end()?;
+    /// let sources: Vec<_> = tokenizer.placed_tokens().map(|(_, place)| &page[place]).collect();
+    /// assert_eq!(sources, ["<p>", "1 &lt; 2", "<A HREF = x >", ""]);
+    /// # Ok::<(), firnuubal::Error>(())
+    /// ```
+    ///
+    /// # Panics
+    ///
+    /// Where the options have no `places`.
+    pub fn placed_tokens(&mut self) -> PlacedTokens<'_> {
+        assert!(self.places, "the options have no places");
+        PlacedTokens::new(self.tokens())
     }
 
     // Takes all that waits. What was read goes.

@@ -88,6 +88,7 @@ impl From<Error> for io::Error {
             | Error::Over
             | Error::UnknownEncoding
             | Error::Begun
+            | Error::NoPlaces
             | Error::BadPolicy { .. } => io::ErrorKind::InvalidInput,
         };
         io::Error::new(kind, error)

@@ -38,6 +38,7 @@ extern "C" {
     pub(crate) fn html5_end(handle: *mut Handle) -> u32;
     pub(crate) fn html5_take(handle: *mut Handle, out: *mut u8, len: usize) -> usize;
     pub(crate) fn html5_error_at(handle: *mut Handle) -> u64;
+    pub(crate) fn html5_error_code(message: *const u8, message_len: usize, out: *mut u8, len: usize) -> usize;
     pub(crate) fn html5_is_over(handle: *mut Handle) -> bool;
     pub(crate) fn html5_free(handle: *mut Handle);
     pub(crate) fn html5_cleaner_new(handle: *mut Handle, policy: *const u8, len: usize, place: *mut u64) -> u32;
@@ -63,6 +64,15 @@ pub(crate) fn encoding(handle: &mut Handle) -> Option<String> {
     let len = unsafe { html5_encoding(handle, name.as_mut_ptr(), name.len()) };
     name.truncate(len);
     String::from_utf8(name).ok().filter(|name| !name.is_empty())
+}
+
+/// The code that the standard has for a parse error with this message, if it has one.
+pub(crate) fn error_code(message: &str) -> Option<String> {
+    // There is room for each code in so many bytes.
+    let mut code = vec![0; 64];
+    let len = unsafe { html5_error_code(message.as_ptr(), message.len(), code.as_mut_ptr(), code.len()) };
+    code.truncate(len);
+    String::from_utf8(code).ok().filter(|code| !code.is_empty())
 }
 
 /// Appends all that waits in a handle.

@@ -1,5 +1,6 @@
 //! Tokens, as their records have them.
 
+use std::ops::Range;
 use std::str;
 
 /// A token. Its texts are borrowed from the tokenizer. A line is the one on which the token ends.
@@ -108,6 +109,8 @@ pub(crate) struct Read {
     at: usize,
     // How far the end of an open text was looked for.
     searched: usize,
+    // Where the next token and the run before it stand, once that is read: where each begins, and where the token ends.
+    places: Option<[usize; 3]>,
 }
 
 impl Read {
@@ -149,12 +152,23 @@ impl<'t> Tokens<'t> {
         let (token, rest) = token(*kind, line, rest)?;
         Some((token, self.bytes.len() - rest.len()))
     }
+
+    // Reads the record of places that begins here.
+    fn read_places(&mut self) -> Option<()> {
+        let (places, rest) = three_numbers(&self.bytes[self.read.at + 1..])?;
+        self.read.places = Some(places);
+        self.read.at = self.bytes.len() - rest.len();
+        Some(())
+    }
 }
 
 impl<'t> Iterator for Tokens<'t> {
     type Item = Token<'t>;
 
     fn next(&mut self) -> Option<Token<'t>> {
+        if *self.bytes.get(self.read.at)? == PLACES {
+            self.read_places()?;
+        }
         let (token, after) = match self.bytes.get(self.read.at)? {
             3 => self.next_text()?,
             _ => self.next_other()?,
@@ -164,6 +178,30 @@ impl<'t> Iterator for Tokens<'t> {
     }
 }
 
+/// The tokens that were sent and not read yet, each with its place in the text that was fed.
+#[derive(Debug)]
+pub struct PlacedTokens<'t>(Tokens<'t>);
+
+impl<'t> PlacedTokens<'t> {
+    pub(crate) fn new(tokens: Tokens<'t>) -> PlacedTokens<'t> {
+        PlacedTokens(tokens)
+    }
+}
+
+impl<'t> Iterator for PlacedTokens<'t> {
+    type Item = (Token<'t>, Range<usize>);
+
+    fn next(&mut self) -> Option<Self::Item> {
+        let token = self.0.next()?;
+        let [run, begin, end] = self.0.read.places.expect("a record of places stands before each token");
+        let place = if matches!(token, Token::Text(_)) { run..begin } else { begin..end };
+        Some((token, place))
+    }
+}
+
+// What a record of places begins with.
+const PLACES: u8 = 10;
+
 // The texts of records are UTF-8, as the README of html5records says.
 fn text(bytes: &[u8]) -> &str {
     str::from_utf8(bytes).expect("the texts of records are UTF-8")
@@ -172,6 +210,12 @@ fn text(bytes: &[u8]) -> &str {
 fn number(bytes: &[u8]) -> Option<(u64, &[u8])> {
     let (number, rest) = bytes.split_first_chunk::<8>()?;
     Some((u64::from_le_bytes(*number), rest))
+}
+
+fn three_numbers(bytes: &[u8]) -> Option<([usize; 3], &[u8])> {
+    let (numbers, rest) = bytes.split_first_chunk::<24>()?;
+    let number = |at| u64::from_le_bytes(numbers[at..at + 8].try_into().expect("eight bytes"));
+    Some(([0, 8, 16].map(|at| number(at) as usize), rest))
 }
 
 // A text with its length in front.

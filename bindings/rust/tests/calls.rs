@@ -1,6 +1,6 @@
 //! Pauses, refusals, texts that arrive in pieces.
 
-use firnuubal::{Error, Fed, Options, Replies, State, Token, Tokenizer};
+use firnuubal::{Encoding, Error, Fed, Options, Replies, State, Token, Tokenizer};
 
 fn shown(tokenizer: &mut Tokenizer) -> String {
     let mut shown = String::new();
@@ -29,6 +29,36 @@ fn a_page_in_pieces() -> Result<(), Error> {
         tokenizer.end()?;
         assert_eq!(all + &shown(&mut tokenizer), "<p>[1 < 2]end 1");
     }
+    Ok(())
+}
+
+// The codes that the standard has for a page's errors.
+fn codes(page: &str) -> Result<Vec<Option<String>>, Error> {
+    let mut tokenizer = Tokenizer::new(&Options::default())?;
+    tokenizer.feed(page.as_bytes())?;
+    tokenizer.end()?;
+    let mut codes = Vec::new();
+    for token in tokenizer.tokens() {
+        if let Token::ParseError { message, .. } = token {
+            codes.push(firnuubal::error_code(message));
+        }
+    }
+    Ok(codes)
+}
+
+#[test]
+fn errors_have_the_codes_of_the_standard() -> Result<(), Error> {
+    let rows = [
+        ("<p a=>", Some("missing-attribute-value")),
+        ("<p a a>", Some("duplicate-attribute")),
+        ("<!--", Some("eof-in-comment")),
+        ("&nosuch;", Some("unknown-named-character-reference")),
+        ("&#0;", None),
+    ];
+    for (page, code) in rows {
+        assert_eq!(codes(page)?, [code.map(String::from)], "of {page}");
+    }
+    assert_eq!(firnuubal::error_code(""), None);
     Ok(())
 }
 
@@ -81,5 +111,61 @@ fn raw_text_from_the_start_in_another_thread() -> Result<(), Error> {
         tokenizer.feed(b"<b>&amp;</title>").map(|_| shown(&mut tokenizer))
     });
     assert_eq!(shown.join().expect("it ends"), Ok("[<b>&]</title>".to_string()));
+    Ok(())
+}
+
+// What stands in the places of a page's tokens, by hand.
+const PLACED: (&str, &[&str]) = (
+    "é<p CLASS = x>1 &lt; 2\r\n<!--x--></p >&amp",
+    &["é", "<p CLASS = x>", "1 &lt; 2\r\n", "<!--x-->", "</p >", "&amp", ""],
+);
+
+#[test]
+fn each_token_has_its_place() -> Result<(), Error> {
+    let (page, due) = PLACED;
+    let options = Options { places: true, ..Options::default() };
+    for size in 1..=page.len() {
+        let mut tokenizer = Tokenizer::new(&options)?;
+        let mut found = Vec::new();
+        for piece in page.as_bytes().chunks(size) {
+            tokenizer.feed(piece)?;
+            found.extend(tokenizer.placed_tokens().filter(|it| !is_error(&it.0)).map(|(_, place)| &page[place]));
+        }
+        tokenizer.end()?;
+        found.extend(tokenizer.placed_tokens().filter(|it| !is_error(&it.0)).map(|(_, place)| &page[place]));
+        assert_eq!(found, due);
+    }
+    Ok(())
+}
+
+fn is_error(token: &Token<'_>) -> bool {
+    matches!(token, Token::ParseError { .. })
+}
+
+#[test]
+fn an_error_stands_at_its_character() -> Result<(), Error> {
+    let mut tokenizer = Tokenizer::new(&Options { places: true, ..Options::default() })?;
+    tokenizer.feed(b"1 < 2")?;
+    tokenizer.end()?;
+    let places: Vec<_> = tokenizer.placed_tokens().map(|(token, place)| (is_error(&token), place)).collect();
+    assert_eq!(places, [(true, 3..4), (false, 0..5), (false, 5..5)]);
+    Ok(())
+}
+
+#[test]
+fn places_go_with_few_options() -> Result<(), Error> {
+    let places = Options { places: true, ..Options::default() };
+    for options in [
+        Options { replies: Replies::Pausing, ..places },
+        Options { foreign: true, ..places },
+        Options { encoding: Some(Encoding::Auto), ..places },
+    ] {
+        assert_eq!(Tokenizer::new(&options).unwrap_err(), Error::NoPlaces);
+    }
+    let mut tokenizer = Tokenizer::new(&places)?;
+    assert_eq!(tokenizer.insert("x"), Err(Error::Over));
+    tokenizer.feed(b"<b>x")?;
+    tokenizer.end()?;
+    assert_eq!(shown(&mut tokenizer), "<b>[x]end 1");
     Ok(())
 }

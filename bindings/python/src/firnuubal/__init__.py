@@ -25,13 +25,14 @@ from ._records import (
     Link,
     NullCharacter,
     ParseError,
+    Placed,
     StartTag,
     Text,
     Token,
 )
-from ._tokenizer import Fed, Replies, State, Tokenizer, links, text, tokens
+from ._tokenizer import Fed, Replies, State, Tokenizer, links, placed_tokens, text, tokens
 
-__version__ = "0.10.0"
+__version__ = "0.11.0"
 
 __all__ = [
     "ALLOWED_ATTRIBUTES",
@@ -48,6 +49,7 @@ __all__ = [
     "Link",
     "NullCharacter",
     "ParseError",
+    "Placed",
     "Policy",
     "PolicyError",
     "Replies",
@@ -60,6 +62,7 @@ __all__ = [
     "TokenizerError",
     "clean",
     "links",
+    "placed_tokens",
     "text",
     "tokens",
 ]

@@ -46,6 +46,7 @@ _CALLS = {
     "html5_end": ([_HANDLE], _STATUS),
     "html5_take": ([_HANDLE, *_BYTES], ctypes.c_size_t),
     "html5_error_at": ([_HANDLE], ctypes.c_uint64),
+    "html5_error_code": ([*_BYTES, *_BYTES], ctypes.c_size_t),
     "html5_is_over": ([_HANDLE], ctypes.c_bool),
     "html5_free": ([_HANDLE], None),
     "html5_cleaner_new": ([_HANDLE, *_BYTES, ctypes.POINTER(ctypes.c_uint64)], _STATUS),
@@ -113,6 +114,17 @@ def encoding_of(handle):
     """The name of the encoding in which a handle's page is read, once it is known."""
     name = ctypes.create_string_buffer(16)
     return name[: library.html5_encoding(handle, name, len(name))].decode() or None
+
+
+# There is room for each code in so many bytes.
+_CODE_ROOM = 64
+
+
+def error_code(message):
+    """The code that the standard has for a parse error with this message, if it has one."""
+    text = message.encode("utf-8", "surrogatepass")
+    code = ctypes.create_string_buffer(_CODE_ROOM)
+    return code[: library.html5_error_code(text, len(text), code, len(code))].decode() or None
 
 
 def as_bytes(piece):

@@ -34,6 +34,6 @@ LinkReader: Callable[..., Any] = _records.LinkReader
 TextReader: Callable[..., Any] = _records.TextReader
 
 if _extended is not None:
-    Reader = functools.partial(_extended.Reader, _records.CLASSES)
+    Reader = functools.partial(_extended.Reader, _records.CLASSES, _records.Placed)
     LinkReader = functools.partial(_extended.LinkReader, _records.Link)
     TextReader = _extended.TextReader

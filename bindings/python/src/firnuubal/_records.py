@@ -6,6 +6,8 @@ The extension `_fast`, where it is there, has these readers in C (native/_fast.c
 import struct
 from typing import Iterable, List, Mapping, NamedTuple, Optional, Tuple, Union
 
+from ._library import error_code
+
 
 def _is_same(token, other):
     """Equal tokens are of one kind, too."""
@@ -95,6 +97,12 @@ class ParseError(NamedTuple):
     message: str
     __eq__, __ne__, __hash__ = _is_same, _is_other, _hash
 
+    @property
+    def code(self) -> Optional[str]:
+        """The code that the standard has for it, as `eof-in-tag`, if it has one. With exact errors that of a character or
+        of the end is not known."""
+        return error_code(self.message)
+
 
 class End(NamedTuple):
     """The end of the page."""
@@ -112,16 +120,30 @@ class Link(NamedTuple):
 
 Token = Union[StartTag, EndTag, Text, Comment, Instruction, Doctype, NullCharacter, ParseError, End]
 
+
+class Placed(NamedTuple):
+    """A token with its place in the page: where it begins, and where what follows it does. So `page[begin:end]` is the token
+    as it is written, in characters of a text or in bytes.
+
+    A text has the place of its run, with its references as they are written. An error has that of the character at which it
+    is told; the end has an empty one."""
+
+    token: Token
+    begin: int
+    end: int
+
+
 # The classes of tokens by their kind, from 1 on.
 CLASSES = (StartTag, EndTag, Text, Comment, Instruction, Doctype, NullCharacter, ParseError, End)
 
-_END_TAG, _TEXT, _DOCTYPE, _ERROR = 2, 3, 6, 8
+_END_TAG, _TEXT, _DOCTYPE, _ERROR, _PLACES = 2, 3, 6, 8, 10
 _TAGS = {1: StartTag, 2: EndTag}
 _WITH_TEXT = {4: Comment, 5: Instruction, 8: ParseError}
 _LINE_ALONE = {7: NullCharacter, 9: End}
 
 _number = struct.Struct("<Q").unpack_from
 _two_numbers = struct.Struct("<QQ").unpack_from
+_three_numbers = struct.Struct("<QQQ").unpack_from
 _tag_head = struct.Struct("<QBQ").unpack_from
 _new = tuple.__new__
 
@@ -170,11 +192,14 @@ def _other(kind, data, at):
 
 
 class Reader:
-    """Reads tokens from records as they are taken. All records but a text are taken whole.
+    """Reads tokens from records as they are taken. All records but a text are taken whole. With places each is `Placed`, in
+    bytes of UTF-8.
 
     Bytes that are no records are a ValueError, and then the reader is of no more use."""
 
-    def __init__(self, errors: bool = True, texts: bool = True, tags: Optional[Iterable[str]] = None):
+    def __init__(
+        self, errors: bool = True, texts: bool = True, tags: Optional[Iterable[str]] = None, places: bool = False
+    ):
         # Whether parse errors are read. Else they end no text.
         self._errors = errors
         self._texts = texts
@@ -186,10 +211,14 @@ class Reader:
         # The texts that no other token has followed, where errors are left out.
         self._run: List[bytes] = []
         self._run_line = 1
+        # Where the next token stands and the run before it, once that is read: where each begins, and where the token ends.
+        # With places a run is one text, whatever the errors in it, and comes after them.
+        self._with_places = places
+        self._places: Optional[Tuple[int, int, int]] = None
 
-    def read(self, taken: bytes) -> List[Token]:
+    def read(self, taken: bytes) -> List[Union[Token, Placed]]:
         """The tokens whose end was taken."""
-        tokens: List[Token] = []
+        tokens: List[Union[Token, Placed]] = []
         try:
             end = self._read_records(taken, tokens)
         except (struct.error, LookupError, OverflowError):
@@ -205,7 +234,9 @@ class Reader:
             at = self._read_text(taken, 0, tokens)
         while at < size:
             kind = taken[at]
-            if kind == _TEXT:
+            if self._with_places and self._places is None:
+                at = self._read_places(kind, taken, at + 1)
+            elif kind == _TEXT:
                 self._open = []
                 at = self._read_text(taken, at + 1, tokens)
             elif kind <= _END_TAG:
@@ -215,6 +246,23 @@ class Reader:
             else:
                 at = self._read_other(kind, taken, at + 1, tokens)
         return at
+
+    def _read_places(self, kind, taken, at):
+        if kind != _PLACES:
+            raise LookupError("a record of places stands before each token")
+        self._places = _three_numbers(taken, at)
+        return at + 24
+
+    def _append(self, token, tokens):
+        """Adds a token, with its place if it has one."""
+        if self._places is None:
+            tokens.append(token)
+            return
+        run, begin, end = self._places
+        if type(token) is Text:
+            tokens.append(Placed(token, run, begin))
+        else:
+            tokens.append(Placed(token, begin, end))
 
     def _read_text(self, taken, at, tokens):
         """Reads on in the open text, up to its end or to all that was taken."""
@@ -226,8 +274,8 @@ class Reader:
         parts, self._open = self._open, None
         if not self._texts:
             return end + 1
-        if self._errors:
-            tokens.append(_new(Text, (self._line, b"".join(parts).decode())))
+        if self._errors or self._with_places:
+            self._append(_new(Text, (self._line, b"".join(parts).decode())), tokens)
         else:
             if not self._run:
                 self._run_line = self._line
@@ -242,21 +290,31 @@ class Reader:
         name = taken[at + 17 : end]
         count = _number(taken, end)[0]
         if self._tags is not None and name not in self._tags:
+            self._places = None
             return _after_attributes(taken, end + 8, count)
         attributes, end = _attributes(taken, end + 8, count) if count else ((), end + 8)
-        tokens.append(_new(which, (self._line, name.decode(), attributes, flags & 1 > 0, flags & 2 > 0)))
+        self._append(_new(which, (self._line, name.decode(), attributes, flags & 1 > 0, flags & 2 > 0)), tokens)
+        self._places = None
         return end
 
     def _read_other(self, kind, taken, at, tokens):
         if kind == _ERROR and not self._errors:
-            self._line, size = _two_numbers(taken, at)
+            line, size = _two_numbers(taken, at)
+            self._reach(kind, line)
+            self._places = None
             return at + 16 + size
         if self._run:
             self._end_run(tokens)
         token, at = _other(kind, taken, at)
-        self._line = token.line
-        tokens.append(token)
+        self._reach(kind, token.line)
+        self._append(token, tokens)
+        self._places = None
         return at
+
+    def _reach(self, kind, line):
+        """Notes the line where a text begins that is next. With places an error comes before the text in which it stands."""
+        if kind != _ERROR or not self._with_places:
+            self._line = line
 
     def _end_run(self, tokens):
         tokens.append(Text(self._run_line, b"".join(self._run).decode()))

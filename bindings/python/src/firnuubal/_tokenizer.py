@@ -6,8 +6,9 @@ from typing import Iterable, Iterator, Optional
 
 from ._errors import Status, TokenizerError
 from ._library import ROOM, Handle, Options, as_bytes, bytes_of, encoding_of, library, pieces_of, set_encoding, taken
+from ._places import Characters
 from ._readers import LinkReader, Reader, TextReader
-from ._records import Link, Token
+from ._records import Link, Placed, Token
 
 
 class State(enum.IntEnum):
@@ -54,6 +55,11 @@ class Tokenizer:
     Bytes are UTF-8, else they are refused. With `encoding` they are read in the encoding of that label, one of the Encoding
     Standard as "shift_jis", which a byte order mark overrules; or with "auto" in the one that the page tells as to a browser.
     Then bytes that are none of it are U+FFFD, and no piece is a text. An unknown label is a LookupError.
+
+    With `places` each token has its place (`placed_tokens`), in characters where the pieces are texts, and else in bytes. They
+    go only with the standard's replies, in content that is not foreign, and without `encoding`. Nothing pauses then, and what
+    steers the reading is refused. A text comes with the token after it, and an error before the text in which it stands. It is
+    slower, and holds what was fed since the last token.
     """
 
     _free = staticmethod(library.html5_free)
@@ -72,17 +78,24 @@ class Tokenizer:
         tags: Optional[Iterable[str]] = None,
         limit: Optional[int] = None,
         encoding: Optional[str] = None,
+        places: bool = False,
     ):
         self._handle = Handle()
         self._at = ctypes.byref(self._handle)
-        self._reader = Reader(errors, texts, tags)
+        if places and (replies != Replies.STANDARD or foreign or encoding is not None):
+            raise ValueError("places go with the standard's replies alone, without foreign content and without an encoding")
+        self._reader = Reader(errors, texts, tags, places)
+        self._places = places
+        # With places whether the pieces are texts, once there is one, and then what tells places in characters.
+        self._are_texts: Optional[bool] = None
+        self._characters: Optional[Characters] = None
         self._room = ctypes.create_string_buffer(ROOM)
-        options = Options(state, replies, exact_errors, keep_bom, foreign)
+        options = Options(state, replies, exact_errors, keep_bom, foreign, places)
         last = last_start_tag.encode()
         self._checked(library.html5_new(self._handle, last, len(last), options))
         if limit is not None:
             self._checked(library.html5_set_limit(self._handle, limit))
-        self._to_bytes = bytes_of if encoding is None else as_bytes
+        self._to_bytes = self._noted if places else bytes_of if encoding is None else as_bytes
         if encoding is not None:
             self._checked(set_encoding(self._handle, encoding))
 
@@ -110,10 +123,25 @@ class Tokenizer:
 
         Where bytes are no UTF-8, all before them is read, and then it is refused (`Status.NOT_UTF8`). A pause before them
         comes first: then no feed takes anything until that was said."""
-        if type(piece) is not bytes:
+        if type(piece) is not bytes or self._places:
             piece = self._to_bytes(piece)
+        return self._feed(piece)
+
+    def _feed(self, piece):
         status = library.html5_feed(self._at, piece, len(piece))
+        if self._characters is not None and (status == Fed.DONE or self.is_over()):
+            self._characters.add(piece)
         return _FED.get(status) or self._checked(status)
+
+    def _noted(self, piece):
+        """A piece as bytes. By the first one it is noted whether places are told in characters."""
+        is_text = isinstance(piece, str)
+        if self._are_texts is None:
+            self._are_texts = is_text
+            self._characters = Characters() if is_text else None
+        elif is_text != self._are_texts:
+            raise TypeError("with places all pieces are texts, or none is")
+        return bytes_of(piece)
 
     def insert(self, text: str) -> None:
         """Puts a text in front of what waits, as document.write does."""
@@ -140,7 +168,18 @@ class Tokenizer:
 
     def tokens(self) -> Iterator[Token]:
         """The tokens that were sent and not read yet. A text comes when its end is known."""
-        return iter(self._reader.read(taken(library.html5_take, self._at, self._room)))
+        found = self._read()
+        return (placed.token for placed in found) if self._places else iter(found)
+
+    def placed_tokens(self) -> Iterator[Placed]:
+        """The same tokens, each with its place. It wants a tokenizer with `places`."""
+        if not self._places:
+            raise ValueError("the tokenizer has no places")
+        found = self._read()
+        return iter(found if self._characters is None else self._characters.told(found))
+
+    def _read(self):
+        return self._reader.read(taken(library.html5_take, self._at, self._room))
 
     def _checked(self, status):
         if status == Fed.DONE:
@@ -152,12 +191,12 @@ class Tokenizer:
 def _fed(tokenizer, piece):
     """What a feed came to, or why it was refused."""
     try:
-        return tokenizer.feed(piece), None
+        return tokenizer._feed(piece), None
     except TokenizerError as refused:
         return None, refused
 
 
-def _items(page, piece, options, reader=None):
+def _items(page, piece, options, reader=None, read=Tokenizer.tokens):
     """What is read of a page, past all pauses: tokens, or what another reader makes of the records."""
     with Tokenizer(**options) as tokenizer:
         tokenizer._reader = reader or tokenizer._reader
@@ -165,14 +204,14 @@ def _items(page, piece, options, reader=None):
             fed = None
             while fed != Fed.DONE:
                 fed, refused = _fed(tokenizer, given)
-                yield from tokenizer.tokens()
+                yield from read(tokenizer)
                 if refused:
                     raise refused
                 given = b""
         fed = None
         while fed != Fed.DONE:
             fed = tokenizer.end()
-            yield from tokenizer.tokens()
+            yield from read(tokenizer)
 
 
 def tokens(page, *, piece: int = ROOM, **options) -> Iterator[Token]:
@@ -182,6 +221,18 @@ def tokens(page, *, piece: int = ROOM, **options) -> Iterator[Token]:
     `Tokenizer`. Where bytes are no UTF-8, the tokens before them come first, and then the error.
     """
     return _items(page, piece, options)
+
+
+def placed_tokens(page, *, piece: int = ROOM, **options) -> Iterator[Placed]:
+    """The tokens of a page, each with its place: `page[begin:end]` is the token as it is written, where the page is a text or
+    bytes. Of a file or an iterable of texts places count characters, and of others bytes.
+
+        for token, begin, end in firnuubal.placed_tokens(page):
+            print(page[begin:end])
+
+    The page and the options are those of `tokens`, but for what `places` of `Tokenizer` doesn't go with.
+    """
+    return _items(page, piece, {**options, "places": True}, read=Tokenizer.placed_tokens)
 
 
 _LINKS = {"a": "href", "area": "href", "link": "href", "img": "src", "script": "src", "iframe": "src"}

@@ -1,0 +1,42 @@
+"""Places in a page that is a text: from bytes of its UTF-8 to characters."""
+
+from typing import List
+
+from ._records import ParseError, Placed
+
+
+class Characters:
+    """Tells places in characters, by what was fed.
+
+    A token begins no earlier than the one before it ended, errors apart, and so does the text before it. Errors come before
+    the text in which they stand. So what stands before the last token that is no error is let go."""
+
+    def __init__(self):
+        # What was fed, from this byte on.
+        self._data = bytearray()
+        self._first = 0
+        # A byte and the number of its character: where the last token ended, and of the last place that was told.
+        self._end = self._last = (0, 0)
+
+    def add(self, piece: bytes) -> None:
+        """Adds what was fed."""
+        self._data += piece
+
+    def told(self, tokens: List[Placed]) -> List[Placed]:
+        """The next tokens, with their places in characters."""
+        found = [self._told(*token) for token in tokens]
+        del self._data[: self._end[0] - self._first]
+        self._first = self._end[0]
+        return found
+
+    def _told(self, token, begin, end):
+        found = Placed(token, self._character(begin), self._character(end))
+        if type(token) is not ParseError:
+            self._end = self._last
+        return found
+
+    def _character(self, byte):
+        begin, number = self._last if self._last[0] <= byte else self._end
+        number += len(self._data[begin - self._first : byte - self._first].decode())
+        self._last = byte, number
+        return number
