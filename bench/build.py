@@ -7,6 +7,8 @@ import subprocess
 SOURCES = pathlib.Path(__file__).resolve().parent / "beside"
 REGISTRY = pathlib.Path("/usr/share/cargo/registry")
 INSTALL = "apt-get install librust-html5ever-dev"
+# Crates that are built over where they are packed, each for the program of its name: librust-ammonia-dev.
+MORE = {"ammonia": "3"}
 
 MANIFEST = """\
 [package]
@@ -63,7 +65,11 @@ def lay_out(folder):
         shutil.copy(SOURCES / name, folder / "src" / name)
     for name in ["pages.rs", "clean.rs", "count.rs"]:
         shutil.copy(SOURCES / name, folder / "src" / "bin" / name)
-    (folder / "Cargo.toml").write_text(MANIFEST)
+    more = {name: version for name, version in MORE.items() if list(REGISTRY.glob(f"{name}-[0-9]*"))}
+    for name in more:
+        shutil.copy(SOURCES / f"{name}.rs", folder / "src" / "bin" / f"{name}.rs")
+    lines = "".join(f'{name} = "{version}"\n' for name, version in more.items())
+    (folder / "Cargo.toml").write_text(MANIFEST.replace("\n[patch", f"{lines}\n[patch"))
     (folder / ".cargo" / "config.toml").write_text(CONFIG)
     copy_tendril(folder)
 

@@ -7,7 +7,8 @@ and prints a table.
 All but `check` read pages as they arrive. A time is the processor time of a process, user and system, the best of some runs in
 which the programs take turns. The peak of memory is read where all but the end of the input was handed in. MB are
 1,000,000 bytes. Where html5ever can't be built the programs are timed alone. What cleans over html5ever makes no tree, so
-beside it stands `clean` by the standard policy without the rule `tree`, and `clean` with it alone.
+beside it stands `clean` by the standard policy without the rule `tree`. Beside `clean` with it stands ammonia, where it is
+there (Debian's librust-ammonia-dev): it builds a tree, reads its input whole, and keeps other pages, by rules of its own.
 """
 
 import argparse
@@ -24,7 +25,7 @@ import measure
 PROGRAM = pathlib.Path(__file__).resolve().parent.parent / "crates/firnuubal/out/firnuubal"
 NO_TREE = "clean without tree"
 # What does the same work over html5ever: a program of beside/ and its words.
-COMMANDS = {"links": ["pages", "links"], "text": ["pages", "text"], NO_TREE: ["clean"], "clean": None, "tokens": None, "check": None, "rewrite": None}
+COMMANDS = {"links": ["pages", "links"], "text": ["pages", "text"], NO_TREE: ["clean"], "clean": ["ammonia"], "tokens": None, "check": None, "rewrite": None}
 
 
 def words_of(name, folder):
@@ -69,15 +70,16 @@ def print_command(name, corpus, beside, runs):
     """Prints the row of a command and a corpus; `beside` is where the programs over html5ever are."""
     own = words_of(name, corpus.parent)
     turns = [(PROGRAM, own, corpus)]
-    if beside and COMMANDS[name]:
-        other, *words = COMMANDS[name]
+    other, *words = COMMANDS[name] or [""]
+    if beside and (beside / other).is_file():
         turns.append((beside / other, words, corpus))
     size = corpus.stat().st_size / corpora.MB
     ours, *theirs = measure.best_times(turns, runs)
     peak = peak_memory(own, corpus) / corpora.MB
     cells = [f"`{name}`", f"{size:.0f}", f"{ours:.2f}", f"{size / ours:.0f}", f"{peak:.1f}"]
     for seconds in theirs:
-        cells += [f"{seconds:.2f}", f"{seconds / ours:.2f}", difference(name, turns)]
+        apart = f"{other}'s rules" if other in build.MORE else difference(name, turns)
+        cells += [f"{seconds:.2f}", f"{seconds / ours:.2f}", apart]
     print(f"| {' | '.join(cells)} |", flush=True)
 
 
