@@ -8,10 +8,10 @@
 #define FIRNUUBAL_H
 
 /* The version of the library, of this header and of the readers. */
-#define FIRNUUBAL_VERSION "0.10.0"
+#define FIRNUUBAL_VERSION "0.11.0"
 
 /* The same as a number, its three numbers a byte each. `html5_version` says it of the library that is linked. */
-#define FIRNUUBAL_VERSION_NUMBER 0x000a00
+#define FIRNUUBAL_VERSION_NUMBER 0x000b00
 
 #include <stdbool.h>
 #include <stddef.h>
@@ -203,6 +203,18 @@ bool html5_is_over(html5_handle *handle);
 /* Gives the memory back. The handle is closed then, and may be opened again. */
 void html5_free(html5_handle *handle);
 
+/*
+ * The code that the standard has for a parse error, "eof-in-tag" and so on, by its message: that of a token
+ * HTML5_PARSE_ERROR. It copies as much of the code as fits, HTML5_ERROR_CODE_ROOM bytes at most, with no zero byte after
+ * it, and answers how many; 0 where the message has no code. With `exact_errors` a message says no state, and then one of a
+ * character or of the end has none. It needs no handle.
+ */
+size_t html5_error_code(const uint8_t *message, size_t message_len, uint8_t *out, size_t len);
+#define html5_error_code(message, message_len, out, len) html5_error_code(html5_bytes_or_none(message), message_len, out, len)
+
+/* There is room for each code in so many bytes. */
+#define HTML5_ERROR_CODE_ROOM 64
+
 /* ---- the cleaner */
 
 /*
@@ -337,10 +349,10 @@ typedef struct {
     uint64_t places[3];
 } html5_reader;
 
+/* Written out, this is one load where the processor puts low bytes first. */
 static inline uint64_t html5_number(const uint8_t *at) {
-    uint64_t number = 0;
-    for (int byte = 7; byte >= 0; byte--) number = number << 8 | at[byte];
-    return number;
+    return (uint64_t)at[0] | (uint64_t)at[1] << 8 | (uint64_t)at[2] << 16 | (uint64_t)at[3] << 24 | (uint64_t)at[4] << 32 |
+           (uint64_t)at[5] << 40 | (uint64_t)at[6] << 48 | (uint64_t)at[7] << 56;
 }
 
 /* A text with its length in front. It moves the place past it, or to null where fewer bytes are left. */
