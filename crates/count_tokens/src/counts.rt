@@ -1,7 +1,9 @@
 //! A sink that counts what it is sent.
 use html5ever_interface::interface::sink::TokenSink;
-use html5ever_interface::interface::token::{SinkFault, Tag, TextFault, Token, TokenSinkResult};
-use html5sinks::replies::standard_reply;
+use html5ever_interface::interface::token::{
+    Returned, SinkFault, Tag, TextFault, Token, TokenSinkResult,
+};
+use html5sinks::text_runs::reply_to_token;
 use std::alloc::Allocator;
 
 /// How much was sent. Adjacent texts are one. Its replies are those that the standard's elements ask for.
@@ -49,8 +51,8 @@ impl Counts {
 
 impl<A: Allocator> TokenSink<Token<A>> for Counts {
     ghost use Rattle.std.specs.Prelude.{false, refl};
-    ghost use Rattle.count_tokens.specs.Laws.{counted_keeps_on};
     ghost use Rattle.html5sinks.specs.Replies.{standard_reply};
+    ghost use Rattle.html5sinks.specs.RunLaws.{tags_alone_reply};
     ghost use Rattle.html5sinks.specs.Runs.{reply_where_tag};
 
     type Handle = ();
@@ -75,21 +77,31 @@ impl<A: Allocator> TokenSink<Token<A>> for Counts {
 
     ghost any_line = { λ s a line other. refl };
 
-    ghost keeps_on = { counted_keeps_on };
+    ghost keeps_on = { tags_alone_reply standard_reply };
 
     fn process_token(
         &mut self,
         token: Token<A>,
-        _line_number: u64,
+        line_number: u64,
     ) -> Result<TokenSinkResult<(), String<A>>, SinkFault> {
+        Ok(self.process_and_return(token, line_number)?.reply)
+    }
+
+    // Counts the token, and has no more use for it.
+    fn process_and_return(
+        &mut self,
+        token: Token<A>,
+        _line_number: u64,
+    ) -> Result<Returned<(), String<A>, Token<A>>, SinkFault> {
         match &token {
             Token::CharacterTokens(text) => self.count_text(text),
             _ => self.count_token(&token),
         }
-        match &token {
-            Token::TagToken(tag) => Ok(standard_reply(tag)),
-            _ => Ok(TokenSinkResult::Continue),
-        }
+        let reply = reply_to_token(&token);
+        Ok(Returned {
+            reply,
+            token: Some(token),
+        })
     }
 
     fn process_text(&mut self, _alloc: A, text: &str, _line_number: u64) -> Result<(), TextFault> {

@@ -102,13 +102,24 @@ impl<W: Target, A: Allocator> TokenHandler<Token<A>> for PageText<W, A> {
         &mut self,
         run: &str,
         token: Token<A>,
-        _line_number: u64,
+        line_number: u64,
     ) -> Result<(), SinkFault> {
+        self.take_and_return(run, token, line_number)?;
+        Ok(())
+    }
+
+    // Nothing of a token is kept.
+    fn take_and_return(
+        &mut self,
+        run: &str,
+        token: Token<A>,
+        _line_number: u64,
+    ) -> Result<Option<Token<A>>, SinkFault> {
         // A match in place of `?`: split for the proof.
         match self.show(run) {
             Ok(()) => {
                 self.within = is_within_after(self.within, &token);
-                Ok(())
+                Ok(Some(token))
             }
             Err(SinkFault) => Err(SinkFault),
         }

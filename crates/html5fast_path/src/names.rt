@@ -15,7 +15,7 @@ use html5ever_interface::interface::token::TagKind;
 use html5ever_interface::states::State;
 use html5partial::characters::is_letter;
 use html5partial::opened::Opened;
-use html5partial::runs::{attribute_name_ends, name_of, tag_name_ends};
+use html5partial::runs::{attribute_name_ends, push_names, tag_name_ends};
 use markup5ever::small_char_set::SmallCharSet;
 use std::alloc::{AllocError, Allocator};
 
@@ -37,7 +37,6 @@ fn name_len(ends: SmallCharSet, text: &str) -> usize
 // Begins a tag with its name.
 fn begin_tag<A: Allocator + Copy>(
     at: &mut Opened<A>,
-    alloc: A,
     kind: TagKind,
     name: &str,
 ) -> Result<(), AllocError>
@@ -47,8 +46,7 @@ fn begin_tag<A: Allocator + Copy>(
 {
     at.state = State::TagName;
     at.tag.begin(kind);
-    at.tag.name = name_of(alloc, name)?;
-    Ok(())
+    push_names(&mut at.tag.name, name)
 }
 
 // Begins an attribute with its name. Where the one before it repeats a name, nothing changes.
@@ -69,7 +67,7 @@ fn begin_attribute<A: Allocator + Copy>(
         return Ok(false);
     }
     at.state = State::AttributeName;
-    at.tag.attr_name = name_of(alloc, name)?;
+    push_names(&mut at.tag.attr_name, name)?;
     Ok(true)
 }
 
@@ -77,7 +75,6 @@ fn begin_attribute<A: Allocator + Copy>(
 #[inline(always)]
 fn read_tag_name<A: Allocator + Copy>(
     at: &mut Opened<A>,
-    alloc: A,
     kind: TagKind,
     text: &str,
 ) -> Result<usize, AllocError>
@@ -90,7 +87,7 @@ fn read_tag_name<A: Allocator + Copy>(
     if bytes == 0 {
         return Ok(0);
     }
-    begin_tag(at, alloc, kind, &text[..bytes])?;
+    begin_tag(at, kind, &text[..bytes])?;
     Ok(bytes)
 }
 
@@ -130,8 +127,8 @@ pub fn read_name<A: Allocator + Copy>(
     ensures held { held_len (opened_of at.new) ≤ held_len (opened_of at.old) }
 {
     match at.state {
-        State::TagOpen => read_tag_name(at, alloc, TagKind::StartTag, text),
-        State::EndTagOpen => read_tag_name(at, alloc, TagKind::EndTag, text),
+        State::TagOpen => read_tag_name(at, TagKind::StartTag, text),
+        State::EndTagOpen => read_tag_name(at, TagKind::EndTag, text),
         State::BeforeAttributeName => read_attribute_name(at, alloc, text),
         _ => Ok(0),
     }

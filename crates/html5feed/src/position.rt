@@ -228,6 +228,20 @@ impl<A: Allocator + Copy> Position<A> {
         Ok(keep_name(&mut self.opened.last_start_tag, tag)?)
     }
 
+    /// Takes the memory of a tag that was sent for the next ones, if the sink returned it.
+    #[inline(always)]
+    pub(crate) fn reuse(&mut self, token: Option<Token<A>>)
+        requires { self.old.opened ≡ Between Data }
+        ensures opened { self.new.opened ≡ Between Data }
+        ensures last { self.new.last_start_tag ≡ self.old.last_start_tag }
+        ensures input { self.new.input ≡ self.old.input }
+    {
+        self.in_reference = false;
+        if let Some(Token::TagToken(tag)) = token {
+            self.opened.tag.reuse(tag);
+        }
+    }
+
     /// Begins a reference where the state is.
     pub(crate) fn begin_reference(&mut self)
         requires decided { is_undecided_open self.old.opened ≡ false }

@@ -6,6 +6,7 @@ ghost use Rattle.html5partial.specs.AttributeList.{AddsName, HasNames, HasNamesA
 ghost use Rattle.html5reading.specs.Tag.{attribute, has_attribute};
 ghost use Rattle.markup5ever.specs.Names.{attribute_of};
 
+use crate::spares::Spares;
 use markup5ever::interface::{Attribute, LocalName, Namespace, QualName};
 use std::alloc::{AllocError, Allocator, Global};
 use std::collections::BTreeSet;
@@ -157,6 +158,16 @@ impl<A: Allocator> AttributeList<A> {
         if !self.items.is_empty() {
             self.items.clear();
         }
+    }
+
+    /// Leaves none, and takes the memory of these for the next ones.
+    pub fn reuse(&mut self, mut attributes: Vec<Attribute<A>, A>, spares: &mut Spares<A>)
+        ensures { self.new ≡ [] }
+    {
+        spares.keep_texts(&mut attributes);
+        attributes.clear();
+        self.clear();
+        self.items = attributes;
     }
 
     /// Whether an attribute has the name.

@@ -1,7 +1,7 @@
 //! The tag that is open, and what the standard does with it.
 #![tactic(auto, unfolding(html5reading::specs::Characters::name_bytes, html5reading::specs::Characters::value_bytes, html5reading::specs::Characters::shown, html5reading::specs::Characters::is_letter, html5reading::specs::Tag::with_last_attribute, html5reading::specs::Tag::duplicate_error, html5reading::specs::Tag::repeats_attribute))]
 
-ghost use Rattle.std.specs.Prelude.{◌≡◌, ◌&&◌, ◌++◌, true, false, not, IfOk, OnOk, string_bytes};
+ghost use Rattle.std.specs.Prelude.{◌≡◌, ◌&&◌, ◌++◌, [], true, false, not, IfOk, OnOk, string_bytes};
 ghost use Rattle.html5reading.specs.Characters.{name_bytes, value_bytes};
 ghost use Rattle.html5reading.specs.Start.{begun};
 ghost use Rattle.html5reading.specs.Tag.{has_last, repeats_attribute, told_tag, with_last_attribute};
@@ -10,6 +10,7 @@ ghost use Rattle.html5ever_interface.specs.Token.{tag_of};
 
 use crate::attribute_list::AttributeList;
 use crate::characters::{name_character, shown};
+use crate::spares::Spares;
 use html5ever_interface::interface::token::{Tag, TagKind};
 use markup5ever::interface::LocalName;
 use std::alloc::{AllocError, Allocator, Global};
@@ -26,6 +27,8 @@ pub struct CurrentTag<A: Allocator = Global> {
     pub had_duplicate_attributes: bool,
     pub attr_name: String<A>,
     pub attr_value: String<A>,
+    /// Memory for the attributes to come.
+    pub spares: Spares<A>,
 }
 
 impl<A: Allocator + Copy> CurrentTag<A> {
@@ -41,6 +44,7 @@ impl<A: Allocator + Copy> CurrentTag<A> {
             had_duplicate_attributes: false,
             attr_name: String::new(alloc),
             attr_value: String::new(alloc),
+            spares: Spares::new(alloc),
         }
     }
 
@@ -71,6 +75,23 @@ impl<A: Allocator + Copy> CurrentTag<A> {
         }
     }
 
+    /// Takes the memory of a tag for the next ones. Nothing else of it is kept.
+    pub fn reuse(&mut self, tag: Tag<A>)
+        ensures name { string_bytes self.new.name ≡ [] }
+        ensures attributes { self.new.attrs ≡ [] }
+    {
+        let Tag {
+            kind: _,
+            name: LocalName(name),
+            attrs,
+            self_closing: _,
+            had_duplicate_attributes: _,
+        } = tag;
+        self.attrs.reuse(attrs, &mut self.spares);
+        self.name = name;
+        self.name.clear();
+    }
+
     /// Ends the last attribute, if there is one. Where the tag already has its name, nothing changes.
     /// Answers whether it ended.
     #[inline(always)]
@@ -99,8 +120,10 @@ impl<A: Allocator + Copy> CurrentTag<A> {
         if self.attrs.has(&self.attr_name) {
             return Ok(false);
         }
-        let name = mem::replace(&mut self.attr_name, String::new(alloc));
-        let value = mem::replace(&mut self.attr_value, String::new(alloc));
+        let next_name = self.spares.take(alloc)?;
+        let next_value = self.spares.take(alloc)?;
+        let name = mem::replace(&mut self.attr_name, next_name);
+        let value = mem::replace(&mut self.attr_value, next_value);
         self.attrs.push(alloc, name, value)?;
         Ok(true)
     }

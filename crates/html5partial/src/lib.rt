@@ -22,3 +22,4 @@ pub mod message;
 pub mod number;
 pub mod opened;
 pub mod runs;
+pub mod spares;

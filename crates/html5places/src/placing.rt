@@ -1,16 +1,14 @@
 //! The sink that keeps tokens with their places.
 ghost use Rattle.std.specs.Prelude.{◌≡◌, ◌++◌, ◌∷◌, [], true, map, string_bytes, IfOk, OnErr, OnOk};
-ghost use Rattle.html5ever_interface.specs.Token.{told_by, reply_of};
+ghost use Rattle.html5ever_interface.specs.Token.{told_by};
 ghost use Rattle.html5ever_interface.specs.Token.Reply.{KeepOn};
 ghost use Rattle.html5places.specs.Marks.{kept, placed_token, placed_of, placed_step, places_of, placing_of, waits};
-ghost use Rattle.html5sinks.specs.Replies.{standard_reply};
-ghost use Rattle.html5sinks.specs.Runs.{reply_where_tag};
 
 use crate::places::Places;
 use ghost_counts::Count;
 use html5ever_interface::interface::sink::TokenSink;
 use html5ever_interface::interface::token::{SinkFault, TextFault, Token, TokenSinkResult};
-use html5sinks::replies::standard_reply;
+use html5sinks::text_runs::reply_to_token;
 use std::alloc::{AllocError, Allocator, Global};
 use std::marker::Model;
 use std::mem;
@@ -257,19 +255,11 @@ impl<A: Allocator + Copy> PlacedTokens<A> {
     }
 }
 
-// What the standard's elements ask for, where the token is a tag.
-fn reply_to_token<A: Allocator>(token: &Token<A>) -> TokenSinkResult<(), String<A>>
-    ensures { reply_of string_bytes result ≡ reply_where_tag standard_reply (told_by token.now) }
-{
-    match token {
-        Token::TagToken(tag) => standard_reply(tag),
-        _ => TokenSinkResult::Continue,
-    }
-}
-
 impl<A: Allocator + Copy> TokenSink<Token<A>> for PlacedTokens<A> {
     ghost use Rattle.std.specs.Prelude.{List, refl};
-    ghost use Rattle.html5places.specs.Laws.{placed_join, placed_empty, placed_keep_on};
+    ghost use Rattle.html5places.specs.Laws.{placed_join, placed_empty};
+    ghost use Rattle.html5sinks.specs.Replies.{standard_reply};
+    ghost use Rattle.html5sinks.specs.RunLaws.{tags_alone_reply};
     ghost use Rattle.html5places.specs.Marks.{Placed, Placing, kept, placed_means, waits};
 
     type Handle = ();
@@ -286,7 +276,7 @@ impl<A: Allocator + Copy> TokenSink<Token<A>> for PlacedTokens<A> {
 
     ghost any_line = { λ s a line other. refl };
 
-    ghost keeps_on = { placed_keep_on };
+    ghost keeps_on = { tags_alone_reply standard_reply };
 
     fn process_token(
         &mut self,

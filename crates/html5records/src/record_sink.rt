@@ -9,7 +9,9 @@ ghost use Rattle.html5ever_interface.specs.Token.{told_by, reply_of};
 use crate::records::{is_open_after, is_open_after_text, push_text, push_token};
 use ghost_counts::{Count, Log};
 use html5ever_interface::interface::sink::TokenSink;
-use html5ever_interface::interface::token::{SinkFault, TextFault, Token, TokenSinkResult};
+use html5ever_interface::interface::token::{
+    Returned, SinkFault, TextFault, Token, TokenSinkResult,
+};
 use html5sinks::pausing::pausing_reply;
 use html5sinks::replies::standard_reply;
 use outbox::front::{rest_of, skip_front};
@@ -286,6 +288,15 @@ impl<A: Allocator + Copy> TokenSink<Token<A>> for RecordSink<A> {
         token: Token<A>,
         line_number: u64,
     ) -> Result<TokenSinkResult<PausedAt, String<A>>, SinkFault> {
+        Ok(self.process_and_return(token, line_number)?.reply)
+    }
+
+    // Writes the token, and has no more use for it.
+    fn process_and_return(
+        &mut self,
+        token: Token<A>,
+        line_number: u64,
+    ) -> Result<Returned<PausedAt, String<A>, Token<A>>, SinkFault> {
         match push_and_reply(
             &mut self.written,
             self.in_text,
@@ -295,7 +306,10 @@ impl<A: Allocator + Copy> TokenSink<Token<A>> for RecordSink<A> {
         ) {
             Ok(reply) => {
                 self.in_text = is_open_after(self.in_text, &token);
-                Ok(reply)
+                Ok(Returned {
+                    reply,
+                    token: Some(token),
+                })
             }
             Err(AllocError) => {
                 self.faults.add(1);

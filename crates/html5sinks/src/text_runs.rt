@@ -9,7 +9,9 @@ ghost use Rattle.html5sinks.specs.Runs.{joined_of, joined_step, joined_reply, re
 use crate::replies::standard_reply;
 use ghost_counts::Count;
 use html5ever_interface::interface::sink::{Says, TokenSink};
-use html5ever_interface::interface::token::{SinkFault, TextFault, Token, TokenSinkResult};
+use html5ever_interface::interface::token::{
+    Returned, SinkFault, TextFault, Token, TokenSinkResult,
+};
 use std::alloc::{AllocError, Allocator, Global};
 use std::marker::Model;
 
@@ -36,6 +38,22 @@ pub trait TokenHandler<T: Says> {
         ensures steps { OnOk result
             (state self.new ≡ step (state self.old) run.now (T.told token) line_number) }
         ensures fault { OnErr result (state self.new ≡ state self.old) };
+
+    /// Takes a run and the token after it, as `take_token` does, and returns the token if it keeps no part of
+    /// it, for its memory alone. By default it hands them to `take_token`, and returns none.
+    fn take_and_return(
+        &mut self,
+        run: &str,
+        token: T,
+        line_number: u64,
+    ) -> Result<Option<T>, SinkFault>
+        ensures steps { OnOk result
+            (state self.new ≡ step (state self.old) run.now (T.told token) line_number) }
+        ensures fault { OnErr result (state self.new ≡ state self.old) }
+    {
+        self.take_token(run, token, line_number)?;
+        Ok(None)
+    }
 }
 
 /// Takes every token but text, each with the whole run of text before it, and replies to tags. Each
@@ -72,10 +90,28 @@ pub trait ReplyingTokenHandler<T: Says> {
         ensures replies { IfOk result (λ answer. reply_of T.text_bytes answer
             ≡ reply_where_tag (λ tag. reply (state self.old) run.now tag line_number) (T.told token)) }
         ensures fault { OnErr result (state self.new ≡ state self.old) };
+
+    /// The same, and returns the token if it keeps no part of it, for its memory alone. By default it hands
+    /// them to `answer_token`, and returns none.
+    fn answer_and_return(
+        &mut self,
+        run: &str,
+        token: T,
+        line_number: u64,
+    ) -> Result<Returned<Self::Handle, T::Text, T>, SinkFault>
+        ensures steps { OnOk result
+            (state self.new ≡ step (state self.old) run.now (T.told token) line_number) }
+        ensures replies { IfOk result (λ answer. reply_of T.text_bytes answer.reply
+            ≡ reply_where_tag (λ tag. reply (state self.old) run.now tag line_number) (T.told token)) }
+        ensures fault { OnErr result (state self.new ≡ state self.old) }
+    {
+        let reply = self.answer_token(run, token, line_number)?;
+        Ok(Returned { reply, token: None })
+    }
 }
 
-// What the standard's elements ask for, where the token is a tag.
-fn reply_to_token<A: Allocator>(token: &Token<A>) -> TokenSinkResult<(), String<A>>
+/// What the standard's elements ask for, where the token is a tag.
+pub fn reply_to_token<A: Allocator>(token: &Token<A>) -> TokenSinkResult<(), String<A>>
     ensures { reply_of string_bytes result ≡ reply_where_tag standard_reply (told_by token.now) }
 {
     match token {
@@ -107,6 +143,20 @@ impl<H: TokenHandler<Token<A>>, A: Allocator> ReplyingTokenHandler<Token<A>> for
         // A match in place of `?`: split for the proof.
         match self.take_token(run, token, line_number) {
             Ok(()) => Ok(reply),
+            Err(SinkFault) => Err(SinkFault),
+        }
+    }
+
+    fn answer_and_return(
+        &mut self,
+        run: &str,
+        token: Token<A>,
+        line_number: u64,
+    ) -> Result<Returned<(), String<A>, Token<A>>, SinkFault> {
+        let reply = reply_to_token(&token);
+        // A match in place of `?`: split for the proof.
+        match self.take_and_return(run, token, line_number) {
+            Ok(token) => Ok(Returned { reply, token }),
             Err(SinkFault) => Err(SinkFault),
         }
     }
@@ -200,20 +250,20 @@ fn hand_on<H: ReplyingTokenHandler<Token<A>>, A: Allocator>(
     run: &mut String<A>,
     token: Token<A>,
     line: u64,
-) -> Result<TokenSinkResult<H::Handle, String<A>>, SinkFault>
+) -> Result<Returned<H::Handle, String<A>, Token<A>>, SinkFault>
     ensures steps { OnOk result (H.state handler.new
         ≡ H.step (H.state handler.old) (string_bytes run.old) (told_by token) line) }
-    ensures replies { IfOk result (λ answer. reply_of string_bytes answer
+    ensures replies { IfOk result (λ answer. reply_of string_bytes answer.reply
         ≡ reply_where_tag (λ tag. H.reply (H.state handler.old) (string_bytes run.old) tag line) (told_by token)) }
     ensures ended { OnOk result (string_bytes run.new ≡ []) }
     ensures fault { OnErr result (H.state handler.new ≡ H.state handler.old) }
     ensures kept { OnErr result (string_bytes run.new ≡ string_bytes run.old) }
 {
     // A match in place of `?`: split for the proof.
-    match handler.answer_token(run.as_str(), token, line) {
-        Ok(reply) => {
+    match handler.answer_and_return(run.as_str(), token, line) {
+        Ok(answer) => {
             run.clear();
-            Ok(reply)
+            Ok(answer)
         }
         Err(SinkFault) => Err(SinkFault),
     }
@@ -225,20 +275,25 @@ fn take_told<H: ReplyingTokenHandler<Token<A>>, A: Allocator>(
     run: &mut String<A>,
     token: Token<A>,
     line: u64,
-) -> Result<TokenSinkResult<H::Handle, String<A>>, SinkFault>
+) -> Result<Returned<H::Handle, String<A>, Token<A>>, SinkFault>
     ensures steps { OnOk result (joined_of (H.state handler.new) (string_bytes run.new)
         ≡ joined_step H.step (joined_of (H.state handler.old) (string_bytes run.old)) (told_by token) line) }
-    ensures replies { IfOk result (λ answer. reply_of string_bytes answer
+    ensures replies { IfOk result (λ answer. reply_of string_bytes answer.reply
         ≡ joined_reply H.reply (joined_of (H.state handler.old) (string_bytes run.old)) (told_by token) line) }
     ensures fault { OnErr result (joined_of (H.state handler.new) (string_bytes run.new)
         ≡ joined_of (H.state handler.old) (string_bytes run.old)) }
 {
     match token {
         Token::CharacterTokens(text) => match run.push_str(&text) {
-            Ok(()) => Ok(TokenSinkResult::Continue),
+            Ok(()) => Ok(Returned {
+                reply: TokenSinkResult::Continue,
+                token: None,
+            }),
             Err(AllocError) => Err(SinkFault),
         },
-        Token::ParseError(message) => handler.answer_token("", Token::ParseError(message), line),
+        Token::ParseError(message) => {
+            handler.answer_and_return("", Token::ParseError(message), line)
+        }
         token => hand_on(handler, run, token, line),
     }
 }
@@ -277,8 +332,16 @@ impl<H: ReplyingTokenHandler<Token<A>>, A: Allocator> TokenSink<Token<A>> for Te
         token: Token<A>,
         line_number: u64,
     ) -> Result<TokenSinkResult<H::Handle, String<A>>, SinkFault> {
+        Ok(self.process_and_return(token, line_number)?.reply)
+    }
+
+    fn process_and_return(
+        &mut self,
+        token: Token<A>,
+        line_number: u64,
+    ) -> Result<Returned<H::Handle, String<A>, Token<A>>, SinkFault> {
         match take_told(&mut self.handler, &mut self.run, token, line_number) {
-            Ok(reply) => Ok(reply),
+            Ok(answer) => Ok(answer),
             Err(SinkFault) => {
                 self.faults.add(1);
                 Err(SinkFault)

@@ -11,7 +11,9 @@ ghost use Rattle.html5states.specs.Telling.{Emits, IsToldAs, Tells, tokens_in};
 
 use html5ever_interface::interface::message::{ErrorMessage, FixedMessage};
 use html5ever_interface::interface::sink::TokenSink;
-use html5ever_interface::interface::token::{SinkFault, Tag, TextFault, Token, TokenSinkResult};
+use html5ever_interface::interface::token::{
+    Returned, SinkFault, Tag, TextFault, Token, TokenSinkResult,
+};
 use html5ever_interface::states::State;
 use html5partial::error::TokenizerError;
 use html5partial::message::{bad_character_message, is_bad, saw_end_message, saw_message};
@@ -84,18 +86,21 @@ impl<S: TokenSink<Token<A>>, A: Allocator + Copy> Teller<'_, S, A> {
         self.hand_on(token)
     }
 
-    /// Sends the sink a tag, and answers its reply.
+    /// Sends the sink a tag, and answers its reply, with the tag if the sink returns it.
     #[inline(always)]
     pub fn emit_tag(
         &mut self,
         tag: Tag<A>,
-    ) -> Result<TokenSinkResult<S::Handle, String<A>>, TokenizerError>
+    ) -> Result<Returned<S::Handle, String<A>, Token<A>>, TokenizerError>
         ensures emits { Emits S.means S.faults result self.old self.new (Told.Tag (tag_of tag) ∷ []) }
-        ensures replies { IfOk result (λ reply. reply_of string_bytes reply
+        ensures replies { IfOk result (λ answer. reply_of string_bytes answer.reply
             ≡ S.means.reply (S.means.state self.old.sink.now) (Told.Tag (tag_of tag)) self.old.line) }
     {
-        match self.sink.process_token(Token::TagToken(tag), self.line) {
-            Ok(reply) => Ok(reply),
+        match self
+            .sink
+            .process_and_return(Token::TagToken(tag), self.line)
+        {
+            Ok(answer) => Ok(answer),
             Err(SinkFault) => Err(TokenizerError::Sink),
         }
     }

@@ -20,6 +20,8 @@ mod print_sink;
 #[cfg(test)]
 mod refusing;
 #[cfg(test)]
+mod returned;
+#[cfg(test)]
 mod small_char_set;
 #[cfg(test)]
 mod states;

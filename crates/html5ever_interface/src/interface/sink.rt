@@ -1,5 +1,5 @@
 //! What a sink of tokens is.
-use crate::interface::token::{SinkFault, TextFault, Token, TokenSinkResult};
+use crate::interface::token::{Returned, SinkFault, TextFault, Token, TokenSinkResult};
 use std::alloc::{AllocError, Allocator};
 
 /// What a token means: the token that contracts speak of, and the bytes of a text of its own.
@@ -93,6 +93,27 @@ pub trait TokenSink<T: Says> {
             TokenSinkResult::Continue => Ok(()),
             _ => unreachable!(),
         }
+    }
+
+    /// Takes a token, as `process_token` does, and returns it if it keeps no part of it. By default it hands the
+    /// token on to `process_token`, and returns none. A tokenizer sends tags so: it reads the next tag into the
+    /// memory of one that came back. So a sink that only reads tags does better to return them.
+    fn process_and_return(
+        &mut self,
+        token: T,
+        line_number: u64,
+    ) -> Result<Returned<Self::Handle, T::Text, T>, SinkFault>
+        ensures steps { OnOk result (means.state self.new ≡ means.step (means.state self.old)
+            (T.told token) line_number) }
+        ensures replies { IfOk result
+            (λ answer. reply_of T.text_bytes answer.reply ≡ means.reply (means.state self.old) (T.told token) line_number) }
+        ensures fault { OnErr result
+            (means.state self.new ≡ means.faulted (means.state self.old) (T.told token) line_number) }
+        ensures no_fault { OnOk result (faults self.new ≡ faults self.old) }
+        ensures one_fault { OnErr result (faults self.new ≡ faults self.old + 1) }
+    {
+        let reply = self.process_token(token, line_number)?;
+        Ok(Returned { reply, token: None })
     }
 
     /// Takes note that no token follows.

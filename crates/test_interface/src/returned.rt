@@ -1,0 +1,35 @@
+//! Tags that a sink returns, or keeps.
+use crate::made::bare_tag;
+use html5ever::tokenizer::read_whole;
+use html5ever_interface::collect::Collector;
+use html5ever_interface::interface::sink::TokenSink;
+use html5ever_interface::interface::token::{TagKind, Token};
+use html5ever_interface::options::TokenizerOpts;
+use markup5ever::data::NamedReferences;
+use testing_alloc::Refusing;
+use token_printer::print_sink::PrintSink;
+
+// There are 128 tags and 128 attributes, and fewer requests than half of either.
+#[test]
+fn tags_that_are_returned_ask_for_no_memory_each(rt: HostRuntime) {
+    let heap = Refusing::new(rt.alloc(), 60);
+    let references = NamedReferences::check(&heap, Vec::new(&heap)).expect(&rt, "a table");
+    let mut text = String::new(&heap);
+    for _ in 0..64 {
+        text.push_str("<p class=\"a\" id=b>x</p>")
+            .expect(&rt, "memory");
+    }
+    let sink = PrintSink::new(&heap, false);
+    let (_, read) = read_whole(&heap, sink, TokenizerOpts::default(), &references, text);
+    assert!(rt; read.is_ok());
+    assert!(rt; !heap.has_refused());
+}
+
+#[test]
+fn a_tag_that_is_kept_is_not_returned(rt: HostRuntime) {
+    let tag = bare_tag(rt.alloc(), TagKind::StartTag, "p").expect(&rt, "memory");
+    let mut sink = Collector::new(rt.alloc(), false);
+    let answer = sink.process_and_return(Token::TagToken(tag), 1);
+    assert!(rt; answer.is_ok_and(|answer| answer.token.is_none()));
+    assert_eq!(rt; sink.entries().len(), 1);
+}
