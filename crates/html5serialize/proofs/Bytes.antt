@@ -1,6 +1,6 @@
 -- The bytes that are written are the UTF-8 of the characters.
 use Rattle.std.proofs.Common.{◌≡◌, ℕ, ◌+◌, ◌<◌, length, get_or, drop, map, List, [], ◌∷◌, ◌++◌, ap, sym, ◌∙◌, subst}
-use Rattle.std.specs.Prelude.{codes, flat_map, encode_utf8, encode_utf8_all}
+use Rattle.std.specs.Prelude.{codes, encode_utf8, encode_utf8_all}
 use Rattle.std.specs.Str.{IsUtf8, chars}
 use Rattle.std.proofs.lemmas.List.{append-nil, append_assoc, at_drop_more}
 use Rattle.std.proofs.lemmas.Str.{encodes-append, encodes-chars}
@@ -8,8 +8,10 @@ use Rattle.html5ever_interface.specs.Token.{Told, told_by}
 use Rattle.html5ever_interface.specs.declared.interface.token.Token.{Token}
 use Rattle.html5serialize.specs.Page.{page_text_from, place_after, text_at}
 use Rattle.html5serialize.specs.RawTexts.{end_text}
-use Rattle.html5serialize.specs.Tags.{attribute_text}
+use Rattle.html5serialize.specs.Tags.{attribute_text_by, attributes_text_by}
+use Rattle.html5serialize.specs.declared.escaping.Escapes.{Escapes}
 use Rattle.html5serialize.specs.Tokens.{instruction_text}
+use Rattle.html5serialize.specs.declared.page_writer.PageOptions.{PageOptions}
 use Rattle.html5serialize.specs.declared.page_writer.Place.{Place}
 use Rattle.markup5ever.specs.Names.{attribute_of}
 use Rattle.markup5ever.specs.declared.interface.Attribute.{Attribute}
@@ -39,28 +41,41 @@ bytes-tag before opening name rest closing utf8 =
     (sym (bytes-four opening (chars name) rest closing
     ∙ ap (λ l. bytes opening ++ (l ++ (bytes rest ++ bytes closing))) (encodes-chars name utf8)))
 
+-- a name in UTF-8 and a value as it is written
+pub bytes-attribute : (before name value : List ℕ) → IsUtf8 name
+    → ((((before ++ codes " ") ++ name) ++ codes "=\"") ++ bytes value) ++ codes "\""
+    ≡ before ++ bytes (codes " " ++ (chars name ++ (codes "=\"" ++ (value ++ codes "\""))))
+unfolding lib.Utf8.encode
+bytes-attribute before name value utf8 =
+    append_assoc (((before ++ codes " ") ++ name) ++ codes "=\"") (bytes value) (codes "\"")
+    ∙ appended-four before (codes " ") name (codes "=\"") (bytes value ++ codes "\"")
+    ∙ ap (λ l. before ++ l)
+    (sym (bytes-three (codes " ") (chars name) (codes "=\"" ++ (value ++ codes "\""))
+    ∙ ap (λ l. codes " " ++ (bytes (chars name) ++ l)) (bytes-three (codes "=\"") value (codes "\""))
+    ∙ ap (λ l. codes " " ++ (l ++ (codes "=\"" ++ (bytes value ++ codes "\"")))) (encodes-chars name utf8)))
+
 -- attributes from a place on
-pub bytes-attributes : {Z : Type 0} (i : ℕ) (attributes : List (Attribute Z)) (d : Attribute Z) → i < length attributes
-    → bytes (flat_map attribute_text (map attribute_of (drop i attributes)))
-    ≡ bytes (attribute_text (attribute_of (get_or attributes i d))) ++ bytes (flat_map attribute_text (map attribute_of (drop (i + 1) attributes)))
-bytes-attributes i attributes d within =
-    at_drop_more (λ l. bytes (flat_map attribute_text (map attribute_of l))) attributes i d within
-    ∙ encodes-append (attribute_text (attribute_of (get_or attributes i d))) (flat_map attribute_text (map attribute_of (drop (i + 1) attributes)))
+pub bytes-attributes : {Z : Type 0} (escapes : Escapes) (i : ℕ) (attributes : List (Attribute Z)) (d : Attribute Z) → i < length attributes
+    → bytes (attributes_text_by escapes (map attribute_of (drop i attributes)))
+    ≡ bytes (attribute_text_by escapes (attribute_of (get_or attributes i d))) ++ bytes (attributes_text_by escapes (map attribute_of (drop (i + 1) attributes)))
+bytes-attributes escapes i attributes d within =
+    at_drop_more (λ l. bytes (attributes_text_by escapes (map attribute_of l))) attributes i d within
+    ∙ encodes-append (attribute_text_by escapes (attribute_of (get_or attributes i d))) (attributes_text_by escapes (map attribute_of (drop (i + 1) attributes)))
 
 -- what the token of a page at a place appends, with the rest of that page after it
-pub bytes-page : {Z : Type 0} (before after : List ℕ) (here next : Place) (i : ℕ) (tokens : List (Token Z)) (token d : Token Z) → i < length tokens → token ≡ get_or tokens i d
-    → after ≡ before ++ bytes (text_at here (told_by token)) → next ≡ place_after here (told_by token)
-    → after ++ bytes (page_text_from next (map told_by (drop (i + 1) tokens))) ≡ before ++ bytes (page_text_from here (map told_by (drop i tokens)))
+pub bytes-page : {Z : Type 0} (options : PageOptions) (before after : List ℕ) (here next : Place) (i : ℕ) (tokens : List (Token Z)) (token d : Token Z) → i < length tokens → token ≡ get_or tokens i d
+    → after ≡ before ++ bytes (text_at options.escapes here (told_by token)) → next ≡ place_after options.scripting here (told_by token)
+    → after ++ bytes (page_text_from options next (map told_by (drop (i + 1) tokens))) ≡ before ++ bytes (page_text_from options here (map told_by (drop i tokens)))
 unfolding page_text_from
-bytes-page {Z = Z} before after here next i tokens token d within is appended leads =
+bytes-page {Z = Z} options before after here next i tokens token d within is appended leads =
     let rest : List Told = map told_by (drop (i + 1) tokens) in
     let told : Token Z → Told = λ t. told_by t in
-    ap (λ l. l ++ bytes (page_text_from next rest)) appended
-    ∙ ap (λ p. (before ++ bytes (text_at here (told token))) ++ bytes (page_text_from p rest)) leads
-    ∙ append_assoc before (bytes (text_at here (told token))) (bytes (page_text_from (place_after here (told token)) rest))
-    ∙ ap (λ l. before ++ l) (sym (encodes-append (text_at here (told token)) (page_text_from (place_after here (told token)) rest)))
-    ∙ ap (λ t. before ++ bytes (text_at here (told t) ++ page_text_from (place_after here (told t)) rest)) is
-    ∙ ap (λ l. before ++ l) (sym (at_drop_more (λ l. bytes (page_text_from here (map told_by l))) tokens i d within))
+    ap (λ l. l ++ bytes (page_text_from options next rest)) appended
+    ∙ ap (λ p. (before ++ bytes (text_at options.escapes here (told token))) ++ bytes (page_text_from options p rest)) leads
+    ∙ append_assoc before (bytes (text_at options.escapes here (told token))) (bytes (page_text_from options (place_after options.scripting here (told token)) rest))
+    ∙ ap (λ l. before ++ l) (sym (encodes-append (text_at options.escapes here (told token)) (page_text_from options (place_after options.scripting here (told token)) rest)))
+    ∙ ap (λ t. before ++ bytes (text_at options.escapes here (told t) ++ page_text_from options (place_after options.scripting here (told t)) rest)) is
+    ∙ ap (λ l. before ++ l) (sym (at_drop_more (λ l. bytes (page_text_from options here (map told_by l))) tokens i d within))
 
 -- an opening, a text in UTF-8, and an end
 bytes-marked : (before opening text closing : List ℕ) → IsUtf8 text

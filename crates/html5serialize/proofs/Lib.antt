@@ -25,5 +25,11 @@ pub mod RcdataBack
 pub mod RawKinds
 pub mod PagesBack
 pub mod RawWalks
+pub mod WholeTells
+pub mod EndedNames
+pub mod NamedText
+pub mod NamedValues
+pub mod Named
+pub mod NamedBytes
 pub mod PageTells
 pub mod PageBack

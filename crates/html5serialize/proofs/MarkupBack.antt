@@ -1,6 +1,6 @@
 -- Tags, comments, processing instructions and doctypes as they are written are read again as themselves.
 use Rattle.std.proofs.Common.{◌≡◌, ℕ, ◌≤◌, true, false, List, [], ◌∷◌, ◌++◌, refl, ap, sym, ◌∙◌, subst, arith}
-use Rattle.std.specs.Prelude.{◌==◌, chars, codes, flat_map}
+use Rattle.std.specs.Prelude.{◌==◌, chars, codes}
 use Rattle.std.specs.List.{list_all}
 use Rattle.std.specs.Str.{IsUtf8}
 use Rattle.std.proofs.lemmas.Bool.{and_parts, not-true}
@@ -38,10 +38,13 @@ use Rattle.html5grammar.proofs.Tag.Values.{both-none}
 use Rattle.markup5ever.specs.NamedReferences.{IsTable}
 use Rattle.html5serialize.specs.Doctypes.{doctype_text, name_text, is_markup_character}
 use Rattle.html5serialize.specs.ReadBack.{HasTexts, ReadsBack}
-use Rattle.html5serialize.specs.Tags.{attribute_text, closing_text, opening_text, tag_text}
+use Rattle.html5serialize.specs.Tags.{attributes_text_by, closing_text, opening_text, tag_text_by}
 use Rattle.html5serialize.specs.Tokens.{can_write, read_back, token_text, comment_text, instruction_text, is_comment_text, without_duplicates}
+use Rattle.html5serialize.specs.declared.escaping.Escapes.{Escapes}
+use Rattle.html5serialize.specs.declared.escaping.Escapes.TheVariants.{Numbers}
 use Rattle.html5serialize.proofs.DoctypeBack.{markup-parts, high-markup, no_null-markup, no_return-markup, written_doctype, IsDoctypeBack, doctype-back}
 use Rattle.html5serialize.proofs.MarkupTokens.{proper-comment, proper-instruction, proper-doctype}
+use Rattle.html5serialize.proofs.NamedValues.{ShowsValues, shows-numbers}
 use Rattle.html5serialize.proofs.TagBack.{written_tag, IsTagBack, tag-back}
 use Rattle.html5serialize.proofs.TagTokens.{proper-tag}
 use Rattle.html5serialize.proofs.Utf8Bytes.{all-chars, begins-chars, occurs-chars}
@@ -91,27 +94,27 @@ within-instruction (c ∷ content) h =
 
 module _ {X S H : Type 0} (means : Means X S H) (rules : Rules) where
   -- what the tag of the grammar tells by itself
-  pub tag-item : (K : Start) (s : S) (tag : TagOf) → IsTable rules.references → IsOpen K → HasTexts (Tag tag) → can_write (Tag tag) ≡ true
-      → TellsByItself means rules K s (tag_text tag) (spelled_messages rules.exact K.input [] (spelled rules (written_tag tag)))
-      (start_after_tag means K s (tag_text tag) (without_duplicates tag) (spelled_messages rules.exact K.input [] (spelled rules (written_tag tag))))
+  pub tag-item : (escapes : Escapes) → ShowsValues rules escapes → (K : Start) (s : S) (tag : TagOf) → IsTable rules.references → IsOpen K → HasTexts (Tag tag) → can_write (Tag tag) ≡ true
+      → TellsByItself means rules K s (tag_text_by escapes tag) (spelled_messages rules.exact K.input [] (spelled rules (written_tag escapes tag)))
+      (start_after_tag means K s (tag_text_by escapes tag) (without_duplicates tag) (spelled_messages rules.exact K.input [] (spelled rules (written_tag escapes tag))))
   unfolding can_write
-  tag-item K s tag table here texts can =
-      let back : IsTagBack rules tag = tag-back rules tag texts.0 texts.1 can in
-      let Y : List ℕ = tag_text tag in
-      let M : List Message = spelled_messages rules.exact K.input [] (spelled rules (written_tag tag)) in
-      let one : IsTag K Y (written_tag tag) = record {
+  tag-item escapes shows K s tag table here texts can =
+      let back : IsTagBack escapes rules tag = tag-back escapes rules tag shows texts.0 texts.1 can in
+      let Y : List ℕ = tag_text_by escapes tag in
+      let M : List Message = spelled_messages rules.exact K.input [] (spelled rules (written_tag escapes tag)) in
+      let one : IsTag K Y (written_tag escapes tag) = record {
         starts = here.starts;
         is_tag = back.is_written;
-        text = normalised-tag K.input tag.kind (chars tag.name ++ (flat_map attribute_text tag.attributes ++ closing_text tag.self_closing)) here.no_break back.no_return ∙ sym back.text;
+        text = normalised-tag K.input tag.kind (chars tag.name ++ (attributes_text_by escapes tag.attributes ++ closing_text tag.self_closing)) here.no_break back.no_return ∙ sym back.text;
       } in
-      subst (λ t. TellsByItself means rules K s Y M (start_after_tag means K s Y t M)) back.told (tag-by_itself means rules K s Y (written_tag tag) table one)
+      subst (λ t. TellsByItself means rules K s Y M (start_after_tag means K s Y t M)) back.told (tag-by_itself means rules K s Y (written_tag escapes tag) table one)
 
   pub tag-reads_back : (K : Start) (s : S) (tag : TagOf) → IsTable rules.references → IsOpen K → HasTexts (Tag tag) → can_write (Tag tag) ≡ true → ReadsBack means rules K s (Tag tag)
   unfolding token_text read_back can_write
   tag-reads_back K s tag table here texts can = record {
-    messages = spelled_messages rules.exact K.input [] (spelled rules (written_tag tag));
-    tells = tag-item K s tag table here texts can;
-    exactly = proper-tag rules K.input (written_tag tag) ∙ ap (λ t. Tag t ∷ []) ((tag-back rules tag texts.0 texts.1 can).told);
+    messages = spelled_messages rules.exact K.input [] (spelled rules (written_tag Numbers tag));
+    tells = tag-item Numbers (shows-numbers rules) K s tag table here texts can;
+    exactly = proper-tag rules K.input (written_tag Numbers tag) ∙ ap (λ t. Tag t ∷ []) ((tag-back Numbers rules tag (shows-numbers rules) texts.0 texts.1 can).told);
   }
 
   pub comment-reads_back : (K : Start) (s : S) (text : List ℕ) → IsOpen K → HasTexts (Comment text) → can_write (Comment text) ≡ true → ReadsBack means rules K s (Comment text)

@@ -46,20 +46,25 @@ use Rattle.html5grammar.proofs.RawText.Reading.{decided-standing, tokens-standin
 use Rattle.html5grammar.proofs.RawText.Steps.{Standing, opened_at, raw_at, carried_at, end_from, fits}
 use Rattle.html5grammar.proofs.RawText.Steps.Standing.{Free}
 use Rattle.html5grammar.proofs.Soundness.{reading-items}
+use Rattle.html5serialize.specs.Escapes.{Reads}
 use Rattle.html5serialize.specs.Page.{AsksAsStandard, page_text, page_text_from, place_after, place_of, text_at}
 use Rattle.html5serialize.specs.RawTexts.{is_raw_name}
 use Rattle.html5serialize.specs.ReadBack.{HasTexts, HaveTexts}
+use Rattle.html5serialize.specs.Scripting.{kind_reply_by, reply_by, start_reply_by}
 use Rattle.html5serialize.specs.Tokens.{can_write, read_back, token_text}
+use Rattle.html5serialize.specs.declared.escaping.Escapes.{Escapes}
+use Rattle.html5serialize.specs.declared.page_writer.PageOptions.{PageOptions}
 use Rattle.html5serialize.specs.declared.page_writer.Place.{Place}
 use Rattle.html5serialize.specs.declared.page_writer.Place.TheVariants as place
 use Rattle.html5serialize.proofs.EachToken.{all-tokens, errors-at_end, no_return-read, front-return, rest-return, shaped-item, shaped-unfinished, tell-open_attribute}
 use Rattle.html5serialize.proofs.Errors.{proper_tokens, proper_cells, proper-append, proper-on_line, proper-spelled, proper_tokens-append, cells-append, cells-errors, errors-before, errors-reference, tell-append}
-use Rattle.html5serialize.proofs.PageTells.{Fine, open-at, keeps-end_tag, reads_references, BackAt, BackInData, data-tokens, data-none, data-tag, raw-texts, rcdata-texts, plain-character, opens-standard, raw-end, ends-alone}
+use Rattle.html5serialize.proofs.PageTells.{Fine, open-at, keeps-end_tag, reads_references, BackAt, BackInData, data-tokens, data-none, data-tag, raw-texts, rcdata-texts, plain-character, opens-standard, raw-end}
+use Rattle.html5serialize.proofs.WholeTells.{ends-alone}
 use Rattle.html5serialize.proofs.RawBack.{raw-name}
 use Rattle.html5serialize.proofs.RawWalks.{Walked, carried-none, character-walked, item-told, item-walked, both-walked, is_told, proper-carried_at, proper-character, proper-spell, proper-texts, shown-alike, switch-walked, texts-append}
 use Rattle.html5serialize.proofs.Shaped.{is_shaped, Shaped, shaped-append}
 use Rattle.html5serialize.proofs.TagTokens.{proper-tag, tell-body}
-use Rattle.html5sinks.specs.Replies.{raw_text_in, reply_by_kind, reply_to_raw_text, standard_reply, standard_reply_to_start}
+use Rattle.html5sinks.specs.Replies.{raw_text_in, reply_to_raw_text, standard_reply_to_start}
 use Rattle.html5write.specs.Told.{IsOpen, has_no_return, proper, proper_token, tokens_of}
 use Rattle.markup5ever.specs.NamedReferences.{IsTable}
 
@@ -85,37 +90,37 @@ untagged-proper (m ∷ M) h =
 
 -- ---- an error changes nothing of a page
 
-place-error : (here : Place) (message : List ℕ) → place_after here (Error message) ≡ here
+place-error : (scripting : Bool) (here : Place) (message : List ℕ) → place_after scripting here (Error message) ≡ here
 unfolding place_after
-place-error place.Data message = refl
-place-error (place.RawText kind) message = refl
-place-error place.PlainText message = refl
+place-error scripting place.Data message = refl
+place-error scripting (place.RawText kind) message = refl
+place-error scripting place.PlainText message = refl
 
-text-error : (here : Place) (message : List ℕ) → text_at here (Error message) ≡ []
+text-error : (escapes : Escapes) (here : Place) (message : List ℕ) → text_at escapes here (Error message) ≡ []
 unfolding text_at token_text
-text-error place.Data message = refl
-text-error (place.RawText kind) message = refl
-text-error place.PlainText message = refl
+text-error escapes place.Data message = refl
+text-error escapes (place.RawText kind) message = refl
+text-error escapes place.PlainText message = refl
 
 -- a token, or none where it is an error
-page-one : (here : Place) (token : Told) (tokens others : List Told) → ((later : Place) → page_text_from later tokens ≡ page_text_from later others)
-    → text_at here token ++ page_text_from (place_after here token) tokens ≡ page_text_from here (proper_token token ++ others)
+page-one : (options : PageOptions) (here : Place) (token : Told) (tokens others : List Told) → ((later : Place) → page_text_from options later tokens ≡ page_text_from options later others)
+    → text_at options.escapes here token ++ page_text_from options (place_after options.scripting here token) tokens ≡ page_text_from options here (proper_token token ++ others)
 unfolding page_text_from
-page-one here (Error message) tokens others same = rw (text-error here message, place-error here message) (same here)
-page-one here (Text text) tokens others same = ap (λ l. text_at here (Text text) ++ l) (same (place_after here (Text text)))
-page-one here Null tokens others same = ap (λ l. text_at here Null ++ l) (same (place_after here Null))
-page-one here (Tag tag) tokens others same = ap (λ l. text_at here (Tag tag) ++ l) (same (place_after here (Tag tag)))
-page-one here (Comment text) tokens others same = ap (λ l. text_at here (Comment text) ++ l) (same (place_after here (Comment text)))
-page-one here (Instruction content) tokens others same = ap (λ l. text_at here (Instruction content) ++ l) (same (place_after here (Instruction content)))
-page-one here (Doctype d) tokens others same = ap (λ l. text_at here (Doctype d) ++ l) (same (place_after here (Doctype d)))
-page-one here End tokens others same = ap (λ l. text_at here End ++ l) (same (place_after here End))
+page-one options here (Error message) tokens others same = rw (text-error options.escapes here message, place-error options.scripting here message) (same here)
+page-one options here (Text text) tokens others same = ap (λ l. text_at options.escapes here (Text text) ++ l) (same (place_after options.scripting here (Text text)))
+page-one options here Null tokens others same = ap (λ l. text_at options.escapes here Null ++ l) (same (place_after options.scripting here Null))
+page-one options here (Tag tag) tokens others same = ap (λ l. text_at options.escapes here (Tag tag) ++ l) (same (place_after options.scripting here (Tag tag)))
+page-one options here (Comment text) tokens others same = ap (λ l. text_at options.escapes here (Comment text) ++ l) (same (place_after options.scripting here (Comment text)))
+page-one options here (Instruction content) tokens others same = ap (λ l. text_at options.escapes here (Instruction content) ++ l) (same (place_after options.scripting here (Instruction content)))
+page-one options here (Doctype d) tokens others same = ap (λ l. text_at options.escapes here (Doctype d) ++ l) (same (place_after options.scripting here (Doctype d)))
+page-one options here End tokens others same = ap (λ l. text_at options.escapes here End ++ l) (same (place_after options.scripting here End))
 
-page-proper : (M : List Message) (here : Place) → page_text_from here (tokens_of M) ≡ page_text_from here (proper M)
+page-proper : (options : PageOptions) (M : List Message) (here : Place) → page_text_from options here (tokens_of M) ≡ page_text_from options here (proper M)
 unfolding page_text_from proper
-page-proper [] here = refl
-page-proper (m ∷ M) here =
-    let one : (token : Told) → text_at here token ++ page_text_from (place_after here token) (tokens_of M) ≡ page_text_from here (proper_token token ++ proper M) =
-    λ token. page-one here token (tokens_of M) (proper M) (page-proper M) in
+page-proper options [] here = refl
+page-proper options (m ∷ M) here =
+    let one : (token : Told) → text_at options.escapes here token ++ page_text_from options (place_after options.scripting here token) (tokens_of M) ≡ page_text_from options here (proper_token token ++ proper M) =
+    λ token. page-one options here token (tokens_of M) (proper M) (page-proper options M) in
     one m.token
 
 back-one : (token : Told) (tokens others : List Told) → flat_map read_back tokens ≡ flat_map read_back others → read_back token ++ flat_map read_back tokens ≡ flat_map read_back (proper_token token ++ others)
@@ -273,10 +278,9 @@ module _ (name : List ℕ) where
   by_tests kind false false false true f g h e = h refl
   by_tests kind false false false false f g h e = absurd (false≢true (ap is_raw_reply e))
 
-  -- the name of an element after whose start tag raw text stands
-  named-raw : (kind : RawKind) → standard_reply_to_start name ≡ ReadRawData kind → is_raw_name name ≡ true
+  named-standard : (kind : RawKind) → standard_reply_to_start name ≡ ReadRawData kind → is_raw_name name ≡ true
   unfolding standard_reply_to_start raw_text_in is_raw_name
-  named-raw kind e =
+  named-standard kind e =
       let is : (word : List ℕ) → is_raw_name word ≡ true → bytes_eq name word ≡ true → is_raw_name name ≡ true = named-as in
       by_tests kind (bytes_eq name (codes "plaintext")) (bytes_eq name (codes "title") || bytes_eq name (codes "textarea"))
       (bytes_eq name (codes "style") || bytes_eq name (codes "xmp") || bytes_eq name (codes "iframe") || bytes_eq name (codes "noembed") || bytes_eq name (codes "noframes"))
@@ -286,21 +290,32 @@ module _ (name : List ℕ) where
       (is (codes "script") refl)
       e
 
+  -- `noscript` is of small letters, too
+  named-scripting : (kind : RawKind) (b : Bool) → bytes_eq name (codes "noscript") ≡ b → (if b then ReadRawData raw_kind.Rawtext else standard_reply_to_start name) ≡ ReadRawData kind → is_raw_name name ≡ true
+  unfolding is_raw_name
+  named-scripting kind true is e = named-as (codes "noscript") refl is
+  named-scripting kind false is e = named-standard kind e
+
+  -- the name of an element after whose start tag raw text stands
+  named-raw : (scripting : Bool) (kind : RawKind) → start_reply_by scripting name ≡ ReadRawData kind → is_raw_name name ≡ true
+  named-raw false kind e = named-standard kind e
+  named-raw true kind e = named-scripting kind (bytes_eq name (codes "noscript")) refl e
+
 -- The text tells its tokens to one sink, by its rules, and another reads the page.
-module _ {X S H Y T J : Type 0} (told_to : Means Y T J) (source : Rules) (means : Means X S H) (rules : Rules) (table : IsTable rules.references)
-    (source_asks : AsksAsStandard told_to.reply) (asks : AsksAsStandard means.reply) where
+module _ {X S H Y T J : Type 0} (told_to : Means Y T J) (source : Rules) (means : Means X S H) (rules : Rules) (options : PageOptions) (table : IsTable rules.references)
+    (reads : Reads options.escapes rules.references) (source_asks : AsksAsStandard options.scripting told_to.reply) (asks : AsksAsStandard options.scripting means.reply) where
   -- ---- what is promised of the tokens that a text tells, by what is open before it
 
   -- in raw text, with references or without them. `rest` is the text that told them.
   abbrev ClaimIn : Bool → Raw → List ℕ → List ℕ → List Told → Type 0
-  ClaimIn true raw name rest tokens = is_raw_name name ≡ true → BackAt means rules (Between (RawText Rcdata name)) (place.RawText raw_kind.Rcdata) [] tokens
+  ClaimIn true raw name rest tokens = is_raw_name name ≡ true → BackAt means rules options (Between (RawText Rcdata name)) (place.RawText raw_kind.Rcdata) [] tokens
   ClaimIn false raw name rest tokens = (kind : RawKind) → reads_references kind ≡ false → is_raw_name name ≡ true → (standing : Standing) → raw_at standing ≡ raw
-      → fits name standing rest ≡ true → BackAt means rules (opened_at name standing) (place.RawText kind) (carried_at standing) tokens
+      → fits name standing rest ≡ true → BackAt means rules options (opened_at name standing) (place.RawText kind) (carried_at standing) tokens
 
   abbrev Claim : Open → List ℕ → List Told → Type 0
-  Claim (Between Data) rest tokens = BackInData means rules tokens
-  Claim (Between Cdata) rest tokens = BackInData means rules tokens
-  Claim (Between Plain) rest tokens = BackAt means rules (Between Plain) place.PlainText [] tokens
+  Claim (Between Data) rest tokens = BackInData means rules options tokens
+  Claim (Between Cdata) rest tokens = BackInData means rules options tokens
+  Claim (Between Plain) rest tokens = BackAt means rules options (Between Plain) place.PlainText [] tokens
   Claim (Between (RawText raw name)) rest tokens = ClaimIn (is_rcdata raw) raw name rest tokens
   Claim other rest tokens = Unit {0}
 
@@ -310,10 +325,10 @@ module _ {X S H Y T J : Type 0} (told_to : Means Y T J) (source : Rules) (means 
   raw-step : (b : Bool) (raw later : Raw) (name F G run : List ℕ) (tokens : List Told)
       → ((standing : Standing) → raw_at standing ≡ raw → fits name standing F ≡ true → Walked rules.exact name standing later run G)
       → has_no_return run ≡ true → ClaimIn b later name G tokens → ClaimIn b raw name F (texts run ++ tokens)
-  raw-step true raw later name F G run tokens walks none claim = λ named. rcdata-texts means rules name run tokens (claim named)
+  raw-step true raw later name F G run tokens walks none claim = λ named. rcdata-texts means rules options name run tokens table reads (claim named)
   raw-step false raw later name F G run tokens walks none claim = λ kind no_references named standing raw_is f.
       let w : Walked rules.exact name standing later run G = walks standing raw_is f in
-      raw-texts means rules kind (opened_at name standing) (opened_at name w.next) (carried_at standing) (carried_at w.next) run w.walks tokens no_references (decided-standing name w.next) none
+      raw-texts means rules options kind (opened_at name standing) (opened_at name w.next) (carried_at standing) (carried_at w.next) run w.walks tokens no_references (decided-standing name w.next) none
       (claim kind no_references named w.next w.raw_is w.fits_after)
 
   -- the same, where the messages are those of an item
@@ -448,10 +463,10 @@ module _ {X S H Y T J : Type 0} (told_to : Means Y T J) (source : Rules) (means 
 
   -- texts in a mode with references
   reference-texts : (mode : Mode) (F G run : List ℕ) (tokens : List Told) → has_references mode ≡ true → Claim (Between mode) G tokens → Claim (Between mode) F (texts run ++ tokens)
-  reference-texts Data F G run tokens has claim = data-tokens means rules (texts run) tokens table (untagged-texts run) claim
+  reference-texts Data F G run tokens has claim = data-tokens means rules options (texts run) tokens table reads (untagged-texts run) claim
   reference-texts Plain F G run tokens has claim = absurd (false≢true has)
   reference-texts Cdata F G run tokens has claim = absurd (false≢true has)
-  reference-texts (RawText Rcdata name) F G run tokens has claim = λ named. rcdata-texts means rules name run tokens (claim named)
+  reference-texts (RawText Rcdata name) F G run tokens has claim = λ named. rcdata-texts means rules options name run tokens table reads (claim named)
   reference-texts (RawText Rawtext name) F G run tokens has claim = absurd (false≢true has)
   reference-texts (RawText ScriptData name) F G run tokens has claim = absurd (false≢true has)
   reference-texts (RawText (Escaped dashes) name) F G run tokens has claim = absurd (false≢true has)
@@ -459,15 +474,15 @@ module _ {X S H Y T J : Type 0} (told_to : Means Y T J) (source : Rules) (means 
 
   -- ---- tokens of Data
 
-  data-item : (K : Start) (F : List ℕ) (M : List Message) (tokens : List Told) → K.opened ≡ Between Data → Shaped false M → BackInData means rules tokens
+  data-item : (K : Start) (F : List ℕ) (M : List Message) (tokens : List Told) → K.opened ≡ Between Data → Shaped false M → BackInData means rules options tokens
       → Claim K.opened F (proper M ++ tokens)
   data-item K F M tokens starts shaped claim =
-      subst (λ o. Claim o F (proper M ++ tokens)) (sym starts) (data-tokens means rules (proper M) tokens table (untagged-proper M shaped) claim)
+      subst (λ o. Claim o F (proper M ++ tokens)) (sym starts) (data-tokens means rules options (proper M) tokens table reads (untagged-proper M shaped) claim)
 
-  cdata-item : (has_opening : Bool) (F : List ℕ) (M : List Message) (tokens : List Told) → Shaped false M → BackInData means rules tokens
+  cdata-item : (has_opening : Bool) (F : List ℕ) (M : List Message) (tokens : List Told) → Shaped false M → BackInData means rules options tokens
       → Claim (if has_opening then Between Data else Between Cdata) F (proper M ++ tokens)
-  cdata-item true F M tokens shaped claim = data-tokens means rules (proper M) tokens table (untagged-proper M shaped) claim
-  cdata-item false F M tokens shaped claim = data-tokens means rules (proper M) tokens table (untagged-proper M shaped) claim
+  cdata-item true F M tokens shaped claim = data-tokens means rules options (proper M) tokens table reads (untagged-proper M shaped) claim
+  cdata-item false F M tokens shaped claim = data-tokens means rules options (proper M) tokens table reads (untagged-proper M shaped) claim
 
   plain-proper : (exact : Bool) (input : Input) (c : ℕ) → proper (spelled_messages exact input [] (record { character = c; told = plain_text exact c } ∷ [])) ≡ texts (shown c ∷ [])
   unfolding plain_text shown
@@ -483,43 +498,43 @@ module _ {X S H Y T J : Type 0} (told_to : Means Y T J) (source : Rules) (means 
       → Claim (Between mode) F (proper (spelled_messages source.exact K.input [] (record { character = c; told = text_told source.exact mode c } ∷ [])) ++ tokens)
   character-item Data K Y F G c tokens one shaped claim =
       let M : List Message = spelled_messages source.exact K.input [] (record { character = c; told = text_told source.exact Data c } ∷ []) in
-      data-tokens means rules (proper M) tokens table (untagged-proper M shaped) claim
+      data-tokens means rules options (proper M) tokens table reads (untagged-proper M shaped) claim
   character-item Plain K Y F G c tokens one shaped claim =
-      subst (λ T. BackAt means rules (Between Plain) place.PlainText [] (T ++ tokens)) (sym (plain-proper source.exact K.input c))
-      (plain-character means rules c tokens (return-shown c (no_return-read K.input Y (c ∷ []) one.text)) claim)
+      subst (λ T. BackAt means rules options (Between Plain) place.PlainText [] (T ++ tokens)) (sym (plain-proper source.exact K.input c))
+      (plain-character means rules options c tokens (return-shown c (no_return-read K.input Y (c ∷ []) one.text)) claim)
   character-item (RawText raw name) K Y F G c tokens one shaped claim = absurd (false≢true one.is_text)
   character-item Cdata K Y F G c tokens one shaped claim = absurd (false≢true one.is_text)
 
   -- ---- tags
 
   open-raw : (name : List ℕ) (kind : RawKind) (G : List ℕ) (tokens : List Told) → is_raw_name name ≡ true → Claim (Between (RawText (raw_of kind) name)) G tokens
-      → BackAt means rules (Between (RawText (raw_of kind) name)) (place.RawText kind) [] tokens
+      → BackAt means rules options (Between (RawText (raw_of kind) name)) (place.RawText kind) [] tokens
   open-raw name raw_kind.Rcdata G tokens named claim = claim named
   open-raw name raw_kind.Rawtext G tokens named claim = claim raw_kind.Rawtext refl named (Free Rawtext) refl refl
   open-raw name raw_kind.ScriptData G tokens named claim = claim raw_kind.ScriptData refl named (Free ScriptData) refl refl
   open-raw name (raw_kind.ScriptDataEscaped escape_kind.Escaped) G tokens named claim = claim (raw_kind.ScriptDataEscaped escape_kind.Escaped) refl named (Free (Escaped NoDash)) refl refl
   open-raw name (raw_kind.ScriptDataEscaped escape_kind.DoubleEscaped) G tokens named claim = claim (raw_kind.ScriptDataEscaped escape_kind.DoubleEscaped) refl named (Free (DoubleEscaped NoDash)) refl refl
 
-  back-in_data : (tokens : List Told) → BackInData means rules tokens → BackAt means rules (Between Data) place.Data [] tokens
+  back-in_data : (tokens : List Told) → BackInData means rules options tokens → BackAt means rules options (Between Data) place.Data [] tokens
   back-in_data tokens claim K s at fine = claim K s (open-at K at) fine
 
   -- what stands after a start tag of that name
-  start-opens : (name : List ℕ) (r : Reply (Unit {0})) (G : List ℕ) (tokens : List Told) → standard_reply_to_start name ≡ r → Claim (open_after_reply name r) G tokens
-      → BackAt means rules (open_after_reply name r) (place_of r) [] tokens
+  start-opens : (name : List ℕ) (r : Reply (Unit {0})) (G : List ℕ) (tokens : List Told) → start_reply_by options.scripting name ≡ r → Claim (open_after_reply name r) G tokens
+      → BackAt means rules options (open_after_reply name r) (place_of r) [] tokens
   start-opens name KeepOn G tokens e claim = back-in_data tokens claim
   start-opens name ReadPlainText G tokens e claim = claim
-  start-opens name (ReadRawData kind) G tokens e claim = open-raw name kind G tokens (named-raw name kind e) claim
+  start-opens name (ReadRawData kind) G tokens e claim = open-raw name kind G tokens (named-raw name options.scripting kind e) claim
   start-opens name (RunScript handle) G tokens e claim = back-in_data tokens claim
   start-opens name (SwitchEncoding text) G tokens e claim = back-in_data tokens claim
 
-  opens-by : (kind : TagKind) (name last other G : List ℕ) (tokens : List Told) → Claim (open_after_reply (if is_end_tag kind then last else name) (reply_by_kind kind name)) G tokens
-      → BackAt means rules (open_after_reply (if is_end_tag kind then other else name) (reply_by_kind kind name)) (place_of (reply_by_kind kind name)) [] tokens
-  opens-by StartTag name last other G tokens claim = start-opens name (standard_reply_to_start name) G tokens refl claim
+  opens-by : (kind : TagKind) (name last other G : List ℕ) (tokens : List Told) → Claim (open_after_reply (if is_end_tag kind then last else name) (kind_reply_by options.scripting kind name)) G tokens
+      → BackAt means rules options (open_after_reply (if is_end_tag kind then other else name) (kind_reply_by options.scripting kind name)) (place_of (kind_reply_by options.scripting kind name)) [] tokens
+  opens-by StartTag name last other G tokens claim = start-opens name (start_reply_by options.scripting name) G tokens refl claim
   opens-by EndTag name last other G tokens claim = back-in_data tokens claim
 
   -- what stands after a tag, also where another start tag was the last
-  tag-opens : (tag : TagOf) (last G : List ℕ) (tokens : List Told) → Claim (open_after_reply (last_after last tag) (standard_reply tag)) G tokens
-      → (other : List ℕ) → BackAt means rules (open_after_reply (last_after other tag) (standard_reply tag)) (place_of (standard_reply tag)) [] tokens
+  tag-opens : (tag : TagOf) (last G : List ℕ) (tokens : List Told) → Claim (open_after_reply (last_after last tag) (reply_by options.scripting tag)) G tokens
+      → (other : List ℕ) → BackAt means rules options (open_after_reply (last_after other tag) (reply_by options.scripting tag)) (place_of (reply_by options.scripting tag)) [] tokens
   unfolding last_after
   tag-opens tag last G tokens claim other = opens-by tag.kind tag.name last other G tokens claim
 
@@ -531,19 +546,19 @@ module _ {X S H Y T J : Type 0} (told_to : Means Y T J) (source : Rules) (means 
       let told : TagOf = tag_told source tag in
       let last : List ℕ = last_after K.last_start_tag told in
       subst (λ o. Claim o F (proper (spelled_messages source.exact K.input [] (spelled source tag)) ++ tokens)) (sym starts)
-      (subst (λ T. BackInData means rules (T ++ tokens)) (sym (proper-tag source K.input tag))
-      (data-tag means rules asks told tokens table
-      (tag-opens told K.last_start_tag G tokens (subst (λ o. Claim o G tokens) (opens-standard told_to source source_asks last s K.input tag) claim))))
+      (subst (λ T. BackInData means rules options (T ++ tokens)) (sym (proper-tag source K.input tag))
+      (data-tag means rules options asks told tokens table reads
+      (tag-opens told K.last_start_tag G tokens (subst (λ o. Claim o G tokens) (opens-standard told_to source options source_asks last s K.input tag) claim))))
 
   -- ---- the end of raw text
 
   end-in : (b : Bool) (raw : Raw) (name F : List ℕ) (tag : TagOf) (tokens : List Told) → is_double_escaped (kind_of raw) ≡ false → tag.kind ≡ EndTag → tag.name ≡ name
-      → BackInData means rules tokens → ClaimIn b raw name F (Tag tag ∷ tokens)
+      → BackInData means rules options tokens → ClaimIn b raw name F (Tag tag ∷ tokens)
   unfolding kind_of
   end-in true raw name F tag tokens single is_end is_name claim = λ named.
-      raw-end means rules asks raw_kind.Rcdata name (Free Rcdata) tag tokens table (raw-name name named) refl is_end is_name claim
+      raw-end means rules options asks raw_kind.Rcdata name (Free Rcdata) tag tokens table reads (raw-name name named) refl is_end is_name claim
   end-in false raw name F tag tokens single is_end is_name claim = λ kind no_references named standing raw_is f.
-      raw-end means rules asks kind name standing tag tokens table (raw-name name named) (ap (λ w. is_double_escaped (kind_of w)) raw_is ∙ single) is_end is_name claim
+      raw-end means rules options asks kind name standing tag tokens table reads (raw-name name named) (ap (λ w. is_double_escaped (kind_of w)) raw_is ∙ single) is_end is_name claim
 
   is-end_tag : (kind : TagKind) → is_end_tag kind ≡ true → kind ≡ EndTag
   is-end_tag StartTag h = absurd (false≢true h)
@@ -562,7 +577,7 @@ module _ {X S H Y T J : Type 0} (told_to : Means Y T J) (source : Rules) (means 
       let is_end : told.kind ≡ EndTag = is-end_tag tag.kind q.0 in
       let is_name : told.name ≡ name = (bytes_decides (lower (tag.first ∷ tag.rest)) name).0 r.1 in
       let opened : open_after_reply last (last_reply told_to.step told_to.reply s (spelled_messages source.exact K.input [] (spelled source tag))) ≡ Between Data =
-      opens-standard told_to source source_asks last s K.input tag ∙ ap (open_after_reply last) (keeps-end_tag told is_end) in
+      opens-standard told_to source options source_asks last s K.input tag ∙ ap (open_after_reply last) (keeps-end_tag options.scripting told is_end) in
       subst (λ o. Claim o F (proper (spelled_messages source.exact K.input [] (spelled source tag)) ++ tokens)) (sym one.starts)
       (subst (λ T. ClaimIn (is_rcdata raw) raw name F (T ++ tokens)) (sym (proper-tag source K.input tag))
       (end-in (is_rcdata raw) raw name F told tokens (not-true (is_double_escaped (kind_of raw)) p.0) is_end is_name (subst (λ o. Claim o G tokens) opened claim)))
@@ -570,8 +585,8 @@ module _ {X S H Y T J : Type 0} (told_to : Means Y T J) (source : Rules) (means 
   -- ---- the end of the text
 
   -- where nothing is written, the end tells itself and what is carried
-  end-back : (here : Place) (opened : Open) (before : List Told) → page_text_from here (End ∷ []) ≡ [] → proper_tokens (tokens_at_end rules opened) ≡ before ++ End ∷ []
-      → BackAt means rules opened here before (End ∷ [])
+  end-back : (here : Place) (opened : Open) (before : List Told) → page_text_from options here (End ∷ []) ≡ [] → proper_tokens (tokens_at_end rules opened) ≡ before ++ End ∷ []
+      → BackAt means rules options opened here before (End ∷ [])
   unfolding read_back
   end-back here opened before none ends K s at fine =
       ap (λ Y. proper (all_messages means rules K s Y)) none ∙ ends-alone means rules K s ∙ ap (λ o. proper_tokens (tokens_at_end rules o)) at.starts ∙ ends
@@ -591,7 +606,7 @@ module _ {X S H Y T J : Type 0} (told_to : Means Y T J) (source : Rules) (means 
       ∙ proper_tokens-append (carried_at standing ++ errors) (End ∷ [])
       ∙ ap (λ l. l ++ End ∷ []) (proper_tokens-append (carried_at standing) errors ∙ ap (λ l. proper_tokens (carried_at standing) ++ l) (errors-raw_end rules.exact (end_from standing [] (raw_at standing))) ∙ append-nil (proper_tokens (carried_at standing)) ∙ proper-carried_at standing)
 
-  page-end : (here : Place) → page_text_from here (End ∷ []) ≡ []
+  page-end : (here : Place) → page_text_from options here (End ∷ []) ≡ []
   unfolding page_text_from text_at token_text
   page-end place.Data = refl
   page-end (place.RawText kind) = refl
@@ -601,8 +616,8 @@ module _ {X S H Y T J : Type 0} (told_to : Means Y T J) (source : Rules) (means 
   end-claim_in true raw name F = λ named. end-back (place.RawText raw_kind.Rcdata) (Between (RawText Rcdata name)) [] (page-end (place.RawText raw_kind.Rcdata)) (standing-end name (Free Rcdata))
   end-claim_in false raw name F = λ kind no_references named standing raw_is f. end-back (place.RawText kind) (opened_at name standing) (carried_at standing) (page-end (place.RawText kind)) (standing-end name standing)
 
-  data-end : BackInData means rules (End ∷ [])
-  data-end = data-tokens means rules (End ∷ []) [] table refl (data-none means rules)
+  data-end : BackInData means rules options (End ∷ [])
+  data-end = data-tokens means rules options (End ∷ []) [] table reads refl (data-none means rules options)
 
   end-claim : (mode : Mode) (F : List ℕ) → Claim (Between mode) F (End ∷ [])
   unfolding late_at_end_of open_at_end_of told_at_end_of
@@ -623,12 +638,12 @@ module _ {X S H Y T J : Type 0} (told_to : Means Y T J) (source : Rules) (means 
   data-unfinished : (K : Start) (F : List ℕ) (M E : List Message) → K.opened ≡ Between Data → Shaped false M × Shaped false E → Claim K.opened F (proper (M ++ E))
   data-unfinished K F M E starts shaped =
       subst (λ T. Claim K.opened F T) (append-nil (proper (M ++ E)))
-      (data-item K F (M ++ E) [] starts (shaped-append false M E shaped.0 shaped.1) (data-none means rules))
+      (data-item K F (M ++ E) [] starts (shaped-append false M E shaped.0 shaped.1) (data-none means rules options))
 
   cdata-unfinished : (has_opening : Bool) (F : List ℕ) (M E : List Message) → Shaped false M × Shaped false E → Claim (if has_opening then Between Data else Between Cdata) F (proper (M ++ E))
   cdata-unfinished has_opening F M E shaped =
       subst (λ T. Claim (if has_opening then Between Data else Between Cdata) F T) (append-nil (proper (M ++ E)))
-      (cdata-item has_opening F (M ++ E) [] (shaped-append false M E shaped.0 shaped.1) (data-none means rules))
+      (cdata-item has_opening F (M ++ E) [] (shaped-append false M E shaped.0 shaped.1) (data-none means rules options))
 
   no_errors : (line : ℕ) (M : List Message) (before errors : List Told) → proper_tokens errors ≡ []
       → proper (M ++ on_line line (before ++ errors ++ End ∷ [])) ≡ (proper M ++ proper_tokens before) ++ End ∷ []
@@ -780,17 +795,17 @@ module _ {X S H Y T J : Type 0} (told_to : Means Y T J) (source : Rules) (means 
 
   pub page-read_again : (K later : Start) (s : T) (t : S) (text : List ℕ) → IsTable source.references → K.opened ≡ Between Data → IsOpen later
       → HaveTexts (tokens_of (all_messages told_to source K s text))
-      → proper (all_messages means rules later t (page_text (tokens_of (all_messages told_to source K s text))))
+      → proper (all_messages means rules later t (page_text options (tokens_of (all_messages told_to source K s text))))
       ≡ flat_map read_back (tokens_of (all_messages told_to source K s text)) ++ End ∷ []
   page-read_again K later s t text source_table starts here texts_of =
       let A : List Message = all_messages told_to source K s text in
       let clean : nothing_open K.opened ≡ true = ap nothing_open starts in
       let composed : Composed told_to source K s text = all-composed told_to source K s text clean in
       let is : A ≡ composed.tells ++ composed.ends = reading-items told_to source K s text composed.tells composed.ends source_table composed.items in
-      let claim : BackInData means rules (proper (composed.tells ++ composed.ends)) =
+      let claim : BackInData means rules options (proper (composed.tells ++ composed.ends)) =
       subst (λ o. Claim o (normalised K.input text) (proper (composed.tells ++ composed.ends))) starts (items-claim K s text composed.tells composed.ends composed.items) in
-      let back : BackInData means rules (proper A) = subst (λ N. BackInData means rules (proper N)) (sym is) claim in
+      let back : BackInData means rules options (proper A) = subst (λ N. BackInData means rules options (proper N)) (sym is) claim in
       let fine : Fine (tokens_of A) = (texts_of, all-tokens told_to source K s text source_table clean) in
-      ap (λ Y. proper (all_messages means rules later t Y)) (page-proper A place.Data)
+      ap (λ Y. proper (all_messages means rules later t Y)) (page-proper options A place.Data)
       ∙ back later t here (fine-proper A fine)
       ∙ ap (λ l. l ++ End ∷ []) (sym (back-proper A))

@@ -27,12 +27,14 @@ use Rattle.html5serialize.specs.Pages.{Part, AsksForAfter, AsksForPart, AsksForP
 use Rattle.html5serialize.specs.Pages.Part.{One, Element}
 use Rattle.html5serialize.specs.RawTexts.{ReadsRaw, can_write_raw, end_tag_of, end_text, raw_text}
 use Rattle.html5serialize.specs.ReadBack.{HasTexts}
-use Rattle.html5serialize.specs.Tags.{attribute_text, closing_text, opening_text, tag_text}
+use Rattle.html5serialize.specs.Tags.{attributes_text_by, closing_text, opening_text, tag_text}
 use Rattle.html5serialize.specs.Tokens.{can_write, read_back, token_text, without_duplicates}
+use Rattle.html5serialize.specs.declared.escaping.Escapes.TheVariants.{Numbers}
 use Rattle.html5serialize.proofs.Errors.{proper-append}
 use Rattle.html5serialize.proofs.MarkupBack.{tag-item}
 use Rattle.html5serialize.proofs.RawBack.{IsEndTag, IsRawName, end-tag, raw-name}
 use Rattle.html5serialize.proofs.RawKinds.{raw-name-of, raw-text}
+use Rattle.html5serialize.proofs.NamedValues.{shows-numbers}
 use Rattle.html5serialize.proofs.TagBack.{written_tag, IsTagBack, tag-back}
 use Rattle.html5serialize.proofs.TagTokens.{proper-tag}
 use Rattle.html5serialize.proofs.TokensBack.{Kept, keeps-opens, no_break-token, token-kept, whole-alone}
@@ -68,8 +70,8 @@ module _ {X S H : Type 0} (means : Means X S H) (rules : Rules) where
       → AsksForAfter means.reply kind (without_duplicates tag) → Opened K s tag kind
   unfolding token_text read_back can_write spelled last_after
   tag-opened K s tag kind table here texts can starts asks =
-      let back : IsTagBack rules tag = tag-back rules tag texts.0 texts.1 can in
-      let written : WrittenTag = written_tag tag in
+      let back : IsTagBack Numbers rules tag = tag-back Numbers rules tag (shows-numbers rules) texts.0 texts.1 can in
+      let written : WrittenTag = written_tag Numbers tag in
       let Y : List ℕ = tag_text tag in
       let M : List Message = spelled_messages rules.exact K.input [] (spelled rules written) in
       let last : List ℕ = last_after K.last_start_tag (without_duplicates tag) in
@@ -82,7 +84,7 @@ module _ {X S H : Type 0} (means : Means X S H) (rules : Rules) where
         messages = M;
         tells =
             subst (λ l. TellsByItself means rules K s Y M (start_beyond K Y (Between (RawText (raw_of kind) l)) l)) is_last
-            (subst (λ o. TellsByItself means rules K s Y M (start_beyond K Y o last)) opens (tag-item means rules K s tag table here texts can));
+            (subst (λ o. TellsByItself means rules K s Y M (start_beyond K Y o last)) opens (tag-item means rules Numbers (shows-numbers rules) K s tag table here texts can));
         exactly = proper-tag rules K.input written ∙ ap (λ t. Tag t ∷ []) back.told;
       }
 
@@ -116,7 +118,7 @@ module _ {X S H : Type 0} (means : Means X S H) (rules : Rules) where
       raw-text means rules between t kind name text table (record {
         starts = refl;
         no_break = no_break-token rules K.input (Tag tag) texts.0 p.0 here.no_break;
-        no_mark = no_mark-tag K.input tag.kind (chars name ++ (flat_map attribute_text tag.attributes ++ closing_text tag.self_closing));
+        no_mark = no_mark-tag K.input tag.kind (chars name ++ (attributes_text_by Numbers tag.attributes ++ closing_text tag.self_closing));
       }) texts.1 q.1 in
       let opens : open_after_reply name (last_reply means.step means.reply t raw.messages) ≡ Between Data =
       raw.opens (Between Data) (λ u line. keeps-opens name (means.reply u (Tag (end_tag_of name)) line) (asks.1 u line)) in

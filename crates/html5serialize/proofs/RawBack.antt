@@ -37,12 +37,14 @@ use Rattle.html5grammar.proofs.RawText.Reading.{reads_raw_reply}
 use Rattle.markup5ever.specs.NamedReferences.{IsTable}
 use Rattle.html5serialize.specs.RawTexts.{IsOpenRaw, ReadsRaw, end_tag_of, end_text, begins_end, begins_name, has_end, has_start, may_hide, is_plain_text, is_raw_name, can_write_raw}
 use Rattle.html5serialize.specs.Tags.{are_distinct}
+use Rattle.html5serialize.specs.declared.escaping.Escapes.TheVariants.{Numbers}
 use Rattle.html5serialize.proofs.Errors.{proper_cells, proper-spelled}
 use Rattle.html5serialize.proofs.RawItems.{Where, Back, raw_at, allows, back}
 use Rattle.html5serialize.proofs.RawItems.Where.{InStyle, InScript}
 use Rattle.html5serialize.proofs.RawItems.Pending.{Outside}
 use Rattle.html5serialize.proofs.Utf8Bytes.{AreHigh, High, high-encode, other, all-chars, occurs-chars}
 use Rattle.html5serialize.proofs.MarkupBack.{no_null-comment, no_return-comment, high-comment}
+use Rattle.html5serialize.proofs.NamedValues.{shows-numbers}
 use Rattle.html5serialize.proofs.TagBack.{IsTagBack, named, tag-back}
 use Rattle.html5serialize.proofs.TagTokens.{cells-tag}
 use Rattle.html5write.specs.Pieces.{is_comment_character, is_name_character, is_tag_name}
@@ -262,7 +264,7 @@ pub record IsEndTag (rules : Rules) (name : List ℕ) : Type 0 where
 pub end-tag : (rules : Rules) (name : List ℕ) → IsRawName name → IsEndTag rules name
 unfolding are_distinct
 end-tag rules name n =
-    let back : IsTagBack rules (end_tag_of name) = tag-back rules (end_tag_of name) n.utf8 tt (rw n.tag refl) in
+    let back : IsTagBack Numbers rules (end_tag_of name) = tag-back Numbers rules (end_tag_of name) (shows-numbers rules) n.utf8 tt (rw n.tag refl) in
     let same : named EndTag (chars name) [] ≡ named EndTag name [] = ap (λ cs. named EndTag cs []) n.same in
     record {
       text = sym (ap one_tag.written same) ∙ back.text ∙ ap end_text n.same;

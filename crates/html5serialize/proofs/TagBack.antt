@@ -19,17 +19,19 @@ use Rattle.html5reading.specs.Tag.{attribute, has_attribute, in_attribute_name, 
 use Rattle.html5grammar.specs.Tag.{Part, WrittenTag, opening, part_text, written, is_written, can_follow, place_after_parts, attributes_with, attributes_with_parts, repeats, has_repeated, kept, tag_told}
 use Rattle.html5grammar.specs.Tag.Part.{Blank, Solidus}
 use Rattle.markup5ever.specs.Names.{AttributeOf}
-use Rattle.html5write.specs.Escaped.{escaped_text}
 use Rattle.html5write.specs.Pieces as pieces
 use Rattle.html5write.specs.Pieces.{is_name_character, is_tag_name}
 use Rattle.html5write.specs.Told.{has_no_return}
 use Rattle.html5write.proofs.Names.{IsName, name-parts, small-letter, in_tag_name-all, begins-attribute, shown-name, no_return-name}
 use Rattle.html5write.proofs.Shapes.{attribute_part}
 use Rattle.html5write.proofs.Told.{names-tag}
-use Rattle.html5write.proofs.Values.{in_value-text, shown-value, no_return-append, no_return-text}
+use Rattle.html5write.proofs.Values.{no_return-append}
+use Rattle.html5serialize.specs.Escapes.{value_text_by}
 use Rattle.html5serialize.specs.ReadBack.{AreAttributeTexts}
-use Rattle.html5serialize.specs.Tags.{attribute_text, opening_text, closing_text, tag_text, is_unqualified, is_later_character, is_attribute_name, is_attribute, differs_from, are_distinct, is_tag}
+use Rattle.html5serialize.specs.Tags.{attribute_text_by, attributes_text_by, opening_text, closing_text, tag_text_by, is_unqualified, is_later_character, is_attribute_name, is_attribute, differs_from, are_distinct, is_tag}
 use Rattle.html5serialize.specs.Tokens.{without_duplicates}
+use Rattle.html5serialize.specs.declared.escaping.Escapes.{Escapes}
+use Rattle.html5serialize.proofs.NamedValues.{ShowsValues, in_value-text_by, no_return-text_by}
 use Rattle.html5serialize.proofs.Utf8Bytes.{High, high-encode, all-chars, all-parts, all-from_encodes}
 
 -- ---- names, from their bytes to their characters
@@ -132,11 +134,11 @@ are-back (a ∷ attributes) texts h =
 
 -- ---- the tag of the grammar
 
-abbrev parts_with : AttributeOf → List Part
-parts_with a = Blank space ∷ attribute_part (chars a.name.local) (escaped_text (chars a.value)) ∷ []
+abbrev parts_with : Escapes → AttributeOf → List Part
+parts_with escapes a = Blank space ∷ attribute_part (chars a.name.local) (value_text_by escapes (chars a.value)) ∷ []
 
-abbrev pub parts_of : List AttributeOf → List Part
-parts_of attributes = flat_map parts_with attributes
+abbrev pub parts_of : Escapes → List AttributeOf → List Part
+parts_of escapes attributes = flat_map (λ a. parts_with escapes a) attributes
 
 abbrev pub end_parts : Bool → List Part
 end_parts self_closing = if self_closing then Solidus ∷ [] else []
@@ -145,8 +147,8 @@ abbrev pub named : TagKind → List ℕ → List Part → WrittenTag
 named kind [] parts = record { kind = kind; first = 0; rest = []; parts = parts }
 named kind (c ∷ name) parts = record { kind = kind; first = c; rest = name; parts = parts }
 
-abbrev pub written_tag : TagOf → WrittenTag
-written_tag tag = named tag.kind (chars tag.name) (parts_of tag.attributes ++ end_parts tag.self_closing)
+abbrev pub written_tag : Escapes → TagOf → WrittenTag
+written_tag escapes tag = named tag.kind (chars tag.name) (parts_of escapes tag.attributes ++ end_parts tag.self_closing)
 
 -- ---- its text
 
@@ -155,12 +157,12 @@ unfolding is_attribute_name
 text-part [] run h = absurd (false≢true h)
 text-part (c ∷ name) run h = refl
 
-text-parts : (attributes : List AttributeOf) (later : List Part) → AreBack attributes
-    → flat_map part_text (parts_of attributes ++ later) ≡ flat_map attribute_text attributes ++ flat_map part_text later
-text-parts [] later back = refl
-text-parts (a ∷ attributes) later back =
-    rw (text-part (chars a.name.local) (escaped_text (chars a.value)) back.0.name, text-parts attributes later back.1)
-    (sym (append_assoc (attribute_text a) (flat_map attribute_text attributes) (flat_map part_text later)))
+text-parts : (escapes : Escapes) (attributes : List AttributeOf) (later : List Part) → AreBack attributes
+    → flat_map part_text (parts_of escapes attributes ++ later) ≡ attributes_text_by escapes attributes ++ flat_map part_text later
+text-parts escapes [] later back = refl
+text-parts escapes (a ∷ attributes) later back =
+    rw (text-part (chars a.name.local) (value_text_by escapes (chars a.value)) back.0.name, text-parts escapes attributes later back.1)
+    (sym (append_assoc (attribute_text_by escapes a) (attributes_text_by escapes attributes) (flat_map part_text later)))
 
 text-end : (self_closing : Bool) → flat_map part_text (end_parts self_closing) ++ codes ">" ≡ closing_text self_closing
 text-end true = refl
@@ -178,17 +180,17 @@ text-named kind (c ∷ name) parts h =
     append_assoc (opening kind) (c ∷ name ++ flat_map part_text parts) (codes ">")
     ∙ rw (text-opening kind) (ap (λ l. opening_text kind ++ l) (append_assoc (c ∷ name) (flat_map part_text parts) (codes ">")))
 
-text-closing : (attributes : List AttributeOf) (self_closing : Bool) → AreBack attributes
-    → flat_map part_text (parts_of attributes ++ end_parts self_closing) ++ codes ">" ≡ flat_map attribute_text attributes ++ closing_text self_closing
-text-closing attributes self_closing back =
-    ap (λ l. l ++ codes ">") (text-parts attributes (end_parts self_closing) back)
-    ∙ append_assoc (flat_map attribute_text attributes) (flat_map part_text (end_parts self_closing)) (codes ">")
-    ∙ ap (λ l. flat_map attribute_text attributes ++ l) (text-end self_closing)
+text-closing : (escapes : Escapes) (attributes : List AttributeOf) (self_closing : Bool) → AreBack attributes
+    → flat_map part_text (parts_of escapes attributes ++ end_parts self_closing) ++ codes ">" ≡ attributes_text_by escapes attributes ++ closing_text self_closing
+text-closing escapes attributes self_closing back =
+    ap (λ l. l ++ codes ">") (text-parts escapes attributes (end_parts self_closing) back)
+    ∙ append_assoc (attributes_text_by escapes attributes) (flat_map part_text (end_parts self_closing)) (codes ">")
+    ∙ ap (λ l. attributes_text_by escapes attributes ++ l) (text-end self_closing)
 
-text-tag : (tag : TagOf) → is_tag_name (chars tag.name) ≡ true → AreBack tag.attributes → written (written_tag tag) ≡ tag_text tag
-text-tag tag name back =
-    text-named tag.kind (chars tag.name) (parts_of tag.attributes ++ end_parts tag.self_closing) name
-    ∙ ap (λ l. opening_text tag.kind ++ (chars tag.name ++ l)) (text-closing tag.attributes tag.self_closing back)
+text-tag : (escapes : Escapes) (tag : TagOf) → is_tag_name (chars tag.name) ≡ true → AreBack tag.attributes → written (written_tag escapes tag) ≡ tag_text_by escapes tag
+text-tag escapes tag name back =
+    text-named tag.kind (chars tag.name) (parts_of escapes tag.attributes ++ end_parts tag.self_closing) name
+    ∙ ap (λ l. opening_text tag.kind ++ (chars tag.name ++ l)) (text-closing escapes tag.attributes tag.self_closing back)
 
 -- ---- it is a tag, written out
 
@@ -205,31 +207,31 @@ later-all (c ∷ name) h =
     let p = and_parts (is_later_character c) (list_all is_later_character name) h in
     rw (later-parts c p.0) (later-all name p.1)
 
-follows-attribute : (name value : List ℕ) (later : List Part) → is_attribute_name name ≡ true → can_follow AfterQuotedValue later ≡ true
-    → can_follow BeforeAttribute (attribute_part name (escaped_text value) ∷ later) ≡ true
+follows-attribute : (escapes : Escapes) (name value : List ℕ) (later : List Part) → is_attribute_name name ≡ true → can_follow AfterQuotedValue later ≡ true
+    → can_follow BeforeAttribute (attribute_part name (value_text_by escapes value) ∷ later) ≡ true
 unfolding is_attribute_name can_follow
-follows-attribute [] value later h g = absurd (false≢true h)
-follows-attribute (c ∷ name) value later h g =
+follows-attribute escapes [] value later h g = absurd (false≢true h)
+follows-attribute escapes (c ∷ name) value later h g =
     let p = and_parts (is_name_character c) (list_all is_later_character name) h in
-    rw (begins-attribute c (name-parts c p.0), later-all name p.1, in_value-text value) g
+    rw (begins-attribute c (name-parts c p.0), later-all name p.1, in_value-text_by escapes value) g
 
 follows-end : (self_closing : Bool) → can_follow AfterQuotedValue (end_parts self_closing) ≡ true
 unfolding can_follow
 follows-end true = refl
 follows-end false = refl
 
-follows-value : (attributes : List AttributeOf) (self_closing : Bool) → AreBack attributes → can_follow AfterQuotedValue (parts_of attributes ++ end_parts self_closing) ≡ true
+follows-value : (escapes : Escapes) (attributes : List AttributeOf) (self_closing : Bool) → AreBack attributes → can_follow AfterQuotedValue (parts_of escapes attributes ++ end_parts self_closing) ≡ true
 unfolding can_follow is_white_space
-follows-value [] self_closing back = follows-end self_closing
-follows-value (a ∷ attributes) self_closing back =
-    follows-attribute (chars a.name.local) (chars a.value) (parts_of attributes ++ end_parts self_closing) back.0.name (follows-value attributes self_closing back.1)
+follows-value escapes [] self_closing back = follows-end self_closing
+follows-value escapes (a ∷ attributes) self_closing back =
+    follows-attribute escapes (chars a.name.local) (chars a.value) (parts_of escapes attributes ++ end_parts self_closing) back.0.name (follows-value escapes attributes self_closing back.1)
 
-follows-name : (attributes : List AttributeOf) (self_closing : Bool) → AreBack attributes → can_follow InName (parts_of attributes ++ end_parts self_closing) ≡ true
+follows-name : (escapes : Escapes) (attributes : List AttributeOf) (self_closing : Bool) → AreBack attributes → can_follow InName (parts_of escapes attributes ++ end_parts self_closing) ≡ true
 unfolding can_follow is_white_space
-follows-name [] true back = refl
-follows-name [] false back = refl
-follows-name (a ∷ attributes) self_closing back =
-    follows-attribute (chars a.name.local) (chars a.value) (parts_of attributes ++ end_parts self_closing) back.0.name (follows-value attributes self_closing back.1)
+follows-name escapes [] true back = refl
+follows-name escapes [] false back = refl
+follows-name escapes (a ∷ attributes) self_closing back =
+    follows-attribute escapes (chars a.name.local) (chars a.value) (parts_of escapes attributes ++ end_parts self_closing) back.0.name (follows-value escapes attributes self_closing back.1)
 
 written-named : (kind : TagKind) (name : List ℕ) (parts : List Part) → is_tag_name name ≡ true → can_follow InName parts ≡ true → is_written (named kind name parts) ≡ true
 unfolding is_written is_tag_name
@@ -313,13 +315,13 @@ names-attribute (c ∷ name) h =
     let p = and_parts (is_name_character c) (list_all is_later_character name) h in
     rw (p.0) (later-names name p.1)
 
-module _ (rules : Rules) where
+module _ (rules : Rules) (escapes : Escapes) (shows : ShowsValues rules escapes) where
   with-attribute : (before : List AttributeOf) (name value : List ℕ) → is_attribute_name name ≡ true → pieces.has_no_null value ≡ true
-      → attributes_with rules before (attribute_part name (escaped_text value)) ≡ attribute (encode_utf8_all name) (encode_utf8_all value) ∷ before
+      → attributes_with rules before (attribute_part name (value_text_by escapes value)) ≡ attribute (encode_utf8_all name) (encode_utf8_all value) ∷ before
   unfolding is_attribute_name
   with-attribute before [] value h g = absurd (false≢true h)
   with-attribute before (c ∷ name) value h g =
-      rw (shown-name (c ∷ name) (names-attribute (c ∷ name) h), shown-value rules value g) refl
+      rw (shown-name (c ∷ name) (names-attribute (c ∷ name) h), shows value g) refl
 
   with-end : (before : List AttributeOf) (self_closing : Bool) → attributes_with_parts rules before (end_parts self_closing) ≡ before
   unfolding attributes_with_parts
@@ -327,11 +329,11 @@ module _ (rules : Rules) where
   with-end before false = refl
 
   with-all : (before attributes : List AttributeOf) (self_closing : Bool) → AreBack attributes
-      → attributes_with_parts rules before (parts_of attributes ++ end_parts self_closing) ≡ told_after before attributes
+      → attributes_with_parts rules before (parts_of escapes attributes ++ end_parts self_closing) ≡ told_after before attributes
   unfolding attributes_with_parts
   with-all before [] self_closing back = with-end before self_closing
   with-all before (a ∷ attributes) self_closing back =
-      ap (λ l. attributes_with_parts rules l (parts_of attributes ++ end_parts self_closing))
+      ap (λ l. attributes_with_parts rules l (parts_of escapes attributes ++ end_parts self_closing))
       (with-attribute before (chars a.name.local) (chars a.value) back.0.name back.0.value ∙ ap (λ b. b ∷ before) back.0.same)
       ∙ with-all (a ∷ before) attributes self_closing back.1
 
@@ -348,77 +350,77 @@ unfolding place_after_parts
 closes-end true = refl
 closes-end false = refl
 
-closes-value : (attributes : List AttributeOf) (self_closing : Bool) → AreBack attributes
-    → is_after_solidus (place_after_parts AfterQuotedValue (parts_of attributes ++ end_parts self_closing)) ≡ self_closing
+closes-value : (escapes : Escapes) (attributes : List AttributeOf) (self_closing : Bool) → AreBack attributes
+    → is_after_solidus (place_after_parts AfterQuotedValue (parts_of escapes attributes ++ end_parts self_closing)) ≡ self_closing
 unfolding place_after_parts
-closes-value [] self_closing back = closes-end self_closing
-closes-value (a ∷ attributes) self_closing back =
-    ap is_after_solidus (place-attribute (chars a.name.local) (escaped_text (chars a.value)) (parts_of attributes ++ end_parts self_closing) back.0.name)
-    ∙ closes-value attributes self_closing back.1
+closes-value escapes [] self_closing back = closes-end self_closing
+closes-value escapes (a ∷ attributes) self_closing back =
+    ap is_after_solidus (place-attribute (chars a.name.local) (value_text_by escapes (chars a.value)) (parts_of escapes attributes ++ end_parts self_closing) back.0.name)
+    ∙ closes-value escapes attributes self_closing back.1
 
-closes-name : (attributes : List AttributeOf) (self_closing : Bool) → AreBack attributes
-    → is_after_solidus (place_after_parts InName (parts_of attributes ++ end_parts self_closing)) ≡ self_closing
+closes-name : (escapes : Escapes) (attributes : List AttributeOf) (self_closing : Bool) → AreBack attributes
+    → is_after_solidus (place_after_parts InName (parts_of escapes attributes ++ end_parts self_closing)) ≡ self_closing
 unfolding place_after_parts
-closes-name [] true back = refl
-closes-name [] false back = refl
-closes-name (a ∷ attributes) self_closing back =
-    ap is_after_solidus (place-attribute (chars a.name.local) (escaped_text (chars a.value)) (parts_of attributes ++ end_parts self_closing) back.0.name)
-    ∙ closes-value attributes self_closing back.1
+closes-name escapes [] true back = refl
+closes-name escapes [] false back = refl
+closes-name escapes (a ∷ attributes) self_closing back =
+    ap is_after_solidus (place-attribute (chars a.name.local) (value_text_by escapes (chars a.value)) (parts_of escapes attributes ++ end_parts self_closing) back.0.name)
+    ∙ closes-value escapes attributes self_closing back.1
 
 -- ---- the tag that is told
 
-told-named : (rules : Rules) (kind : TagKind) (name : List ℕ) (attributes : List AttributeOf) (self_closing : Bool) → is_tag_name name ≡ true → AreBack attributes
+told-named : (rules : Rules) (escapes : Escapes) → ShowsValues rules escapes → (kind : TagKind) (name : List ℕ) (attributes : List AttributeOf) (self_closing : Bool) → is_tag_name name ≡ true → AreBack attributes
     → are_distinct attributes ≡ true
-    → tag_told rules (named kind name (parts_of attributes ++ end_parts self_closing))
+    → tag_told rules (named kind name (parts_of escapes attributes ++ end_parts self_closing))
     ≡ record { kind = kind; name = encode_utf8_all name; self_closing = self_closing; attributes = attributes; had_duplicate_attributes = false }
 unfolding is_tag_name kept
-told-named rules kind [] attributes self_closing h back distinct = absurd (false≢true h)
-told-named rules kind (c ∷ name) attributes self_closing h back distinct =
+told-named rules escapes shows kind [] attributes self_closing h back distinct = absurd (false≢true h)
+told-named rules escapes shows kind (c ∷ name) attributes self_closing h back distinct =
     let n : AreNew [] attributes = all-new attributes distinct in
-    rw (shown-name (c ∷ name) (names-tag (c ∷ name) h), with-all rules [] attributes self_closing back, kept-all [] attributes n, repeated-all [] attributes n, closes-name attributes self_closing back) refl
+    rw (shown-name (c ∷ name) (names-tag (c ∷ name) h), with-all rules escapes shows [] attributes self_closing back, kept-all [] attributes n, repeated-all [] attributes n, closes-name escapes attributes self_closing back) refl
 
 -- ---- there is no CR in it
 
-no_return-attributes : (attributes : List AttributeOf) → AreBack attributes → has_no_return (flat_map attribute_text attributes) ≡ true
-no_return-attributes [] back = refl
-no_return-attributes (a ∷ attributes) back =
+no_return-attributes : (escapes : Escapes) (attributes : List AttributeOf) → AreBack attributes → has_no_return (attributes_text_by escapes attributes) ≡ true
+no_return-attributes escapes [] back = refl
+no_return-attributes escapes (a ∷ attributes) back =
     let name : List ℕ = chars a.name.local in
-    let value : List ℕ = escaped_text (chars a.value) in
-    no_return-append (attribute_text a) (flat_map attribute_text attributes)
+    let value : List ℕ = value_text_by escapes (chars a.value) in
+    no_return-append (attribute_text_by escapes a) (attributes_text_by escapes attributes)
     (no_return-append (codes " ") (name ++ (codes "=\"" ++ (value ++ codes "\""))) refl
     (no_return-append name (codes "=\"" ++ (value ++ codes "\"")) (no_return-name name (names-attribute name back.0.name))
-    (no_return-append value (codes "\"") (no_return-text (chars a.value)) refl)))
-    (no_return-attributes attributes back.1)
+    (no_return-append value (codes "\"") (no_return-text_by escapes (chars a.value)) refl)))
+    (no_return-attributes escapes attributes back.1)
 
 no_return-closing : (self_closing : Bool) → has_no_return (closing_text self_closing) ≡ true
 no_return-closing true = refl
 no_return-closing false = refl
 
-no_return-rest : (name : List ℕ) (attributes : List AttributeOf) (self_closing : Bool) → is_tag_name name ≡ true → AreBack attributes
-    → has_no_return (name ++ (flat_map attribute_text attributes ++ closing_text self_closing)) ≡ true
-no_return-rest name attributes self_closing h back =
-    no_return-append name (flat_map attribute_text attributes ++ closing_text self_closing) (no_return-name name (names-tag name h))
-    (no_return-append (flat_map attribute_text attributes) (closing_text self_closing) (no_return-attributes attributes back) (no_return-closing self_closing))
+no_return-rest : (escapes : Escapes) (name : List ℕ) (attributes : List AttributeOf) (self_closing : Bool) → is_tag_name name ≡ true → AreBack attributes
+    → has_no_return (name ++ (attributes_text_by escapes attributes ++ closing_text self_closing)) ≡ true
+no_return-rest escapes name attributes self_closing h back =
+    no_return-append name (attributes_text_by escapes attributes ++ closing_text self_closing) (no_return-name name (names-tag name h))
+    (no_return-append (attributes_text_by escapes attributes) (closing_text self_closing) (no_return-attributes escapes attributes back) (no_return-closing self_closing))
 
 -- ---- all of that for a tag that can be written
 
-pub record IsTagBack (rules : Rules) (tag : TagOf) : Type 0 where
-  pub is_written : is_written (written_tag tag) ≡ true
-  pub text : written (written_tag tag) ≡ tag_text tag
-  pub told : tag_told rules (written_tag tag) ≡ without_duplicates tag
-  pub no_return : has_no_return (chars tag.name ++ (flat_map attribute_text tag.attributes ++ closing_text tag.self_closing)) ≡ true
+pub record IsTagBack (escapes : Escapes) (rules : Rules) (tag : TagOf) : Type 0 where
+  pub is_written : is_written (written_tag escapes tag) ≡ true
+  pub text : written (written_tag escapes tag) ≡ tag_text_by escapes tag
+  pub told : tag_told rules (written_tag escapes tag) ≡ without_duplicates tag
+  pub no_return : has_no_return (chars tag.name ++ (attributes_text_by escapes tag.attributes ++ closing_text tag.self_closing)) ≡ true
 
-pub tag-back : (rules : Rules) (tag : TagOf) → IsUtf8 tag.name → AreAttributeTexts tag.attributes → is_tag tag ≡ true → IsTagBack rules tag
-tag-back rules tag utf8 texts h =
+pub tag-back : (escapes : Escapes) (rules : Rules) (tag : TagOf) → ShowsValues rules escapes → IsUtf8 tag.name → AreAttributeTexts tag.attributes → is_tag tag ≡ true → IsTagBack escapes rules tag
+tag-back escapes rules tag shows utf8 texts h =
     let p = and_parts (is_tag_name tag.name) (list_all is_attribute tag.attributes && are_distinct tag.attributes) h in
     let q = and_parts (list_all is_attribute tag.attributes) (are_distinct tag.attributes) p.1 in
     let name : is_tag_name (chars tag.name) ≡ true = tag_name-chars tag.name utf8 p.0 in
     let back : AreBack tag.attributes = are-back tag.attributes texts q.0 in
     record {
-      is_written = written-named tag.kind (chars tag.name) (parts_of tag.attributes ++ end_parts tag.self_closing) name (follows-name tag.attributes tag.self_closing back);
-      text = text-tag tag name back;
+      is_written = written-named tag.kind (chars tag.name) (parts_of escapes tag.attributes ++ end_parts tag.self_closing) name (follows-name escapes tag.attributes tag.self_closing back);
+      text = text-tag escapes tag name back;
       told =
-          told-named rules tag.kind (chars tag.name) tag.attributes tag.self_closing name back q.1
+          told-named rules escapes shows tag.kind (chars tag.name) tag.attributes tag.self_closing name back q.1
           ∙ ap (λ bytes. record { kind = tag.kind; name = bytes; self_closing = tag.self_closing; attributes = tag.attributes; had_duplicate_attributes = false }) (encodes-chars tag.name utf8);
-      no_return = no_return-rest (chars tag.name) tag.attributes tag.self_closing name back;
+      no_return = no_return-rest escapes (chars tag.name) tag.attributes tag.self_closing name back;
     }

@@ -26,12 +26,14 @@ use Rattle.html5grammar.proofs.LastReply.{last_reply-says}
 use Rattle.markup5ever.specs.NamedReferences.{IsTable}
 use Rattle.html5serialize.specs.Doctypes.{name_text, is_markup_character}
 use Rattle.html5serialize.specs.ReadBack.{HasTexts, HaveTexts, KeepsOnAfterToken, KeepsOnAfterAll, ReadsBack, ReadBack, last_after_token, last_after_tokens}
-use Rattle.html5serialize.specs.Tags.{attribute_text, closing_text, opening_text, tag_text}
+use Rattle.html5serialize.specs.Tags.{attributes_text_by, closing_text, opening_text, tag_text}
 use Rattle.html5serialize.specs.Tokens.{can_write, read_back, token_text, tokens_text, is_comment_text, without_duplicates}
+use Rattle.html5serialize.specs.declared.escaping.Escapes.TheVariants.{Numbers}
 use Rattle.html5serialize.proofs.BackTokens.{token-reads_back}
 use Rattle.html5serialize.proofs.DoctypeBack.{doctype-back, high-markup, no_return-markup}
 use Rattle.html5serialize.proofs.Errors.{proper-append, proper-on_line}
 use Rattle.html5serialize.proofs.MarkupBack.{high-comment, no_return-comment, tag-item}
+use Rattle.html5serialize.proofs.NamedValues.{shows-numbers}
 use Rattle.html5serialize.proofs.TagBack.{written_tag, IsTagBack, tag-back}
 use Rattle.html5serialize.proofs.TagTokens.{proper-tag}
 use Rattle.html5serialize.proofs.Utf8Bytes.{all-chars}
@@ -55,7 +57,7 @@ no_break-token rules input (Text text) texts can h = no_break-text input (chars 
 no_break-token rules input Null texts can h = refl
 no_break-token rules input (Error message) texts can h = h
 no_break-token rules input (Tag tag) texts can h =
-    no_break-tag input tag.kind (chars tag.name ++ (flat_map attribute_text tag.attributes ++ closing_text tag.self_closing)) ((tag-back rules tag texts.0 texts.1 can).no_return)
+    no_break-tag input tag.kind (chars tag.name ++ (attributes_text_by Numbers tag.attributes ++ closing_text tag.self_closing)) ((tag-back Numbers rules tag (shows-numbers rules) texts.0 texts.1 can).no_return)
 no_break-token rules input (Comment text) texts can h =
     no_break-markup input (codes "!--" ++ (chars text ++ codes "-->"))
     (no_return-append (chars text) (codes "-->")
@@ -86,8 +88,8 @@ module _ {X S H : Type 0} (means : Means X S H) (rules : Rules) where
       → Kept K s (Tag tag)
   unfolding token_text read_back can_write spelled last_after
   tag-kept K s tag table here texts can keeps =
-      let back : IsTagBack rules tag = tag-back rules tag texts.0 texts.1 can in
-      let written : WrittenTag = written_tag tag in
+      let back : IsTagBack Numbers rules tag = tag-back Numbers rules tag (shows-numbers rules) texts.0 texts.1 can in
+      let written : WrittenTag = written_tag Numbers tag in
       let Y : List ℕ = tag_text tag in
       let M : List Message = spelled_messages rules.exact K.input [] (spelled rules written) in
       let last : List ℕ = last_after K.last_start_tag (without_duplicates tag) in
@@ -97,7 +99,7 @@ module _ {X S H : Type 0} (means : Means X S H) (rules : Rules) where
       (tag_told rules written) (λ t line. keeps-opens last (means.reply t (Tag (tag_told rules written)) line) (told t line)) in
       record {
         messages = M;
-        tells = subst (λ o. TellsByItself means rules K s Y M (start_beyond K Y o last)) opens (tag-item means rules K s tag table here texts can);
+        tells = subst (λ o. TellsByItself means rules K s Y M (start_beyond K Y o last)) opens (tag-item means rules Numbers (shows-numbers rules) K s tag table here texts can);
         exactly = proper-tag rules K.input written ∙ ap (λ t. Tag t ∷ []) back.told;
       }
 

@@ -1,3 +1,4 @@
+pub mod Escapes
 pub mod Tags
 pub mod Doctypes
 pub mod Tokens
@@ -6,4 +7,5 @@ pub mod ReadBack
 pub mod RawTexts
 pub mod RawRefusals
 pub mod Pages
+pub mod Scripting
 pub mod Page

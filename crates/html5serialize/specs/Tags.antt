@@ -8,19 +8,22 @@ use Rattle.html5ever_interface.specs.declared.interface.token.TagKind.{TagKind}
 use Rattle.html5ever_interface.specs.declared.interface.token.TagKind.TheVariants.{StartTag, EndTag}
 use Rattle.html5reading.specs.Characters.{equals_sign}
 use Rattle.html5reading.specs.Lawful.{has_no_null}
-use Rattle.html5write.specs.Pieces as pieces
-use Rattle.html5write.specs.Pieces.{NameAndValue, is_name_character, is_tag_name}
+use Rattle.html5serialize.specs.Escapes.{value_text_by}
+use Rattle.html5serialize.specs.declared.escaping.Escapes.{Escapes}
+use Rattle.html5serialize.specs.declared.escaping.Escapes.TheVariants.{Numbers}
+use Rattle.html5write.specs.Pieces.{is_name_character, is_tag_name}
 use Rattle.markup5ever.specs.Names.{AttributeOf, QualifiedName}
 
 -- ---- the text that is written
 
--- an attribute in characters, without the prefix and the namespace of its name
-abbrev pub name_and_value : AttributeOf → NameAndValue
-name_and_value a = record { name = chars a.name.local; value = chars a.value }
+-- a space, the name without its prefix and its namespace, `=`, and the value in double quotes, with references for the characters
+-- that can't stand for themselves
+abbrev pub attribute_text_by : Escapes → AttributeOf → List ℕ
+attribute_text_by escapes a = codes " " ++ (chars a.name.local ++ (codes "=\"" ++ (value_text_by escapes (chars a.value) ++ codes "\"")))
 
--- a space, the name, `=`, and the value in double quotes, with references for the characters that can't stand for themselves
-abbrev pub attribute_text : AttributeOf → List ℕ
-attribute_text a = pieces.attribute_text (name_and_value a)
+-- attributes one after another
+abbrev pub attributes_text_by : Escapes → List AttributeOf → List ℕ
+attributes_text_by escapes attributes = flat_map (λ a. attribute_text_by escapes a) attributes
 
 -- what a tag begins with
 abbrev pub opening_text : TagKind → List ℕ
@@ -32,8 +35,12 @@ abbrev pub closing_text : Bool → List ℕ
 closing_text self_closing = if self_closing then codes "/>" else codes ">"
 
 -- the opening, the name, the attributes in order, and the end. An end tag has its attributes, too.
+abbrev pub tag_text_by : Escapes → TagOf → List ℕ
+tag_text_by escapes tag = opening_text tag.kind ++ (chars tag.name ++ (attributes_text_by escapes tag.attributes ++ closing_text tag.self_closing))
+
+-- by number
 abbrev pub tag_text : TagOf → List ℕ
-tag_text tag = opening_text tag.kind ++ (chars tag.name ++ (flat_map attribute_text tag.attributes ++ closing_text tag.self_closing))
+tag_text tag = tag_text_by Numbers tag
 
 -- ---- which tags can be written, by the bytes of their names and values
 

@@ -1,6 +1,6 @@
 //! What is written is read again as the tokens that it was written for, and each token of a page can be
 //! written.
-ghost use Rattle.std.specs.Prelude.{◌≡◌, ℕ, List, [], ◌∷◌, ◌++◌, All, flat_map, true};
+ghost use Rattle.std.specs.Prelude.{◌≡◌, ℕ, List, [], ◌∷◌, ◌++◌, All, false, flat_map, true};
 ghost use Rattle.std.specs.List.{list_all};
 ghost use Rattle.std.specs.Option.{is_none};
 ghost use Rattle.std.specs.Str.{IsUtf8};
@@ -11,7 +11,9 @@ ghost use Rattle.html5reading.specs.Reading.{all_messages};
 ghost use Rattle.html5reading.specs.Start.{Start, Rules, nothing_open};
 ghost use Rattle.html5reading.specs.Start.Mode.{Data};
 ghost use Rattle.html5reading.specs.Start.Open.{Between};
+ghost use Rattle.html5serialize.specs.Escapes.{Reads};
 ghost use Rattle.html5serialize.specs.Page.{AsksAsStandard, page_text};
+ghost use Rattle.html5serialize.specs.declared.page_writer.PageOptions.{PageOptions};
 ghost use Rattle.html5serialize.specs.Pages.{Part, AsksForParts, PartsHaveTexts, ReadsParts, can_write_part, part_read_back, parts_text};
 ghost use Rattle.html5serialize.specs.RawRefusals.{raw_refusal};
 ghost use Rattle.html5serialize.specs.RawTexts.{IsOpenRaw, ReadsRaw, can_write_raw};
@@ -22,7 +24,9 @@ ghost use Rattle.html5write.specs.Told.{IsOpen, proper, tokens_of};
 ghost use Rattle.markup5ever.specs.NamedReferences.{IsTable};
 
 use html5ever_interface::interface::sink::TokenSink;
-use html5ever_interface::interface::token::Token;
+use html5ever_interface::interface::token::{Tag, Token};
+use html5sinks::tags::{TagHandler, TagsOnly};
+use html5sinks::text_runs::{TextRuns, TokenHandler};
 use std::alloc::Allocator;
 
 /// A token that can be written, as it is written where nothing is open in Data, tells that token, wherever
@@ -83,14 +87,24 @@ pub fn pages<S: TokenSink<Token<A>>, A: Allocator>()
 /// standard's elements ask for, and write them as a page: raw text in `script`, `style`, `textarea` and others
 /// as raw text, up to its end tag, and what stands after `plaintext` as plain text. Another sink that asks so,
 /// by rules of its own, is told exactly these tokens and the end by that page, but for errors, whatever the
-/// text was.
+/// text was. It is so with scripting and without, where it is the same for both sinks and for the writer, and
+/// where characters are escaped by names that the reader's table has.
 pub fn page_read_again<S: TokenSink<Token<A>>, R: TokenSink<Token<A>>, A: Allocator>()
-    ensures { (source rules : Rules) (K later : Start) (s : S.State) (t : R.State) (text : List ℕ)
-        → IsTable source.references → IsTable rules.references → K.opened ≡ Between Data → IsOpen later
-        → AsksAsStandard {S = S.State} S.means.reply → AsksAsStandard {S = R.State} R.means.reply
+    ensures { (options : PageOptions) (source rules : Rules) (K later : Start) (s : S.State) (t : R.State) (text : List ℕ)
+        → IsTable source.references → IsTable rules.references → Reads options.escapes rules.references
+        → K.opened ≡ Between Data → IsOpen later
+        → AsksAsStandard {S = S.State} options.scripting S.means.reply → AsksAsStandard {S = R.State} options.scripting R.means.reply
         → let tokens : List Told = tokens_of (all_messages S.means source K s text) in
         HaveTexts tokens
-        → proper (all_messages R.means rules later t (page_text tokens)) ≡ flat_map read_back tokens ++ End ∷ [] }
+        → proper (all_messages R.means rules later t (page_text options tokens)) ≡ flat_map read_back tokens ++ End ∷ [] }
+{}
+
+/// The sinks of tags and of runs of text ask for what the standard's elements ask for without scripting, whatever
+/// their handlers, where these leave the replies to the standard. So pages that such a sink is sent can be
+/// written as `page_read_again` says.
+pub fn standard_sinks<T: TagHandler<Tag<A>>, H: TokenHandler<Token<A>>, A: Allocator>()
+    ensures tags { AsksAsStandard false ⟦<TagsOnly<T> as TokenSink<Token<A>>>⟧.means.reply }
+    ensures runs { AsksAsStandard false ⟦<TextRuns<H, A> as TokenSink<Token<A>>>⟧.means.reply }
 {}
 
 /// Raw text is refused for some reason exactly where it can't be written.

@@ -10,14 +10,17 @@ pub mod laws;
 mod names;
 mod page_writer;
 mod raw_texts;
+mod scripting;
 mod tags;
 mod tokens;
 
 pub use crate::checks::token_refusal;
 pub use crate::elements::push_element;
 pub use crate::error::{RawTextError, SerializeError};
+pub use crate::escaping::Escapes;
 pub use crate::names::{is_attribute_name, is_tag_name};
-pub use crate::page_writer::{PageWriter, Place, push_page};
+pub use crate::page_writer::{PageOptions, PageWriter, Place, push_page};
 pub use crate::raw_texts::{push_raw_text, raw_text_refusal};
+pub use crate::scripting::reply_by;
 pub use crate::tags::push_tag;
 pub use crate::tokens::push_token;

@@ -8,7 +8,7 @@ use html5ever::tokenizer::collect::Collector;
 use html5ever::tokenizer::{NamedReferences, TokenizerOpts, read_whole};
 use html5ever_interface::interface::token::{Tag, TagKind, Token};
 use html5ever_interface::states::{RawKind, State};
-use html5serialize::{PageWriter, Place};
+use html5serialize::{Escapes, PageOptions, PageWriter, Place};
 use markup5ever::interface::LocalName;
 use std::alloc::{AllocError, Allocator, Global};
 use std::process::Abort;
@@ -57,15 +57,15 @@ fn read(
     Ok(sink)
 }
 
-// What is written for a start tag of that name and these tokens after it.
+// What this writer of a page writes for a start tag of that name and these tokens after it.
 fn written(
     rt: &impl Abort,
     alloc: Global,
+    mut page: PageWriter,
     name: &str,
     place: Place,
     tokens: &Collector<Global>,
 ) -> String {
-    let mut page = PageWriter::new();
     let mut out = String::new(alloc);
     let tag = start(alloc, name).expect(rt, "memory");
     page.push(&mut out, &tag).expect(rt, "memory");
@@ -106,12 +106,20 @@ fn are_same(tokens: &[(Token, u64)], others: &[(Token, u64)]) -> bool {
     rest.next().is_none()
 }
 
-// That a start tag of that name and this text after it are written so, and that this is read as the same
-// tokens.
-fn check(rt: &impl Abort, alloc: Global, name: &str, place: Place, text: &str, wanted: &str) {
+// That a start tag of that name and this text after it are written so by this writer of a page, and that this
+// is read as the same tokens.
+fn check_page(
+    rt: &impl Abort,
+    alloc: Global,
+    page: PageWriter,
+    name: &str,
+    place: Place,
+    text: &str,
+    wanted: &str,
+) {
     let references = standard_references(alloc).expect(rt, "memory");
     let tokens = read(alloc, &references, place, name, text).expect(rt, "a reading");
-    let out = written(rt, alloc, name, place, &tokens);
+    let out = written(rt, alloc, page, name, place, &tokens);
     assert!(rt; out.as_str() == wanted, "{text:?}: {out:?}");
     let (_, rest) = out.as_str().split_once('>').expect(rt, "a start tag");
     let again = read(alloc, &references, place, name, rest).expect(rt, "a reading");
@@ -120,6 +128,19 @@ fn check(rt: &impl Abort, alloc: Global, name: &str, place: Place, text: &str, w
     assert!(rt;
         texts(rt, alloc, &again).as_str() == told.as_str(),
         "{text:?}"
+    );
+}
+
+// The same, without scripting.
+fn check(rt: &impl Abort, alloc: Global, name: &str, place: Place, text: &str, wanted: &str) {
+    check_page(
+        rt,
+        alloc,
+        PageWriter::new(PageOptions::default()),
+        name,
+        place,
+        text,
+        wanted,
     );
 }
 
@@ -240,17 +261,139 @@ fn pages_with_plain_text(rt: HostRuntime) {
 fn pages_in_data(rt: HostRuntime) {
     for (name, text, wanted) in [
         ("p", "&lt;\0</p>", "<p>&#60;\0</p>"),
+        (
+            "p",
+            "<a b='& < > \" \u{a0} &#13;&lt;&lt;' c='\"'>",
+            "<p><a b=\"&#38; &#60; &#62; &#34; \u{a0} &#13;&#60;&#60;\" c=\"&#34;\">",
+        ),
         ("noscript", "<b>&", "<noscript><b>&#38;"),
+        (
+            "noscript",
+            "<p>x</P></noscript>y",
+            "<noscript><p>x</p></noscript>y",
+        ),
+        ("noscript", "</noscript>", "<noscript></noscript>"),
+        ("noscript", "", "<noscript>"),
         ("scripts", "<b>", "<scripts><b>"),
     ] {
         check(&rt, rt.alloc(), name, Place::Data, text, wanted);
     }
 }
 
+#[test]
+fn pages_with_scripting(rt: HostRuntime) {
+    let page = PageWriter::new(PageOptions {
+        scripting: true,
+        escapes: Escapes::Numbers,
+    });
+    for (text, wanted) in [
+        (
+            "<p>x</P></noscript>y&lt;<b>",
+            "<noscript><p>x</P></noscript>y&#60;<b>",
+        ),
+        (
+            "&lt;</noscripts></NOSCRIPT/>",
+            "<noscript>&lt;</noscripts></noscript/>",
+        ),
+        ("</noscript>", "<noscript></noscript>"),
+        ("<p>&amp;", "<noscript><p>&amp;"),
+        ("", "<noscript>"),
+    ] {
+        let place = Place::RawText(RawKind::Rawtext);
+        check_page(&rt, rt.alloc(), page, "noscript", place, text, wanted);
+    }
+    for (name, text, wanted) in [
+        ("noscripts", "<b>&", "<noscripts><b>&#38;"),
+        ("p", "</noscript>&", "<p></noscript>&#38;"),
+    ] {
+        check_page(&rt, rt.alloc(), page, name, Place::Data, text, wanted);
+    }
+}
+
+// The same texts with names: in Data and in RCDATA, and in no other raw text.
+#[test]
+fn pages_with_names(rt: HostRuntime) {
+    let page = PageWriter::new(PageOptions {
+        scripting: false,
+        escapes: Escapes::Names,
+    });
+    for (name, place, text, wanted) in [
+        (
+            "p",
+            Place::Data,
+            "a&amp;lt;&#160;<b>\"&gt;'&#13;\u{feff}&lt;",
+            "<p>a&amp;lt;&nbsp;<b>\"&gt;'&#13;&#65279;&lt;",
+        ),
+        (
+            "title",
+            Place::RawText(RawKind::Rcdata),
+            "a&amp;&#160;<i>\"&#60;</title>&",
+            "<title>a&amp;&nbsp;&lt;i&gt;\"&lt;</title>&amp;",
+        ),
+        (
+            "style",
+            Place::RawText(RawKind::Rawtext),
+            "a<b>&amp;\u{a0}</style>\u{a0}<",
+            "<style>a<b>&amp;\u{a0}</style>&nbsp;&lt;",
+        ),
+        (
+            "p",
+            Place::Data,
+            "<a title='<&amp;&#160;'>&lt",
+            "<p><a title=\"&lt;&amp;&nbsp;\">&lt;",
+        ),
+    ] {
+        check_page(&rt, rt.alloc(), page, name, place, text, wanted);
+    }
+}
+
+// Values with names: there `"` has one, too, and end tags have values.
+#[test]
+fn values_with_names(rt: HostRuntime) {
+    let page = PageWriter::new(PageOptions {
+        scripting: false,
+        escapes: Escapes::Names,
+    });
+    for (name, place, text, wanted) in [
+        (
+            "p",
+            Place::Data,
+            "<a b='& < > \" \u{a0} &#13; \u{feff} \u{e9}'>",
+            "<p><a b=\"&amp; &lt; &gt; &quot; &nbsp; &#13; &#65279; \u{e9}\">",
+        ),
+        (
+            "p",
+            Place::Data,
+            "<a b='&amp;&lt;\"\"' c='\"' d=&gt; e=''>\"",
+            "<p><a b=\"&amp;&lt;&quot;&quot;\" c=\"&quot;\" d=\"&gt;\" e=\"\">\"",
+        ),
+        (
+            "p",
+            Place::Data,
+            "<a b=&amp;lt c=&ltx d=&amp;quot;>",
+            "<p><a b=\"&amp;lt\" c=\"&amp;ltx\" d=\"&amp;quot;\">",
+        ),
+        (
+            "title",
+            Place::RawText(RawKind::Rcdata),
+            "\"</TITLE b='<\"&'>\"",
+            "<title>\"</title b=\"&lt;&quot;&amp;\">\"",
+        ),
+        (
+            "style",
+            Place::RawText(RawKind::Rawtext),
+            "</style b='\u{a0}' />\u{a0}",
+            "<style></style b=\"&nbsp;\"/>&nbsp;",
+        ),
+    ] {
+        check_page(&rt, rt.alloc(), page, name, place, text, wanted);
+    }
+}
+
 // An end tag opens nothing, and nothing ends plain text.
 #[test]
 fn places_after_tags(rt: HostRuntime) {
-    let mut page = PageWriter::new();
+    let mut page = PageWriter::new(PageOptions::default());
     let mut out = String::new(rt.alloc());
     let mut script = start(rt.alloc(), "script").expect(&rt, "memory");
     page.push(&mut out, &script).expect(&rt, "memory");
@@ -274,7 +417,7 @@ fn places_after_tags(rt: HostRuntime) {
 
 // Whether a start tag of `script` is written with so many growths, and the place after it.
 fn opens<A: Allocator + Copy>(alloc: A) -> (bool, Place) {
-    let mut page = PageWriter::new();
+    let mut page = PageWriter::new(PageOptions::default());
     let mut out = String::new(alloc);
     let Ok(tag) = start(alloc, "script") else {
         return (false, page.place());

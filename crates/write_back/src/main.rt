@@ -1,16 +1,37 @@
-//! Writes the page of standard input back, by its tokens. tools/written.py compares what is read of both.
+//! Writes the page of standard input back, by its tokens: by the word `--scripting` as a page that is read with scripting, and by
+//! `--names` with characters that are escaped by name. tools/written.py compares what is read of both.
 #![tactic(auto)]
 
 mod writing;
 
 use crate::writing::Writing;
-use devices::ReadSource;
+use devices::{ReadSource, given_words};
 use html5entities::standard_references;
 use html5ever_interface::options::TokenizerOpts;
+use html5serialize::{Escapes, PageOptions};
 use html5stream::read_source;
 use std::process::ExitCode;
 
+// How the page is written, if the program knows the words.
+fn options_of(words: &[String]) -> Option<PageOptions> {
+    let mut options = PageOptions::default();
+    for word in words {
+        match word.as_str() {
+            "--scripting" => options.scripting = true,
+            "--names" => options.escapes = Escapes::Names,
+            _ => return None,
+        }
+    }
+    Some(options)
+}
+
 fn main(rt: HostRuntime) -> ExitCode {
+    let Ok(words) = given_words(&rt) else {
+        return ExitCode::FAILURE;
+    };
+    let Some(options) = options_of(&words) else {
+        return ExitCode::FAILURE;
+    };
     let Ok(references) = standard_references(rt.alloc()) else {
         return ExitCode::FAILURE;
     };
@@ -18,7 +39,7 @@ fn main(rt: HostRuntime) -> ExitCode {
     let (writing, read) = read_source(
         rt.alloc(),
         &mut source,
-        Writing::new(rt.alloc()),
+        Writing::new(rt.alloc(), options),
         TokenizerOpts::default(),
         &references,
     );

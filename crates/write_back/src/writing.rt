@@ -2,11 +2,11 @@
 use ghost_counts::Count;
 use html5ever_interface::interface::sink::TokenSink;
 use html5ever_interface::interface::token::{SinkFault, Token, TokenSinkResult};
-use html5serialize::PageWriter;
-use html5sinks::replies::standard_reply;
+use html5serialize::{PageOptions, PageWriter, reply_by};
 use std::alloc::{AllocError, Global};
 
-/// Writes the tokens that it is sent. Its replies are those that the standard's elements ask for.
+/// Writes the tokens that it is sent. Its replies are those that the standard's elements ask for, with scripting
+/// or without.
 #[derive(Drop)]
 pub struct Writing {
     pub out: String,
@@ -15,29 +15,29 @@ pub struct Writing {
 }
 
 impl Writing {
-    pub fn new(alloc: Global) -> Writing {
+    pub fn new(alloc: Global, options: PageOptions) -> Writing {
         Writing {
             out: String::new(alloc),
-            page: PageWriter::new(),
+            page: PageWriter::new(options),
             faults: Count::new(),
         }
     }
 }
 
 impl TokenSink<Token> for Writing {
-    ghost use Rattle.std.specs.Prelude.{false, refl};
-    ghost use Rattle.html5sinks.specs.Replies.{standard_reply};
+    ghost use Rattle.std.specs.Prelude.{Bool, false, refl};
+    ghost use Rattle.html5serialize.specs.Scripting.{reply_by};
+    ghost use Rattle.html5sinks.specs.RunLaws.{tags_alone_reply};
     ghost use Rattle.html5sinks.specs.Runs.{reply_where_tag};
-    ghost use Rattle.write_back.specs.Laws.{written_keeps_on};
 
     type Handle = ();
 
-    ghost State = { Unit {0} };
+    ghost State = { Bool };
 
     ghost means = { record {
-      state = λ writing. tt;
-      step = λ s told line. tt;
-      reply = λ s told line. reply_where_tag standard_reply told;
+      state = λ writing. writing.page.options.scripting;
+      step = λ s told line. s;
+      reply = λ s told line. reply_where_tag (reply_by s) told;
       foreign = λ s. false;
       finish = λ s. s;
       faulted = λ s told line. s;
@@ -52,7 +52,7 @@ impl TokenSink<Token> for Writing {
 
     ghost any_line = { λ s a line other. refl };
 
-    ghost keeps_on = { written_keeps_on };
+    ghost keeps_on = { λ s. tags_alone_reply (reply_by s) s };
 
     fn process_token(
         &mut self,
@@ -64,7 +64,7 @@ impl TokenSink<Token> for Writing {
             return Err(SinkFault);
         }
         match &token {
-            Token::TagToken(tag) => Ok(standard_reply(tag)),
+            Token::TagToken(tag) => Ok(reply_by(self.page.options().scripting, tag)),
             _ => Ok(TokenSinkResult::Continue),
         }
     }

@@ -4,8 +4,10 @@ use Rattle.html5ever_interface.specs.Token.{told_by}
 use Rattle.html5serialize.specs.Page.{page_text, page_text_from}
 use Rattle.html5serialize.proofs.page_writer.push_page.Given as goal
 
--- what was appended and what the tokens that are left make from the place that was reached are the page
+-- The writer reads the page as it was told. What was appended, and what the tokens that are left make from the place that was
+-- reached, are the page.
 abbrev pub invariant-loop-token : goal.invariant-loop-token
 invariant-loop-token g l =
-    string_bytes l.out ++ encode_utf8_all (page_text_from l.page (map told_by (drop l.token-index l.tokens)))
-    ≡ string_bytes l.initial.out ++ encode_utf8_all (page_text (map told_by l.tokens))
+    (l.page.options ≡ l.fn.options)
+    × (string_bytes l.out ++ encode_utf8_all (page_text_from l.fn.options l.page.place (map told_by (drop l.token-index l.tokens)))
+    ≡ string_bytes l.initial.out ++ encode_utf8_all (page_text l.fn.options (map told_by l.tokens)))

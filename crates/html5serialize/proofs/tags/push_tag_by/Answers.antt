@@ -1,13 +1,13 @@
 use Rattle.std.proofs.Common.{◌++◌, map, refl, string_bytes, ap, ◌∙◌}
-use Rattle.std.specs.Prelude.{encode_utf8_all, flat_map}
+use Rattle.std.specs.Prelude.{encode_utf8_all}
 use Rattle.markup5ever.specs.Names.{attribute_of}
-use Rattle.html5serialize.specs.Tags.{attribute_text, closing_text, opening_text}
+use Rattle.html5serialize.specs.Tags.{attributes_text_by, closing_text, opening_text}
 use Rattle.html5serialize.proofs.Bytes.{bytes-tag}
-use Rattle.html5serialize.proofs.tags.push_tag.Goals as goal
+use Rattle.html5serialize.proofs.tags.push_tag_by.Goals as goal
 
 pub returns : goal.returns
 returns g c =
-    let attributes = flat_map attribute_text (map attribute_of c.deref-2.result.now) in
+    let attributes = attributes_text_by c.args.escapes (map attribute_of c.deref-2.result.now) in
     c.in_ok-push_str-3.ensures.bytes
     ∙ ap (λ l. l ++ c.closing_of.result.now)
     (c.in_ok-push_attributes.ensures
