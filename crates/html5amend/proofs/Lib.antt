@@ -1,0 +1,5 @@
+pub mod Counting
+pub mod Rooms
+pub mod Staying
+pub mod Written
+pub mod Pushing

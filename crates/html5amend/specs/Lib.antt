@@ -1,0 +1,10 @@
+pub mod Contents
+pub mod Parts
+pub mod Elements
+pub mod Others
+pub mod Open
+pub mod Amending
+pub mod Places
+pub mod Views
+pub mod Nothing
+pub mod State
