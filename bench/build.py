@@ -63,7 +63,7 @@ def lay_out(folder):
     (folder / ".cargo").mkdir()
     for name in ["lib.rs", "main.rs"]:
         shutil.copy(SOURCES / name, folder / "src" / name)
-    for name in ["pages.rs", "clean.rs", "count.rs"]:
+    for name in ["pages.rs", "clean.rs", "count.rs", "write_back.rs"]:
         shutil.copy(SOURCES / name, folder / "src" / "bin" / name)
     more = {name: version for name, version in MORE.items() if list(REGISTRY.glob(f"{name}-[0-9]*"))}
     for name in more:

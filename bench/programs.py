@@ -9,6 +9,9 @@ which the programs take turns. The peak of memory is read where all but the end 
 1,000,000 bytes. Where html5ever can't be built the programs are timed alone. What cleans over html5ever makes no tree, so
 beside it stands `clean` by the standard policy without the rule `tree`. Beside `clean` with it stands ammonia, where it is
 there (Debian's librust-ammonia-dev): it builds a tree, reads its input whole, and keeps other pages, by rules of its own.
+
+The row `write_back` is of the program of crates/write_back, which writes a page back by its tokens and keeps the page that it writes,
+beside a serializer by hand over html5ever, which prints as it goes. html5ever reads a processing instruction as a comment.
 """
 
 import argparse
@@ -22,25 +25,29 @@ import build
 import corpora
 import measure
 
-PROGRAM = pathlib.Path(__file__).resolve().parent.parent / "crates/firnuubal/out/firnuubal"
+CRATES = pathlib.Path(__file__).resolve().parent.parent / "crates"
+PROGRAM = CRATES / "firnuubal/out/firnuubal"
 NO_TREE = "clean without tree"
+WRITE_BACK = "write_back"
 # What does the same work over html5ever: a program of beside/ and its words.
-COMMANDS = {"links": ["pages", "links"], "text": ["pages", "text"], NO_TREE: ["clean"], "clean": ["ammonia"], "tokens": None, "check": None, "rewrite": None}
+COMMANDS = {"links": ["pages", "links"], "text": ["pages", "text"], NO_TREE: ["clean"], "clean": ["ammonia"], WRITE_BACK: ["write_back"], "tokens": None, "check": None, "rewrite": None}
 
 
-def words_of(name, folder):
-    """The words of a command."""
+def command_of(name, folder):
+    """The program of a row, and its words."""
+    if name == WRITE_BACK:
+        return CRATES / "write_back/out/write_back", []
     if name != NO_TREE:
-        return [name]
+        return PROGRAM, [name]
     policy = subprocess.run([PROGRAM, "clean", "--print-policy"], capture_output=True, check=True).stdout
     file = folder / "policy"
     file.write_bytes(policy.replace(b"\ntree\n", b"\n"))
-    return ["clean", "--policy", str(file)]
+    return PROGRAM, ["clean", "--policy", str(file)]
 
 
-def peak_memory(words, corpus):
+def peak_memory(program, words, corpus):
     """The most memory that a command had after the whole input, in bytes."""
-    process = subprocess.Popen([PROGRAM, *words], stdin=subprocess.PIPE, stdout=subprocess.DEVNULL)
+    process = subprocess.Popen([program, *words], stdin=subprocess.PIPE, stdout=subprocess.DEVNULL)
     with process.stdin, open(corpus, "rb") as source:
         while piece := source.read(1 << 16):
             process.stdin.write(piece)
@@ -68,14 +75,14 @@ def difference(name, turns):
 
 def print_command(name, corpus, beside, runs):
     """Prints the row of a command and a corpus; `beside` is where the programs over html5ever are."""
-    own = words_of(name, corpus.parent)
-    turns = [(PROGRAM, own, corpus)]
+    program, own = command_of(name, corpus.parent)
+    turns = [(program, own, corpus)]
     other, *words = COMMANDS[name] or [""]
     if beside and (beside / other).is_file():
         turns.append((beside / other, words, corpus))
     size = corpus.stat().st_size / corpora.MB
     ours, *theirs = measure.best_times(turns, runs)
-    peak = peak_memory(own, corpus) / corpora.MB
+    peak = peak_memory(program, own, corpus) / corpora.MB
     cells = [f"`{name}`", f"{size:.0f}", f"{ours:.2f}", f"{size / ours:.0f}", f"{peak:.1f}"]
     for seconds in theirs:
         apart = f"{other}'s rules" if other in build.MORE else difference(name, turns)

@@ -96,29 +96,35 @@ def fault(page):
     return ""
 
 
-def main():
-    parser = argparse.ArgumentParser(description=__doc__.splitlines()[0])
-    parser.add_argument("folder", type=pathlib.Path)
-    parser.add_argument("--pages", type=int, default=1000)
-    chosen = parser.parse_args()
-    files = sorted(filter(pathlib.Path.is_file, chosen.folder.rglob("*.html")))
+def pages(folder, most):
+    """The pages of a folder that are UTF-8, in a fixed random order, with their files."""
+    files = sorted(filter(pathlib.Path.is_file, folder.rglob("*.html")))
     random.Random(1).shuffle(files)
-    count = size = faults = 0
-    for file in files[: chosen.pages]:
+    for file in files[:most]:
         page = file.read_bytes()
         try:
             page.decode()
         except UnicodeDecodeError:
             continue
-        if page.startswith(b"\xef\xbb\xbf"):
-            continue
+        if not page.startswith(b"\xef\xbb\xbf"):
+            yield file, page
+
+
+def compare(script, fault_of):
+    """Says each page of the folder of the words that has a fault, and answers whether one has."""
+    parser = argparse.ArgumentParser(description=sys.modules["__main__"].__doc__.splitlines()[0])
+    parser.add_argument("folder", type=pathlib.Path)
+    parser.add_argument("--pages", type=int, default=1000)
+    chosen = parser.parse_args()
+    count = size = faults = 0
+    for file, page in pages(chosen.folder, chosen.pages):
         count, size = count + 1, size + len(page)
-        if said := fault(page):
+        if said := fault_of(page):
             faults += 1
-            print(f"tools/rewrites_peer.py: {file}: {said}")
-    print(f"tools/rewrites_peer.py: {count} pages, {size} bytes, {faults} otherwise")
+            print(f"{script}: {file}: {said}", flush=True)
+    print(f"{script}: {count} pages, {size} bytes, {faults} otherwise")
     return bool(faults)
 
 
 if __name__ == "__main__":
-    sys.exit(main())
+    sys.exit(compare("tools/rewrites_peer.py", fault))

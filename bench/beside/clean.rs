@@ -5,7 +5,7 @@
 //! It reads its input as it arrives and prints as it goes. What it keeps is what the policy of
 //! crates/html5policy/README.md says.
 
-use beside::{read_input, reply, PIECE};
+use beside::{read_input, reply, write_escaped, PIECE};
 use html5ever::tokenizer::{Tag, TagKind, Token, TokenSink, TokenSinkResult};
 use html5ever::{local_name, Attribute, LocalName};
 use std::io::{self, BufWriter, Stdout, Write};
@@ -110,19 +110,6 @@ impl Hidden {
     }
 }
 
-/// What is printed for a character that doesn't stand for itself.
-fn reference_of(character: char) -> Option<&'static str> {
-    match character {
-        '&' => Some("&#38;"),
-        '<' => Some("&#60;"),
-        '>' => Some("&#62;"),
-        '"' => Some("&#34;"),
-        '\r' => Some("&#13;"),
-        '\u{FEFF}' => Some("&#65279;"),
-        _ => None,
-    }
-}
-
 struct Page {
     output: BufWriter<Stdout>,
     hidden: Hidden,
@@ -145,19 +132,6 @@ impl Page {
         self.output.write_all(text.as_bytes())
     }
 
-    /// Prints a text or a value, with references for what would be markup in it.
-    fn print_escaped(&mut self, text: &str) -> io::Result<()> {
-        let mut printed = 0;
-        for (at, character) in text.char_indices() {
-            if let Some(reference) = reference_of(character) {
-                self.print(&text[printed..at])?;
-                self.print(reference)?;
-                printed = at + character.len_utf8();
-            }
-        }
-        self.print(&text[printed..])
-    }
-
     fn print_start_tag(&mut self, tag: &Tag) -> io::Result<()> {
         self.print("<")?;
         self.print(&tag.name)?;
@@ -165,7 +139,7 @@ impl Page {
             self.print(" ")?;
             self.print(&attribute.name.local)?;
             self.print("=\"")?;
-            self.print_escaped(&attribute.value)?;
+            write_escaped(&mut self.output, &attribute.value)?;
             self.print("\"")?;
         }
         self.print(">")
@@ -198,7 +172,7 @@ impl Page {
         if self.hidden.depth > 0 {
             return Ok(());
         }
-        self.print_escaped(text)
+        write_escaped(&mut self.output, text)
     }
 }
 

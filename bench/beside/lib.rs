@@ -1,4 +1,4 @@
-//! What the programs share: their input is fed as it arrives, and tags are replied to.
+//! What the programs share: their input is fed as it arrives, tags are replied to, and texts are escaped.
 
 use html5ever::tendril::StrTendril;
 use html5ever::tokenizer::states::RawKind;
@@ -6,7 +6,7 @@ use html5ever::tokenizer::{
     BufferQueue, Tag, TagKind, TokenSink, TokenSinkResult, Tokenizer, TokenizerOpts,
     TokenizerResult,
 };
-use std::io::{self, Read};
+use std::io::{self, Read, Write};
 
 /// How many bytes are read at once.
 pub const PIECE: usize = 1 << 16;
@@ -64,4 +64,30 @@ pub fn read_input<S: TokenSink<Handle = ()>>(sink: S) -> io::Result<Option<S>> {
     }
     tokenizer.end();
     Ok(Some(tokenizer.sink))
+}
+
+/// What is printed for a character that doesn't stand for itself.
+fn reference_of(character: char) -> Option<&'static str> {
+    match character {
+        '&' => Some("&#38;"),
+        '<' => Some("&#60;"),
+        '>' => Some("&#62;"),
+        '"' => Some("&#34;"),
+        '\r' => Some("&#13;"),
+        '\u{FEFF}' => Some("&#65279;"),
+        _ => None,
+    }
+}
+
+/// Prints a text or a value, with references for what would be markup in it.
+pub fn write_escaped(output: &mut impl Write, text: &str) -> io::Result<()> {
+    let mut printed = 0;
+    for (at, character) in text.char_indices() {
+        if let Some(reference) = reference_of(character) {
+            output.write_all(&text.as_bytes()[printed..at])?;
+            output.write_all(reference.as_bytes())?;
+            printed = at + character.len_utf8();
+        }
+    }
+    output.write_all(&text.as_bytes()[printed..])
 }
