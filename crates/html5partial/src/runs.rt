@@ -1,7 +1,7 @@
 //! Runs: characters that are read at once. For each state that reads runs, which
 //! characters end one, and where a run within a tag goes. A run between tags is sent as one text, and
 //! goes on over line feeds.
-ghost use Rattle.std.specs.Prelude.{◌≡◌, ℕ, [], false, ◌↔◌, ◌++◌, Contains, IfOk, OnOk, IfSome, is_some, string_bytes, flat_map};
+ghost use Rattle.std.specs.Prelude.{◌≡◌, ℕ, [], false, ◌↔◌, ◌++◌, Contains, OnOk, IfSome, is_some, string_bytes, flat_map};
 ghost use Rattle.std.specs.Str.{chars};
 ghost use Rattle.html5reading.specs.Cdata.{open_cdata};
 ghost use Rattle.html5reading.specs.Characters.{name_bytes};
@@ -21,7 +21,7 @@ use crate::current_tag::push_name;
 use crate::opened::Opened;
 use html5ever_interface::states::{AttrValueKind, RawKind, State};
 use markup5ever::small_char_set::SmallCharSet;
-use markup5ever::text::{copy_text, push_text};
+use markup5ever::text::push_text;
 use std::alloc::{AllocError, Allocator};
 
 /// The characters that end a run in a tag's name.
@@ -141,19 +141,6 @@ fn push_letters<A: Allocator>(name: &mut String<A>, run: &str) -> Result<(), All
         push_name(name, c)?;
     }
     Ok(())
-}
-
-/// The name that a run spells, its letters in lower case.
-#[inline(always)]
-pub fn name_of<A: Allocator + Copy>(alloc: A, run: &str) -> Result<String<A>, AllocError>
-    ensures { IfOk result (λ name. string_bytes name ≡ flat_map name_bytes (chars run.now)) }
-{
-    if is_plain_name(run.as_bytes()) {
-        return copy_text(alloc, run);
-    }
-    let mut name = String::new(alloc);
-    push_letters(&mut name, run)?;
-    Ok(name)
 }
 
 /// Appends a run to a name, its letters in lower case.

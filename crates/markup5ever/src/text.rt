@@ -1,24 +1,11 @@
 //! Texts that grow.
-ghost use Rattle.std.specs.Prelude.{◌≡◌, [], ◌++◌, IsOk, IfOk, is_ok, if◌then◌else◌, length, string_bytes};
+ghost use Rattle.std.specs.Prelude.{◌≡◌, [], ◌++◌, IsOk, is_ok, if◌then◌else◌, length, string_bytes};
 
 use std::alloc::{AllocError, Allocator};
 
-// How many bytes a text of one byte has room for, and by how many at least it grows where one is appended. So most names
-// and values that come byte by byte ask for memory once.
+// By how many bytes at least a text grows where one is appended. So most names and values that come byte by byte ask for
+// memory once.
 const ROOM: usize = 24;
-
-/// A copy of a text. One of a single byte has room for more.
-#[inline(always)]
-pub fn copy_text<A: Allocator>(alloc: A, text: &str) -> Result<String<A>, AllocError>
-    ensures { IfOk result (λ copy. string_bytes copy ≡ text.now) }
-{
-    if text.len() != 1 {
-        return String::from_str(alloc, text);
-    }
-    let mut copy = String::with_capacity(alloc, ROOM)?;
-    copy.push_str(&text[..1])?;
-    Ok(copy)
-}
 
 // Appends to a text that is full. It stands apart, so that what most bytes go through stays small.
 #[cold]
