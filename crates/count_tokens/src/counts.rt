@@ -1,8 +1,6 @@
 //! A sink that counts what it is sent.
 use html5ever_interface::interface::sink::TokenSink;
-use html5ever_interface::interface::token::{
-    Returned, SinkFault, Tag, TextFault, Token, TokenSinkResult,
-};
+use html5ever_interface::interface::token::{SinkFault, Tag, TextFault, Token, TokenSinkResult};
 use html5sinks::text_runs::reply_to_token;
 use std::alloc::Allocator;
 
@@ -81,27 +79,23 @@ impl<A: Allocator> TokenSink<Token<A>> for Counts {
 
     fn process_token(
         &mut self,
-        token: Token<A>,
+        mut token: Token<A>,
         line_number: u64,
     ) -> Result<TokenSinkResult<(), String<A>>, SinkFault> {
-        Ok(self.process_and_return(token, line_number)?.reply)
+        self.process_lent(&mut token, line_number)
     }
 
-    // Counts the token, and has no more use for it.
-    fn process_and_return(
+    // Counts the token where it lies.
+    fn process_lent(
         &mut self,
-        token: Token<A>,
+        token: &mut Token<A>,
         _line_number: u64,
-    ) -> Result<Returned<(), String<A>, Token<A>>, SinkFault> {
-        match &token {
+    ) -> Result<TokenSinkResult<(), String<A>>, SinkFault> {
+        match token {
             Token::CharacterTokens(text) => self.count_text(text),
-            _ => self.count_token(&token),
+            _ => self.count_token(token),
         }
-        let reply = reply_to_token(&token);
-        Ok(Returned {
-            reply,
-            token: Some(token),
-        })
+        Ok(reply_to_token(token))
     }
 
     fn process_text(&mut self, _alloc: A, text: &str, _line_number: u64) -> Result<(), TextFault> {

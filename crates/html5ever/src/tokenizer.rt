@@ -40,7 +40,7 @@ pub use html5ever_interface::interface::token::Token::{
     ProcessingInstructionToken, TagToken,
 };
 pub use html5ever_interface::interface::token::{
-    Doctype, ProcessResult, Returned, SinkFault, Tag, TagKind, TextFault, Token, TokenSinkResult,
+    Doctype, ProcessResult, SinkFault, Tag, TagKind, TextFault, Token, TokenSinkResult,
 };
 pub use html5ever_interface::options::TokenizerOpts;
 pub use html5partial::error::TokenizerError;

@@ -101,25 +101,24 @@ impl<W: Target, A: Allocator> TokenHandler<Token<A>> for PageText<W, A> {
     fn take_token(
         &mut self,
         run: &str,
-        token: Token<A>,
+        mut token: Token<A>,
         line_number: u64,
     ) -> Result<(), SinkFault> {
-        self.take_and_return(run, token, line_number)?;
-        Ok(())
+        self.take_lent(run, &mut token, line_number)
     }
 
     // Nothing of a token is kept.
-    fn take_and_return(
+    fn take_lent(
         &mut self,
         run: &str,
-        token: Token<A>,
+        token: &mut Token<A>,
         _line_number: u64,
-    ) -> Result<Option<Token<A>>, SinkFault> {
+    ) -> Result<(), SinkFault> {
         // A match in place of `?`: split for the proof.
         match self.show(run) {
             Ok(()) => {
-                self.within = is_within_after(self.within, &token);
-                Ok(Some(token))
+                self.within = is_within_after(self.within, token);
+                Ok(())
             }
             Err(SinkFault) => Err(SinkFault),
         }

@@ -19,7 +19,7 @@ use crate::position::Position;
 use crate::rules::Rules;
 use crate::undecided::read_undecided;
 use html5ever_interface::interface::sink::TokenSink;
-use html5ever_interface::interface::token::{Returned, Tag, Token, TokenSinkResult};
+use html5ever_interface::interface::token::{Tag, Token, TokenSinkResult};
 use html5partial::error::TokenizerError;
 use html5partial::opened::{Opened, Progress, Step};
 use html5states::teller::Teller;
@@ -68,9 +68,10 @@ fn emit_tag<S: TokenSink<Token<A>>, A: Allocator + Copy>(
     ensures held { held_len position.new.opened ≡ 0 }
 {
     position.note_tag(&tag)?;
-    let Returned { reply, token } = teller.emit_tag(tag)?;
+    let mut token = Token::TagToken(tag);
+    let reply = teller.emit_lent(&mut token);
     position.reuse(token);
-    match reply {
+    match reply? {
         TokenSinkResult::Continue => Ok(TokenizerResult::Done),
         TokenSinkResult::Plaintext => {
             position.set_plaintext();

@@ -228,16 +228,16 @@ impl<A: Allocator + Copy> Position<A> {
         Ok(keep_name(&mut self.opened.last_start_tag, tag)?)
     }
 
-    /// Takes the memory of a tag that was sent for the next ones, if the sink returned it.
+    /// Takes what a sink left of a tag that was sent, for its memory alone.
     #[inline(always)]
-    pub(crate) fn reuse(&mut self, token: Option<Token<A>>)
+    pub(crate) fn reuse(&mut self, token: Token<A>)
         requires { self.old.opened ≡ Between Data }
         ensures opened { self.new.opened ≡ Between Data }
         ensures last { self.new.last_start_tag ≡ self.old.last_start_tag }
         ensures input { self.new.input ≡ self.old.input }
     {
         self.in_reference = false;
-        if let Some(Token::TagToken(tag)) = token {
+        if let Token::TagToken(tag) = token {
             self.opened.tag.reuse(tag);
         }
     }

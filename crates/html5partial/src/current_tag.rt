@@ -76,6 +76,7 @@ impl<A: Allocator + Copy> CurrentTag<A> {
     }
 
     /// Takes the memory of a tag for the next ones. Nothing else of it is kept.
+    #[inline(always)]
     pub fn reuse(&mut self, tag: Tag<A>)
         ensures name { string_bytes self.new.name ≡ [] }
         ensures attributes { self.new.attrs ≡ [] }

@@ -9,9 +9,7 @@ ghost use Rattle.html5ever_interface.specs.Token.{told_by, reply_of};
 use crate::records::{is_open_after, is_open_after_text, push_text, push_token};
 use ghost_counts::{Count, Log};
 use html5ever_interface::interface::sink::TokenSink;
-use html5ever_interface::interface::token::{
-    Returned, SinkFault, TextFault, Token, TokenSinkResult,
-};
+use html5ever_interface::interface::token::{SinkFault, TextFault, Token, TokenSinkResult};
 use html5sinks::pausing::pausing_reply;
 use html5sinks::replies::standard_reply;
 use outbox::front::{rest_of, skip_front};
@@ -285,31 +283,28 @@ impl<A: Allocator + Copy> TokenSink<Token<A>> for RecordSink<A> {
 
     fn process_token(
         &mut self,
-        token: Token<A>,
+        mut token: Token<A>,
         line_number: u64,
     ) -> Result<TokenSinkResult<PausedAt, String<A>>, SinkFault> {
-        Ok(self.process_and_return(token, line_number)?.reply)
+        self.process_lent(&mut token, line_number)
     }
 
-    // Writes the token, and has no more use for it.
-    fn process_and_return(
+    // Writes the token from where it lies.
+    fn process_lent(
         &mut self,
-        token: Token<A>,
+        token: &mut Token<A>,
         line_number: u64,
-    ) -> Result<Returned<PausedAt, String<A>, Token<A>>, SinkFault> {
+    ) -> Result<TokenSinkResult<PausedAt, String<A>>, SinkFault> {
         match push_and_reply(
             &mut self.written,
             self.in_text,
             self.replies,
-            &token,
+            token,
             line_number,
         ) {
             Ok(reply) => {
-                self.in_text = is_open_after(self.in_text, &token);
-                Ok(Returned {
-                    reply,
-                    token: Some(token),
-                })
+                self.in_text = is_open_after(self.in_text, token);
+                Ok(reply)
             }
             Err(AllocError) => {
                 self.faults.add(1);

@@ -9,9 +9,7 @@ ghost use Rattle.html5sinks.specs.Runs.{joined_of, joined_step, joined_reply, re
 use crate::replies::standard_reply;
 use ghost_counts::Count;
 use html5ever_interface::interface::sink::{Says, TokenSink};
-use html5ever_interface::interface::token::{
-    Returned, SinkFault, TextFault, Token, TokenSinkResult,
-};
+use html5ever_interface::interface::token::{SinkFault, TextFault, Token, TokenSinkResult};
 use std::alloc::{AllocError, Allocator, Global};
 use std::marker::Model;
 
@@ -39,20 +37,14 @@ pub trait TokenHandler<T: Says> {
             (state self.new ≡ step (state self.old) run.now (T.told token) line_number) }
         ensures fault { OnErr result (state self.new ≡ state self.old) };
 
-    /// Takes a run and the token after it, as `take_token` does, and returns the token if it keeps no part of
-    /// it, for its memory alone. By default it hands them to `take_token`, and returns none.
-    fn take_and_return(
-        &mut self,
-        run: &str,
-        token: T,
-        line_number: u64,
-    ) -> Result<Option<T>, SinkFault>
+    /// Takes a run and the token after it, as `take_token` does, the token from where it lies. What it leaves
+    /// there is for its memory alone. By default it takes the token out, and hands both to `take_token`.
+    fn take_lent(&mut self, run: &str, token: &mut T, line_number: u64) -> Result<(), SinkFault>
         ensures steps { OnOk result
-            (state self.new ≡ step (state self.old) run.now (T.told token) line_number) }
+            (state self.new ≡ step (state self.old) run.now (T.told token.old) line_number) }
         ensures fault { OnErr result (state self.new ≡ state self.old) }
     {
-        self.take_token(run, token, line_number)?;
-        Ok(None)
+        self.take_token(run, token.take(), line_number)
     }
 }
 
@@ -91,22 +83,21 @@ pub trait ReplyingTokenHandler<T: Says> {
             ≡ reply_where_tag (λ tag. reply (state self.old) run.now tag line_number) (T.told token)) }
         ensures fault { OnErr result (state self.new ≡ state self.old) };
 
-    /// The same, and returns the token if it keeps no part of it, for its memory alone. By default it hands
-    /// them to `answer_token`, and returns none.
-    fn answer_and_return(
+    /// The same, with the token where it lies: what it leaves there is for its memory alone. By default it takes
+    /// the token out, and hands both to `answer_token`.
+    fn answer_lent(
         &mut self,
         run: &str,
-        token: T,
+        token: &mut T,
         line_number: u64,
-    ) -> Result<Returned<Self::Handle, T::Text, T>, SinkFault>
+    ) -> Result<TokenSinkResult<Self::Handle, T::Text>, SinkFault>
         ensures steps { OnOk result
-            (state self.new ≡ step (state self.old) run.now (T.told token) line_number) }
-        ensures replies { IfOk result (λ answer. reply_of T.text_bytes answer.reply
-            ≡ reply_where_tag (λ tag. reply (state self.old) run.now tag line_number) (T.told token)) }
+            (state self.new ≡ step (state self.old) run.now (T.told token.old) line_number) }
+        ensures replies { IfOk result (λ answer. reply_of T.text_bytes answer
+            ≡ reply_where_tag (λ tag. reply (state self.old) run.now tag line_number) (T.told token.old)) }
         ensures fault { OnErr result (state self.new ≡ state self.old) }
     {
-        let reply = self.answer_token(run, token, line_number)?;
-        Ok(Returned { reply, token: None })
+        self.answer_token(run, token.take(), line_number)
     }
 }
 
@@ -147,16 +138,16 @@ impl<H: TokenHandler<Token<A>>, A: Allocator> ReplyingTokenHandler<Token<A>> for
         }
     }
 
-    fn answer_and_return(
+    fn answer_lent(
         &mut self,
         run: &str,
-        token: Token<A>,
+        token: &mut Token<A>,
         line_number: u64,
-    ) -> Result<Returned<(), String<A>, Token<A>>, SinkFault> {
-        let reply = reply_to_token(&token);
+    ) -> Result<TokenSinkResult<(), String<A>>, SinkFault> {
+        let reply = reply_to_token(token);
         // A match in place of `?`: split for the proof.
-        match self.take_and_return(run, token, line_number) {
-            Ok(token) => Ok(Returned { reply, token }),
+        match self.take_lent(run, token, line_number) {
+            Ok(()) => Ok(reply),
             Err(SinkFault) => Err(SinkFault),
         }
     }
@@ -248,19 +239,19 @@ impl<H, A: Allocator> TextRuns<H, A> {
 fn hand_on<H: ReplyingTokenHandler<Token<A>>, A: Allocator>(
     handler: &mut H,
     run: &mut String<A>,
-    token: Token<A>,
+    token: &mut Token<A>,
     line: u64,
-) -> Result<Returned<H::Handle, String<A>, Token<A>>, SinkFault>
+) -> Result<TokenSinkResult<H::Handle, String<A>>, SinkFault>
     ensures steps { OnOk result (H.state handler.new
-        ≡ H.step (H.state handler.old) (string_bytes run.old) (told_by token) line) }
-    ensures replies { IfOk result (λ answer. reply_of string_bytes answer.reply
-        ≡ reply_where_tag (λ tag. H.reply (H.state handler.old) (string_bytes run.old) tag line) (told_by token)) }
+        ≡ H.step (H.state handler.old) (string_bytes run.old) (told_by token.old) line) }
+    ensures replies { IfOk result (λ answer. reply_of string_bytes answer
+        ≡ reply_where_tag (λ tag. H.reply (H.state handler.old) (string_bytes run.old) tag line) (told_by token.old)) }
     ensures ended { OnOk result (string_bytes run.new ≡ []) }
     ensures fault { OnErr result (H.state handler.new ≡ H.state handler.old) }
     ensures kept { OnErr result (string_bytes run.new ≡ string_bytes run.old) }
 {
     // A match in place of `?`: split for the proof.
-    match handler.answer_and_return(run.as_str(), token, line) {
+    match handler.answer_lent(run.as_str(), token, line) {
         Ok(answer) => {
             run.clear();
             Ok(answer)
@@ -269,32 +260,27 @@ fn hand_on<H: ReplyingTokenHandler<Token<A>>, A: Allocator>(
     }
 }
 
-// Takes a token. Where it faults, nothing has changed.
+// Takes a token from where it lies. Where it faults, nothing has changed.
 fn take_told<H: ReplyingTokenHandler<Token<A>>, A: Allocator>(
     handler: &mut H,
     run: &mut String<A>,
-    token: Token<A>,
+    token: &mut Token<A>,
     line: u64,
-) -> Result<Returned<H::Handle, String<A>, Token<A>>, SinkFault>
+) -> Result<TokenSinkResult<H::Handle, String<A>>, SinkFault>
     ensures steps { OnOk result (joined_of (H.state handler.new) (string_bytes run.new)
-        ≡ joined_step H.step (joined_of (H.state handler.old) (string_bytes run.old)) (told_by token) line) }
-    ensures replies { IfOk result (λ answer. reply_of string_bytes answer.reply
-        ≡ joined_reply H.reply (joined_of (H.state handler.old) (string_bytes run.old)) (told_by token) line) }
+        ≡ joined_step H.step (joined_of (H.state handler.old) (string_bytes run.old)) (told_by token.old) line) }
+    ensures replies { IfOk result (λ answer. reply_of string_bytes answer
+        ≡ joined_reply H.reply (joined_of (H.state handler.old) (string_bytes run.old)) (told_by token.old) line) }
     ensures fault { OnErr result (joined_of (H.state handler.new) (string_bytes run.new)
         ≡ joined_of (H.state handler.old) (string_bytes run.old)) }
 {
     match token {
-        Token::CharacterTokens(text) => match run.push_str(&text) {
-            Ok(()) => Ok(Returned {
-                reply: TokenSinkResult::Continue,
-                token: None,
-            }),
+        Token::CharacterTokens(text) => match run.push_str(text) {
+            Ok(()) => Ok(TokenSinkResult::Continue),
             Err(AllocError) => Err(SinkFault),
         },
-        Token::ParseError(message) => {
-            handler.answer_and_return("", Token::ParseError(message), line)
-        }
-        token => hand_on(handler, run, token, line),
+        Token::ParseError(_) => handler.answer_lent("", token, line),
+        _ => hand_on(handler, run, token, line),
     }
 }
 
@@ -329,17 +315,17 @@ impl<H: ReplyingTokenHandler<Token<A>>, A: Allocator> TokenSink<Token<A>> for Te
 
     fn process_token(
         &mut self,
-        token: Token<A>,
+        mut token: Token<A>,
         line_number: u64,
     ) -> Result<TokenSinkResult<H::Handle, String<A>>, SinkFault> {
-        Ok(self.process_and_return(token, line_number)?.reply)
+        self.process_lent(&mut token, line_number)
     }
 
-    fn process_and_return(
+    fn process_lent(
         &mut self,
-        token: Token<A>,
+        token: &mut Token<A>,
         line_number: u64,
-    ) -> Result<Returned<H::Handle, String<A>, Token<A>>, SinkFault> {
+    ) -> Result<TokenSinkResult<H::Handle, String<A>>, SinkFault> {
         match take_told(&mut self.handler, &mut self.run, token, line_number) {
             Ok(answer) => Ok(answer),
             Err(SinkFault) => {

@@ -5,15 +5,13 @@ ghost use Rattle.std.specs.Prelude.{◌≡◌, ◌≢◌, List, ◌∷◌, [], f
 ghost use Rattle.html5ever_interface.specs.Message.{fixed_text, message_bytes};
 ghost use Rattle.html5reading.specs.ErrorText.{error_in, end_error_in, where_true, bad_character_error};
 ghost use Rattle.html5ever_interface.specs.Sink.{Message};
-ghost use Rattle.html5ever_interface.specs.Token.{Told, told_by, tag_of, reply_of, is_tag};
+ghost use Rattle.html5ever_interface.specs.Token.{told_by, reply_of, is_tag};
 ghost use Rattle.html5ever_interface.specs.Token.Told.{Text, Error};
 ghost use Rattle.html5states.specs.Telling.{Emits, IsToldAs, Tells, tokens_in};
 
 use html5ever_interface::interface::message::{ErrorMessage, FixedMessage};
 use html5ever_interface::interface::sink::TokenSink;
-use html5ever_interface::interface::token::{
-    Returned, SinkFault, Tag, TextFault, Token, TokenSinkResult,
-};
+use html5ever_interface::interface::token::{SinkFault, TextFault, Token, TokenSinkResult};
 use html5ever_interface::states::State;
 use html5partial::error::TokenizerError;
 use html5partial::message::{bad_character_message, is_bad, saw_end_message, saw_message};
@@ -86,21 +84,18 @@ impl<S: TokenSink<Token<A>>, A: Allocator + Copy> Teller<'_, S, A> {
         self.hand_on(token)
     }
 
-    /// Sends the sink a tag, and answers its reply, with the tag if the sink returns it.
+    /// Sends the sink a token from where it lies, and answers its reply. What stays there is for its memory alone.
     #[inline(always)]
-    pub fn emit_tag(
+    pub fn emit_lent(
         &mut self,
-        tag: Tag<A>,
-    ) -> Result<Returned<S::Handle, String<A>, Token<A>>, TokenizerError>
-        ensures emits { Emits S.means S.faults result self.old self.new (Told.Tag (tag_of tag) ∷ []) }
-        ensures replies { IfOk result (λ answer. reply_of string_bytes answer.reply
-            ≡ S.means.reply (S.means.state self.old.sink.now) (Told.Tag (tag_of tag)) self.old.line) }
+        token: &mut Token<A>,
+    ) -> Result<TokenSinkResult<S::Handle, String<A>>, TokenizerError>
+        ensures emits { Emits S.means S.faults result self.old self.new (told_by token.old ∷ []) }
+        ensures replies { IfOk result (λ reply. reply_of string_bytes reply
+            ≡ S.means.reply (S.means.state self.old.sink.now) (told_by token.old) self.old.line) }
     {
-        match self
-            .sink
-            .process_and_return(Token::TagToken(tag), self.line)
-        {
-            Ok(answer) => Ok(answer),
+        match self.sink.process_lent(token, self.line) {
+            Ok(reply) => Ok(reply),
             Err(SinkFault) => Err(TokenizerError::Sink),
         }
     }

@@ -8,6 +8,8 @@ mod collector;
 #[cfg(test)]
 mod errors;
 #[cfg(test)]
+mod lent;
+#[cfg(test)]
 mod links;
 #[cfg(test)]
 mod made;
@@ -19,8 +21,6 @@ mod options;
 mod print_sink;
 #[cfg(test)]
 mod refusing;
-#[cfg(test)]
-mod returned;
 #[cfg(test)]
 mod small_char_set;
 #[cfg(test)]

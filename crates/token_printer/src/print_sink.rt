@@ -9,9 +9,7 @@ ghost use Rattle.html5ever_interface.specs.Token.Told.{Text};
 use crate::output::{is_open_after, is_open_after_text, push_text, push_token};
 use ghost_counts::Count;
 use html5ever_interface::interface::sink::TokenSink;
-use html5ever_interface::interface::token::{
-    Returned, SinkFault, TextFault, Token, TokenSinkResult,
-};
+use html5ever_interface::interface::token::{SinkFault, TextFault, Token, TokenSinkResult};
 use html5sinks::pausing::pausing_reply;
 use std::alloc::{AllocError, Allocator, Global};
 use std::marker::Model;
@@ -122,27 +120,24 @@ impl<A: Allocator + Copy> TokenSink<Token<A>> for PrintSink<A> {
     #[inline(always)]
     fn process_token(
         &mut self,
-        token: Token<A>,
+        mut token: Token<A>,
         line_number: u64,
     ) -> Result<TokenSinkResult<(), String<A>>, SinkFault> {
-        Ok(self.process_and_return(token, line_number)?.reply)
+        self.process_lent(&mut token, line_number)
     }
 
-    // Prints the token, and has no more use for it.
+    // Prints the token from where it lies.
     #[inline(always)]
-    fn process_and_return(
+    fn process_lent(
         &mut self,
-        token: Token<A>,
+        token: &mut Token<A>,
         line_number: u64,
-    ) -> Result<Returned<(), String<A>, Token<A>>, SinkFault> {
+    ) -> Result<TokenSinkResult<(), String<A>>, SinkFault> {
         let printed = self.output.len();
-        match print_and_reply(&mut self.output, self.in_text, &token, line_number) {
+        match print_and_reply(&mut self.output, self.in_text, token, line_number) {
             Ok(reply) => {
-                self.in_text = is_open_after(self.in_text, &token);
-                Ok(Returned {
-                    reply,
-                    token: Some(token),
-                })
+                self.in_text = is_open_after(self.in_text, token);
+                Ok(reply)
             }
             Err(AllocError) => {
                 self.output.truncate(printed);

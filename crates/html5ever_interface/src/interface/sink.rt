@@ -1,6 +1,7 @@
 //! What a sink of tokens is.
-use crate::interface::token::{Returned, SinkFault, TextFault, Token, TokenSinkResult};
+use crate::interface::token::{SinkFault, TextFault, Token, TokenSinkResult};
 use std::alloc::{AllocError, Allocator};
+use std::mem;
 
 /// What a token means: the token that contracts speak of, and the bytes of a text of its own.
 pub trait Says: Drop {
@@ -20,6 +21,10 @@ pub trait Says: Drop {
     /// The token of a text, which is copied.
     fn of_text(alloc: Self::Alloc, text: &str) -> Result<Self, AllocError>
         ensures { IfOk result (λ token. told token ≡ Text text.now) };
+
+    /// Takes the token from where it lies. What stays there says nothing.
+    fn take(&mut self) -> Self
+        ensures { told result ≡ told self.old };
 }
 
 impl<A: Allocator> Says for Token<A> {
@@ -36,6 +41,10 @@ impl<A: Allocator> Says for Token<A> {
 
     fn of_text(alloc: A, text: &str) -> Result<Token<A>, AllocError> {
         Ok(Token::CharacterTokens(String::from_str(alloc, text)?))
+    }
+
+    fn take(&mut self) -> Token<A> {
+        mem::replace(self, Token::EOFToken)
     }
 }
 
@@ -95,25 +104,24 @@ pub trait TokenSink<T: Says> {
         }
     }
 
-    /// Takes a token, as `process_token` does, and returns it if it keeps no part of it. By default it hands the
-    /// token on to `process_token`, and returns none. A tokenizer sends tags so: it reads the next tag into the
-    /// memory of one that came back. So a sink that only reads tags does better to return them.
-    fn process_and_return(
+    /// Takes a token, as `process_token` does, from where it lies. By default it takes it out, and hands it on to
+    /// `process_token`. What it leaves there is for its memory alone: a tokenizer sends tags so, and reads the next
+    /// one into the memory of a tag that stayed. So a sink that only reads tags does better to leave them.
+    fn process_lent(
         &mut self,
-        token: T,
+        token: &mut T,
         line_number: u64,
-    ) -> Result<Returned<Self::Handle, T::Text, T>, SinkFault>
+    ) -> Result<TokenSinkResult<Self::Handle, T::Text>, SinkFault>
         ensures steps { OnOk result (means.state self.new ≡ means.step (means.state self.old)
-            (T.told token) line_number) }
+            (T.told token.old) line_number) }
         ensures replies { IfOk result
-            (λ answer. reply_of T.text_bytes answer.reply ≡ means.reply (means.state self.old) (T.told token) line_number) }
+            (λ answer. reply_of T.text_bytes answer ≡ means.reply (means.state self.old) (T.told token.old) line_number) }
         ensures fault { OnErr result
-            (means.state self.new ≡ means.faulted (means.state self.old) (T.told token) line_number) }
+            (means.state self.new ≡ means.faulted (means.state self.old) (T.told token.old) line_number) }
         ensures no_fault { OnOk result (faults self.new ≡ faults self.old) }
         ensures one_fault { OnErr result (faults self.new ≡ faults self.old + 1) }
     {
-        let reply = self.process_token(token, line_number)?;
-        Ok(Returned { reply, token: None })
+        self.process_token(token.take(), line_number)
     }
 
     /// Takes note that no token follows.

@@ -85,15 +85,6 @@ pub enum TokenSinkResult<Handle, Text> {
     EncodingIndicator(Text),
 }
 
-/// What a sink replies to a token, and the token, if the sink returns it.
-#[derive(Debug, Drop)]
-pub struct Returned<Handle, Text, T> {
-    /// The reply.
-    pub reply: TokenSinkResult<Handle, Text>,
-    /// The token, for its memory alone.
-    pub token: Option<T>,
-}
-
 /// How a tokenizer goes on. No public call answers it.
 #[derive(Debug, PartialEq, Eq, Drop)]
 pub enum ProcessResult<Handle, Text> {

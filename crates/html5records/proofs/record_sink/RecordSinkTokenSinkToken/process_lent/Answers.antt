@@ -1,7 +1,7 @@
 use Rattle.std.proofs.Common.{refl}
 use Rattle.html5records.specs.Recording.{recorded_step}
 use Rattle.html5records.proofs.Written.{bytes-more}
-use Rattle.html5records.proofs.record_sink.RecordSinkTokenSinkToken.process_and_return.Goals as goal
+use Rattle.html5records.proofs.record_sink.RecordSinkTokenSinkToken.process_lent.Goals as goal
 
 pub returns-in-Ok-clause-steps : goal.returns-in-Ok-clause-steps
 unfolding recorded_step

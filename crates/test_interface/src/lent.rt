@@ -1,4 +1,4 @@
-//! Tags that a sink returns, or keeps.
+//! Tags that a sink leaves where they lie, or takes.
 use crate::made::bare_tag;
 use html5ever::tokenizer::read_whole;
 use html5ever_interface::collect::Collector;
@@ -11,7 +11,7 @@ use token_printer::print_sink::PrintSink;
 
 // There are 128 tags and 128 attributes, and fewer requests than half of either.
 #[test]
-fn tags_that_are_returned_ask_for_no_memory_each(rt: HostRuntime) {
+fn tags_that_are_left_ask_for_no_memory_each(rt: HostRuntime) {
     let heap = Refusing::new(rt.alloc(), 60);
     let references = NamedReferences::check(&heap, Vec::new(&heap)).expect(&rt, "a table");
     let mut text = String::new(&heap);
@@ -26,10 +26,11 @@ fn tags_that_are_returned_ask_for_no_memory_each(rt: HostRuntime) {
 }
 
 #[test]
-fn a_tag_that_is_kept_is_not_returned(rt: HostRuntime) {
+fn a_tag_that_is_kept_is_taken_from_where_it_lies(rt: HostRuntime) {
     let tag = bare_tag(rt.alloc(), TagKind::StartTag, "p").expect(&rt, "memory");
+    let mut token = Token::TagToken(tag);
     let mut sink = Collector::new(rt.alloc(), false);
-    let answer = sink.process_and_return(Token::TagToken(tag), 1);
-    assert!(rt; answer.is_ok_and(|answer| answer.token.is_none()));
+    assert!(rt; sink.process_lent(&mut token, 1).is_ok());
+    assert!(rt; !matches!(token, Token::TagToken(_)));
     assert_eq!(rt; sink.entries().len(), 1);
 }

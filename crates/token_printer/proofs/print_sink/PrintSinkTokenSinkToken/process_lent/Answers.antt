@@ -1,6 +1,6 @@
 use Rattle.std.proofs.Common.{refl}
 use Rattle.token_printer.specs.Output.{output_step}
-use Rattle.token_printer.proofs.print_sink.PrintSinkTokenSinkToken.process_and_return.Goals as goal
+use Rattle.token_printer.proofs.print_sink.PrintSinkTokenSinkToken.process_lent.Goals as goal
 
 pub returns-in-Ok-clause-steps : goal.returns-in-Ok-clause-steps
 unfolding output_step
