@@ -1,8 +1,10 @@
 -- "Character reference state", "Markup declaration open state" and "After DOCTYPE name state": what is read at a character where
 -- a reference or a keyword is not decided.
-use Rattle.std.specs.Prelude.{◌≡◌, ◌≤◌, ℕ, ◌+◌, Bool, true, false, List, Result, Ok, IfErr}
+use Rattle.std.specs.Prelude.{◌≡◌, ◌≢◌, ◌≤◌, ℕ, ◌+◌, ◌-◌, Bool, true, false, List, [], ◌∷◌, ◌++◌, None, Some, Result, Ok, IfErr, take, length}
 use Rattle.html5ever_interface.specs.Sink.{Means, on_line}
 use Rattle.html5reading.specs.Machine.{brought_at}
+use Rattle.html5reading.specs.Characters.{number_sign, semicolon}
+use Rattle.html5reading.specs.Reference.{first_or}
 use Rattle.html5reading.specs.Slice.{tokens_of_late}
 use Rattle.html5reading.specs.Start.{Start, Rules, held_len}
 use Rattle.html5partial.specs.Undecided.{BelongsTo, Decides}
@@ -14,6 +16,11 @@ use Rattle.markup5ever.specs.NamedReferences.{NamedReference}
 -- what a teller reads by, with these names
 abbrev pub rules_with : {Q Z : Type 0} → Teller Q Z → List NamedReference → Rules
 rules_with teller references = record { exact = teller.exact_errors; references = references }
+
+-- "Named character reference state": what is held is no number, and ends with a semicolon
+pub record IsEndedName (held : List ℕ) : Type 0 where
+  pub no_number : first_or held None ≢ Some number_sign
+  pub ends : held ≡ take (length held - 1) held ++ semicolon ∷ []
 
 module _ {X S H : Type 0} (means : Means X S H) (count : X → ℕ) where
   -- the character c, read where `old` stands and `before` is the sink. The answer is `Ok true` where c belongs to what is held,

@@ -1,13 +1,15 @@
 //! One character where a reference or a keyword is not decided.
 #![tactic(auto, unfolding(html5partial::specs::CharRef::with_reference))]
 
-ghost use Rattle.std.specs.Prelude.{◌≡◌, ◌&&◌, List, true};
+ghost use Rattle.std.specs.Prelude.{◌≡◌, ◌≤◌, ◌&&◌, ◌∷◌, [], ◌++◌, List, Ok, IfErr, IfOk, true, if◌then◌else◌};
 ghost use Rattle.html5reading.specs.EndOfInput.{late_at_end_of, open_at_end_of};
+ghost use Rattle.html5reading.specs.Characters.{number_sign};
+ghost use Rattle.html5reading.specs.Reference.{is_undecided};
 ghost use Rattle.html5reading.specs.Slice.{tokens_of_late};
 ghost use Rattle.html5reading.specs.Start.{is_undecided_open};
 ghost use Rattle.html5partial.specs.Undecided.{asks, is_reference, is_keyword_open};
 ghost use Rattle.html5partial.specs.CurrentTag.{opened_of, last_name_of};
-ghost use Rattle.html5feed.specs.Undecided.{ReadsUndecided, rules_with};
+ghost use Rattle.html5feed.specs.Undecided.{IsEndedName, ReadsUndecided, rules_with};
 ghost use Rattle.html5states.specs.Telling.{Emits, IsKept};
 ghost use Rattle.markup5ever.specs.NamedReferences.{NamedReference};
 
@@ -16,13 +18,14 @@ use crate::rules::Rules;
 use html5ever_interface::interface::sink::TokenSink;
 use html5ever_interface::interface::token::Token;
 use html5ever_interface::states::State;
+use html5partial::char_ref::CharRef;
 use html5partial::declaration::depends_on_sink;
 use html5partial::error::TokenizerError;
 use html5partial::keyword::hold_keyword;
 use html5partial::opened::Opened;
 use html5states::teller::Teller;
 use markup5ever::data::NamedReferences;
-use std::alloc::Allocator;
+use std::alloc::{AllocError, Allocator};
 
 // Whether the sink says that the content is foreign. The sink is asked only where the character may
 // belong to the keyword of a CDATA section.
@@ -62,6 +65,35 @@ pub fn decide_keyword<S: TokenSink<Token<A>>, A: Allocator + Copy>(
     }
 }
 
+// Whether a name is held with its semicolon.
+fn is_ended_name<A: Allocator>(held: &CharRef<A>) -> bool
+    ensures { result ≡ true → IsEndedName held.now }
+{
+    match held.number() {
+        Some(_) => false,
+        None => held.text().ends_with(';'),
+    }
+}
+
+// Holds a character of a reference, too, where that leaves it undecided. No name goes on after its semicolon, so none
+// is searched for then.
+fn hold<A: Allocator>(
+    held: &mut CharRef<A>,
+    references: &NamedReferences<A>,
+    c: char,
+) -> Result<bool, AllocError>
+    ensures undecided { IfOk result (λ undecided. undecided ≡ is_undecided references.now (held.old ++ c ∷ [])) }
+    ensures held { IfOk result (λ undecided. held.new ≡ (if undecided then held.old ++ c ∷ [] else held.old)) }
+    ensures plain { result ≡ Ok true → (number_sign ≤ c) × (c ≤ 0x7A) }
+    ensures kept { IfErr result (λ e. held.new ≡ held.old) }
+{
+    if is_ended_name(held) {
+        references.table_laws();
+        return Ok(false);
+    }
+    held.hold(references, c)
+}
+
 // Reads a character after what is held of a reference, and answers whether it belongs to the
 // reference. Else the reference is decided, and the character is still to be read.
 fn read_reference<S: TokenSink<Token<A>>, A: Allocator + Copy>(
@@ -75,7 +107,7 @@ fn read_reference<S: TokenSink<Token<A>>, A: Allocator + Copy>(
         teller.old.sink.now teller.new.sink.now position.old position.new }
     ensures kept { IsKept teller.old teller.new }
 {
-    if position.held.hold(references, c)? {
+    if hold(&mut position.held, references, c)? {
         return Ok(true);
     }
     let opened = &mut position.opened;
