@@ -10,7 +10,7 @@ ghost use Rattle.html5cleaner.specs.Open.{names_of};
 use crate::kept::{kept_run, write_kept};
 use crate::open_elements::OpenElements;
 use html5elements::is_void;
-use html5write::{Piece, WriteError, Writer};
+use html5write::{Piece, Writable, WriteError, Writer};
 use std::alloc::Allocator;
 
 /// What is left to be done with the elements that are open: closing so many of them undoes what was
@@ -79,7 +79,7 @@ fn write_opened<A: Allocator + Copy>(
     opened: &mut OpenElements<A>,
     page: &mut Writer<A>,
     run: &str,
-    tag: Piece<'_>,
+    tag: Writable<'_>,
     name: &str,
 ) -> Result<(), WriteError>
     ensures written { OnOk result (page.new ≡ page.old ++ (kept_of_run run.now ++ piece_of tag.entry ∷ [])) }
@@ -101,7 +101,7 @@ fn write_opened<A: Allocator + Copy>(
 pub fn write_plain<A: Allocator + Copy>(
     page: &mut Writer<A>,
     run: &str,
-    tag: Option<Piece<'_>>,
+    tag: Option<Writable<'_>>,
 ) -> Result<Change, WriteError>
     ensures written { OnOk result (page.new ≡ page.old ++ (kept_of_run run.now ++ piece_where tag.entry)) }
     ensures unchanged { OnErr result (page.new ≡ page.old) }
@@ -117,13 +117,13 @@ fn write_piece<A: Allocator + Copy>(
     opened: &mut OpenElements<A>,
     page: &mut Writer<A>,
     run: &str,
-    tag: Piece<'_>,
+    tag: Writable<'_>,
 ) -> Result<Change, WriteError>
     ensures { Keeps result page.old page.new opened.old opened.new
         (all_balanced opened.old (kept_of_run run.now ++ piece_of tag.entry ∷ []))
         (all_open_after opened.old (kept_of_run run.now ++ piece_of tag.entry ∷ [])) }
 {
-    match tag {
+    match tag.piece() {
         Piece::StartTag {
             name,
             attributes: _,
@@ -150,7 +150,7 @@ pub fn write_balanced<A: Allocator + Copy>(
     opened: &mut OpenElements<A>,
     page: &mut Writer<A>,
     run: &str,
-    tag: Option<Piece<'_>>,
+    tag: Option<Writable<'_>>,
 ) -> Result<Change, WriteError>
     ensures { Keeps result page.old page.new opened.old opened.new
         (all_balanced opened.old (kept_of_run run.now ++ piece_where tag.entry))

@@ -14,14 +14,13 @@ ghost use Rattle.html5cleaner.specs.Cleaning.{kept_of_page, page_bytes};
 ghost use Rattle.markup5ever.specs.NamedReferences.{NamedReference};
 ghost use Rattle.outbox.specs.Outgoing.{adding, waiting};
 
-use crate::cleaner::keep_where;
+use crate::draft::Draft;
 use crate::hidden::pass_token;
 use crate::opened::Opened;
 use html5elements::hidden::Hidden;
 use html5ever_interface::interface::token::{SinkFault, Token};
 use html5policy::Policy;
 use html5sinks::text_runs::TokenHandler;
-use html5write::Writer;
 use outbox::Outbox;
 use std::alloc::{Allocator, Global};
 use std::marker::Model;
@@ -39,7 +38,7 @@ pub fn buffers_clean_pages()
 /// Keeps what a policy keeps of the runs of text and the tags that it takes, until it is taken. It owns its policy.
 #[derive(Drop)]
 pub struct CleanBuffer<A: Allocator = Global> {
-    alloc: A,
+    draft: Draft<A>,
     policy: Policy<A>,
     out: Outbox<A>,
     hidden: Hidden<A>,
@@ -62,7 +61,7 @@ impl<A: Allocator> Model for CleanBuffer<A> {
 
 // Puts out what is kept of a run of text and the token after it, all of it or nothing.
 fn put_kept<A: Allocator + Copy>(
-    alloc: A,
+    draft: &mut Draft<A>,
     policy: &Policy<A>,
     depth: u64,
     opened: &mut Opened<A>,
@@ -79,11 +78,10 @@ fn put_kept<A: Allocator + Copy>(
     ensures unopened { OnErr result (names_in (shape_of policy.now) opened.new ≡ names_in (shape_of policy.now) opened.old) }
     ensures limit { opened.new.tree.limit ≡ opened.old.tree.limit }
 {
-    let mut page = Writer::new(alloc);
-    let Ok(pending) = keep_where(alloc, policy, depth, opened, &mut page, run, token) else {
+    let Ok(pending) = draft.keep(policy, depth, opened, run, token) else {
         return Err(SinkFault);
     };
-    match out.push(page.as_str().as_bytes()) {
+    match out.push(draft.page.as_str().as_bytes()) {
         Ok(()) => {
             opened.settle(pending);
             Ok(())
@@ -102,7 +100,7 @@ impl<A: Allocator + Copy> CleanBuffer<A> {
     {
         let opened = Opened::none(alloc, policy.depth());
         CleanBuffer {
-            alloc,
+            draft: Draft::new(alloc),
             policy,
             out: Outbox::new(alloc),
             hidden: Hidden::none(alloc),
@@ -149,20 +147,29 @@ impl<A: Allocator + Copy> TokenHandler<Token<A>> for CleanBuffer<A> {
     fn take_token(
         &mut self,
         run: &str,
-        token: Token<A>,
+        mut token: Token<A>,
+        line_number: u64,
+    ) -> Result<(), SinkFault> {
+        self.take_lent(run, &mut token, line_number)
+    }
+
+    fn take_lent(
+        &mut self,
+        run: &str,
+        token: &mut Token<A>,
         _line_number: u64,
     ) -> Result<(), SinkFault> {
         if self.hidden.is_full() {
             return Err(SinkFault);
         }
         put_kept(
-            self.alloc,
+            &mut self.draft,
             &self.policy,
             self.hidden.depth,
             &mut self.opened,
             &mut self.out,
             run,
-            &token,
+            token,
         )?;
         pass_token(&mut self.hidden, &self.policy, token);
         Ok(())

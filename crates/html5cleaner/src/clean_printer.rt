@@ -7,7 +7,7 @@ ghost use Rattle.html5cleaner.specs.Settled.{names_in};
 ghost use Rattle.html5cleaner.specs.Shape.{shape_of};
 ghost use Rattle.html5cleaner.specs.Cleaning.{page_bytes, page_start, cleaning_of, standing_of};
 
-use crate::cleaner::keep_where;
+use crate::draft::Draft;
 use crate::hidden::pass_token;
 use crate::opened::Opened;
 use devices::{Printer, Target};
@@ -15,14 +15,13 @@ use html5elements::hidden::Hidden;
 use html5ever_interface::interface::token::{SinkFault, Token};
 use html5policy::Policy;
 use html5sinks::text_runs::TokenHandler;
-use html5write::Writer;
 use std::alloc::{Allocator, Global};
 use std::marker::Model;
 
 /// Prints what a policy keeps of the runs of text and the tags that it takes.
 #[derive(Drop)]
 pub struct CleanPrinter<W, A: Allocator = Global> {
-    alloc: A,
+    draft: Draft<A>,
     policy: Policy<A>,
     printer: Printer<W, A>,
     hidden: Hidden<A>,
@@ -45,7 +44,7 @@ impl<W, A: Allocator> Model for CleanPrinter<W, A> {
 
 // Prints what is kept of a run of text and the token after it, all of it or nothing.
 fn print_kept<W: Target, A: Allocator + Copy>(
-    alloc: A,
+    draft: &mut Draft<A>,
     policy: &Policy<A>,
     depth: u64,
     opened: &mut Opened<A>,
@@ -62,11 +61,10 @@ fn print_kept<W: Target, A: Allocator + Copy>(
     ensures unopened { OnErr result (names_in (shape_of policy.now) opened.new ≡ names_in (shape_of policy.now) opened.old) }
     ensures limit { opened.new.tree.limit ≡ opened.old.tree.limit }
 {
-    let mut page = Writer::new(alloc);
-    let Ok(pending) = keep_where(alloc, policy, depth, opened, &mut page, run, token) else {
+    let Ok(pending) = draft.keep(policy, depth, opened, run, token) else {
         return Err(SinkFault);
     };
-    match printer.print(page.as_str().as_bytes()) {
+    match printer.print(draft.page.as_str().as_bytes()) {
         Ok(()) => {
             opened.settle(pending);
             Ok(())
@@ -86,7 +84,7 @@ impl<W: Target, A: Allocator + Copy> CleanPrinter<W, A> {
     {
         let opened = Opened::none(alloc, policy.depth());
         CleanPrinter {
-            alloc,
+            draft: Draft::new(alloc),
             policy,
             printer,
             hidden: Hidden::none(alloc),
@@ -95,11 +93,14 @@ impl<W: Target, A: Allocator + Copy> CleanPrinter<W, A> {
     }
 
     /// Prints to the same printer, at the start of a page.
-    pub fn at_start(self) -> CleanPrinter<W, A>
+    pub fn at_start(mut self) -> CleanPrinter<W, A>
         ensures start { cleaning_of result ≡ page_start (standing_of self) }
         ensures printer { result.printer ≡ self.printer }
     {
-        CleanPrinter::new(self.alloc, self.printer, self.policy)
+        let alloc = self.draft.allocator();
+        self.hidden = Hidden::none(alloc);
+        self.opened = Opened::none(alloc, self.policy.depth());
+        self
     }
 
     /// The printer, with what was printed.
@@ -122,20 +123,29 @@ impl<W: Target, A: Allocator + Copy> TokenHandler<Token<A>> for CleanPrinter<W, 
     fn take_token(
         &mut self,
         run: &str,
-        token: Token<A>,
+        mut token: Token<A>,
+        line_number: u64,
+    ) -> Result<(), SinkFault> {
+        self.take_lent(run, &mut token, line_number)
+    }
+
+    fn take_lent(
+        &mut self,
+        run: &str,
+        token: &mut Token<A>,
         _line_number: u64,
     ) -> Result<(), SinkFault> {
         if self.hidden.is_full() {
             return Err(SinkFault);
         }
         print_kept(
-            self.alloc,
+            &mut self.draft,
             &self.policy,
             self.hidden.depth,
             &mut self.opened,
             &mut self.printer,
             run,
-            &token,
+            token,
         )?;
         pass_token(&mut self.hidden, &self.policy, token);
         Ok(())

@@ -180,7 +180,16 @@ impl<'p, A: Allocator + Copy> TokenHandler<Token<A>> for Cleaner<'p, A> {
     fn take_token(
         &mut self,
         run: &str,
-        token: Token<A>,
+        mut token: Token<A>,
+        line_number: u64,
+    ) -> Result<(), SinkFault> {
+        self.take_lent(run, &mut token, line_number)
+    }
+
+    fn take_lent(
+        &mut self,
+        run: &str,
+        token: &mut Token<A>,
         _line_number: u64,
     ) -> Result<(), SinkFault> {
         if self.hidden.is_full() {
@@ -194,7 +203,7 @@ impl<'p, A: Allocator + Copy> TokenHandler<Token<A>> for Cleaner<'p, A> {
             &mut self.opened,
             &mut self.page,
             run,
-            &token,
+            token,
         ) {
             Ok(pending) => {
                 self.opened.settle(pending);

@@ -7,7 +7,7 @@ ghost use Rattle.html5cleaner.specs.Kept.{piece_where};
 
 use html5tree::names::ElementName;
 use html5tree::nesting::Nesting;
-use html5write::Piece;
+use html5write::{Piece, Writable};
 use std::alloc::Allocator;
 
 /// What pieces that fit do with the open elements.
@@ -32,13 +32,15 @@ fn text_fits<A: Allocator>(nesting: &Nesting<A>, text: &str) -> bool
 }
 
 // Whether a run of text fits, if there is one.
-fn run_fits<A: Allocator>(nesting: &Nesting<A>, run: Option<Piece<'_>>) -> bool
-    ensures { result ≡ true → ComesFirst nesting.now (piece_where run.entry) }
+fn run_fits<A: Allocator>(nesting: &Nesting<A>, run: &Option<Writable<'_>>) -> bool
+    ensures { result ≡ true → ComesFirst nesting.now (piece_where run.now) }
 {
-    match run {
-        None => true,
-        Some(Piece::Text(text)) => text_fits(nesting, text),
-        Some(_) => false,
+    let Some(run) = run else {
+        return true;
+    };
+    match run.piece() {
+        Piece::Text(text) => text_fits(nesting, text),
+        _ => false,
     }
 }
 
@@ -80,20 +82,20 @@ fn fit_of_end_tag<A: Allocator>(nesting: &Nesting<A>, name: &str) -> Fit
 }
 
 // Whether a tag fits, if there is one.
-fn fit_of_tag<A: Allocator>(nesting: &Nesting<A>, limit: usize, tag: Option<Piece<'_>>) -> Fit
+fn fit_of_tag<A: Allocator>(nesting: &Nesting<A>, limit: usize, tag: &Option<Writable<'_>>) -> Fit
     requires { limit ≡ nesting.now.limit }
-    ensures { IsFit result nesting.now (piece_where tag.entry) }
+    ensures { IsFit result nesting.now (piece_where tag.now) }
 {
-    match tag {
-        None => Fit::Stays,
-        Some(
-            Piece::StartTag {
-                name,
-                attributes: _,
-            },
-        ) => fit_of_start_tag(nesting, limit, name),
-        Some(Piece::EndTag(name)) => fit_of_end_tag(nesting, name),
-        Some(_) => Fit::Unfit,
+    let Some(tag) = tag else {
+        return Fit::Stays;
+    };
+    match tag.piece() {
+        Piece::StartTag {
+            name,
+            attributes: _,
+        } => fit_of_start_tag(nesting, limit, name),
+        Piece::EndTag(name) => fit_of_end_tag(nesting, name),
+        _ => Fit::Unfit,
     }
 }
 
@@ -101,11 +103,11 @@ fn fit_of_tag<A: Allocator>(nesting: &Nesting<A>, limit: usize, tag: Option<Piec
 pub fn fit_of<A: Allocator>(
     nesting: &Nesting<A>,
     limit: usize,
-    run: Option<Piece<'_>>,
-    tag: Option<Piece<'_>>,
+    run: &Option<Writable<'_>>,
+    tag: &Option<Writable<'_>>,
 ) -> Fit
     requires { limit ≡ nesting.now.limit }
-    ensures { IsFit result nesting.now (piece_where run.entry ++ piece_where tag.entry) }
+    ensures { IsFit result nesting.now (piece_where run.now ++ piece_where tag.now) }
 {
     if run_fits(nesting, run) {
         fit_of_tag(nesting, limit, tag)

@@ -8,6 +8,7 @@ use html5elements::hidden::{Hidden, has_content};
 use html5ever_interface::interface::token::{Tag, Token};
 use html5policy::Policy;
 use std::alloc::Allocator;
+use std::mem;
 
 // Whether a tag begins an element that is dropped with what stands in it.
 fn opens<A: Allocator>(policy: &Policy<A>, tag: &Tag<A>) -> bool
@@ -17,22 +18,25 @@ fn opens<A: Allocator>(policy: &Policy<A>, tag: &Tag<A>) -> bool
 }
 
 // Passes a tag.
-fn pass_tag<A: Allocator>(hidden: &mut Hidden<A>, policy: &Policy<A>, tag: Tag<A>)
+fn pass_tag<A: Allocator>(hidden: &mut Hidden<A>, policy: &Policy<A>, tag: &mut Tag<A>)
     requires { hidden.old.depth + 1 < 2 ^ 64 }
     ensures { hidden_of hidden.new
-        ≡ hidden_after_tag (opens policy.now (tag_of tag)) (hidden_of hidden.old) (tag_of tag) }
+        ≡ hidden_after_tag (opens policy.now (tag_of tag.old)) (hidden_of hidden.old) (tag_of tag.old) }
 {
     if hidden.depth != 0 {
-        hidden.pass_within(&tag);
-    } else if opens(policy, &tag) {
-        *hidden = Hidden::within(tag.name.0);
+        hidden.pass_within(tag);
+        return;
+    }
+    if opens(policy, tag) {
+        mem::swap(&mut hidden.name, &mut tag.name.0);
+        hidden.depth = 1;
     }
 }
 
-/// Passes a token.
-pub fn pass_token<A: Allocator>(hidden: &mut Hidden<A>, policy: &Policy<A>, token: Token<A>)
+/// Passes a token, of which the name may be taken.
+pub fn pass_token<A: Allocator>(hidden: &mut Hidden<A>, policy: &Policy<A>, token: &mut Token<A>)
     requires { hidden.old.depth + 1 < 2 ^ 64 }
-    ensures { hidden_of hidden.new ≡ hidden_after (opens policy.now) (hidden_of hidden.old) (told_by token) }
+    ensures { hidden_of hidden.new ≡ hidden_after (opens policy.now) (hidden_of hidden.old) (told_by token.old) }
 {
     if let Token::TagToken(tag) = token {
         pass_tag(hidden, policy, tag);

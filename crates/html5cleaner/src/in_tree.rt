@@ -21,7 +21,7 @@ use html5policy::Policy;
 use html5tree::names::ElementName;
 use html5tree::nesting::Nesting;
 use html5write::laws::bytes;
-use html5write::{Attribute, Piece, WriteError, Writer};
+use html5write::{Attribute, Piece, Writable, WriteError, Writer};
 use std::alloc::Allocator;
 
 fn write_text<A: Allocator + Copy>(
@@ -84,12 +84,12 @@ fn write_where<A: Allocator + Copy>(
     alloc: A,
     page: &mut Writer<A>,
     nesting: &mut Nesting<A>,
-    piece: Option<Piece<'_>>,
+    piece: &Option<Writable<'_>>,
 ) -> Result<(), WriteError>
-    ensures { OnOk result (AddsAll page.old page.new nesting.old nesting.new (items_of (piece_where piece.entry))) }
+    ensures { OnOk result (AddsAll page.old page.new nesting.old nesting.new (items_of (piece_where piece.now))) }
 {
     match piece {
-        Some(piece) => write_piece(alloc, page, nesting, piece),
+        Some(piece) => write_piece(alloc, page, nesting, piece.piece()),
         None => Ok(()),
     }
 }
@@ -99,12 +99,12 @@ fn write_step<A: Allocator + Copy>(
     alloc: A,
     page: &mut Writer<A>,
     nesting: &mut Nesting<A>,
-    run: Option<Piece<'_>>,
-    tag: Option<Piece<'_>>,
+    run: &Option<Writable<'_>>,
+    tag: &Option<Writable<'_>>,
     ends: bool,
 ) -> Result<(), WriteError>
     ensures { OnOk result (AddsLast page.old page.new nesting.old nesting.new ends
-        (items_of (piece_where run.entry ++ piece_where tag.entry))) }
+        (items_of (piece_where run.now ++ piece_where tag.now))) }
 {
     let _ready = nesting.depth();
     write_where(alloc, page, nesting, run)?;
@@ -120,13 +120,13 @@ fn write_in_tree<A: Allocator + Copy>(
     alloc: A,
     opened: &mut Opened<A>,
     page: &mut Writer<A>,
-    run: Option<Piece<'_>>,
-    tag: Option<Piece<'_>>,
+    run: &Option<Writable<'_>>,
+    tag: &Option<Writable<'_>>,
     ends: bool,
 ) -> Result<Pending, WriteError>
     ensures { Settles (Tree opened.old.tree.limit) result page.old page.new opened.old opened.new
-        (written_by (Tree opened.old.tree.limit) ends opened.old.tree.opened (piece_where run.entry ++ piece_where tag.entry))
-        (open_by (Tree opened.old.tree.limit) ends opened.old.tree.opened (piece_where run.entry ++ piece_where tag.entry)) }
+        (written_by (Tree opened.old.tree.limit) ends opened.old.tree.opened (piece_where run.now ++ piece_where tag.now))
+        (open_by (Tree opened.old.tree.limit) ends opened.old.tree.opened (piece_where run.now ++ piece_where tag.now)) }
 {
     opened.next.copy_from(&opened.tree)?;
     let mut part = Writer::new(alloc);
@@ -139,8 +139,8 @@ fn write_in_tree<A: Allocator + Copy>(
 fn write_opening<A: Allocator + Copy>(
     opened: &mut Opened<A>,
     page: &mut Writer<A>,
-    run: Option<Piece<'_>>,
-    tag: Option<Piece<'_>>,
+    run: Option<Writable<'_>>,
+    tag: Option<Writable<'_>>,
     name: ElementName,
 ) -> Result<Pending, WriteError>
     requires { IsFit (Opens name) opened.old.tree (piece_where run ++ piece_where tag) }
@@ -165,16 +165,16 @@ fn write_within<A: Allocator + Copy>(
     limit: usize,
     opened: &mut Opened<A>,
     page: &mut Writer<A>,
-    run: Option<Piece<'_>>,
-    tag: Option<Piece<'_>>,
+    run: Option<Writable<'_>>,
+    tag: Option<Writable<'_>>,
 ) -> Result<Pending, WriteError>
     requires { limit ≡ opened.old.tree.limit }
     ensures { Settles (Tree opened.old.tree.limit) result page.old page.new opened.old opened.new
         (written_by (Tree opened.old.tree.limit) false opened.old.tree.opened (piece_where run.entry ++ piece_where tag.entry))
         (open_by (Tree opened.old.tree.limit) false opened.old.tree.opened (piece_where run.entry ++ piece_where tag.entry)) }
 {
-    match fit_of(&opened.tree, limit, run, tag) {
-        Fit::Unfit => write_in_tree(alloc, opened, page, run, tag, false),
+    match fit_of(&opened.tree, limit, &run, &tag) {
+        Fit::Unfit => write_in_tree(alloc, opened, page, &run, &tag, false),
         Fit::Stays => {
             write_kept(page, run, tag)?;
             Ok(Pending::Nothing)
@@ -224,7 +224,8 @@ pub fn keep_in_tree<A: Allocator + Copy>(
 {
     if is_end(token) {
         let shown = if depth == 0 { run } else { "" };
-        return write_in_tree(alloc, opened, page, kept_run(shown), None, true);
+        let run = kept_run(shown);
+        return write_in_tree(alloc, opened, page, &run, &None, true);
     }
     if depth != 0 {
         return write_within(alloc, policy.depth(), opened, page, None, None);

@@ -7,6 +7,7 @@ mod clean_buffer;
 mod clean_printer;
 mod cleaner;
 mod counts;
+mod draft;
 mod fitting;
 mod hidden;
 mod in_tree;

@@ -1,7 +1,8 @@
 //! What is open on a page.
 ghost use Rattle.std.specs.Prelude.{◌≡◌, []};
 ghost use Rattle.html5tree.specs.Nested.{nothing_nested};
-ghost use Rattle.html5cleaner.specs.Settled.{settled, undone};
+ghost use Rattle.html5cleaner.specs.Settled.{names_in, settled, undone};
+ghost use Rattle.html5cleaner.specs.Shape.{Shape};
 
 use crate::balance::Change;
 use crate::open_elements::OpenElements;
@@ -35,7 +36,7 @@ pub enum Pending {
 impl<A: Allocator + Copy> Opened<A> {
     /// Nothing is open. In a tree at most so many elements will be.
     pub fn none(alloc: A, limit: usize) -> Opened<A>
-        ensures tags { result.tags ≡ [] }
+        ensures named { (shape : Shape) → names_in shape result ≡ [] }
         ensures tree { result.tree ≡ nothing_nested limit }
     {
         Opened {

@@ -1,18 +1,17 @@
 //! A writer of pages.
-ghost use Rattle.std.specs.Prelude.{◌≡◌, ◌++◌, ◌∷◌, [], List, IfOk, IsOkUnless, None, OnErr, OnOk, chars, encode_utf8_all, map, string_bytes, true};
+ghost use Rattle.std.specs.Prelude.{◌≡◌, ◌++◌, ◌∷◌, [], List, IfOk, IsOkUnless, OnErr, OnOk, chars, encode_utf8_all, map, string_bytes, true};
 ghost use Rattle.std.specs.List.{list_all};
 ghost use Rattle.html5write.specs.Pieces as pieces;
 ghost use Rattle.html5write.specs.Pieces.{can_write, pieces_text, piece_text};
 ghost use Rattle.html5write.specs.Pieces.Piece.{CommentPiece, EndTagPiece, StartTagPiece, TextPiece};
-ghost use Rattle.html5write.specs.Refusals.{refusal_of};
 ghost use Rattle.html5write.specs.Writing.{IsTextOf, Writes, WritesBoth, attribute_of, piece_of};
 ghost use Rattle.html5write.specs.declared.error.WriteError.TheVariants.{Memory};
 
 use crate::appending::push_piece;
-use crate::checks::refusal_of;
 use crate::error::WriteError;
 use crate::piece::{Attribute, Piece};
 use crate::trail::Trail;
+use crate::writable::Writable;
 use std::alloc::{Allocator, Global};
 use std::marker::Model;
 
@@ -50,23 +49,21 @@ impl<A: Allocator + Copy> Writer<A> {
     pub fn write(&mut self, piece: &Piece<'_>) -> Result<(), WriteError>
         ensures { Writes result self.old self.new (piece_of piece.now) }
     {
-        match refusal_of(piece) {
-            Some(error) => Err(error),
-            None => self.put(piece),
-        }
+        let piece = Writable::new(*piece)?;
+        self.put(&piece)
     }
 
-    // Puts a piece that can be written after the others.
-    fn put(&mut self, piece: &Piece<'_>) -> Result<(), WriteError>
-        requires { refusal_of (piece_of piece.now) ≡ None }
+    /// Writes a piece that was looked at after the others.
+    pub fn put(&mut self, piece: &Writable<'_>) -> Result<(), WriteError>
         ensures written { OnOk result (self.new ≡ self.old ++ piece_of piece.now ∷ []) }
         ensures unchanged { OnErr result (self.new ≡ self.old) }
         ensures memory { IsOkUnless result Memory }
     {
+        let piece = piece.piece();
         self.piece.clear();
-        push_piece(&mut self.piece, piece)?;
+        push_piece(&mut self.piece, &piece)?;
         self.written.push_str(self.piece.as_str())?;
-        self.trail.add(piece);
+        self.trail.add(&piece);
         Ok(())
     }
 
@@ -74,30 +71,31 @@ impl<A: Allocator + Copy> Writer<A> {
     pub fn write_both(&mut self, first: &Piece<'_>, second: &Piece<'_>) -> Result<(), WriteError>
         ensures { WritesBoth result self.old self.new (piece_of first.now) (piece_of second.now) }
     {
-        if let Some(error) = refusal_of(first) {
-            return Err(error);
-        }
-        if let Some(error) = refusal_of(second) {
-            return Err(error);
-        }
-        self.put_both(first, second)
+        let first = Writable::new(*first)?;
+        let second = Writable::new(*second)?;
+        self.put_both(&first, &second)
     }
 
-    // Puts two pieces that can be written after the others.
-    fn put_both(&mut self, first: &Piece<'_>, second: &Piece<'_>) -> Result<(), WriteError>
-        requires first { refusal_of (piece_of first.now) ≡ None }
-        requires second { refusal_of (piece_of second.now) ≡ None }
+    /// Writes two pieces that were looked at after the others, one after the other: both, or none where memory
+    /// is refused.
+    pub fn put_both(
+        &mut self,
+        first: &Writable<'_>,
+        second: &Writable<'_>,
+    ) -> Result<(), WriteError>
         ensures written { OnOk result
             (self.new ≡ (self.old ++ piece_of first.now ∷ []) ++ piece_of second.now ∷ []) }
         ensures unchanged { OnErr result (self.new ≡ self.old) }
         ensures memory { IsOkUnless result Memory }
     {
+        let first = first.piece();
+        let second = second.piece();
         self.piece.clear();
-        push_piece(&mut self.piece, first)?;
-        push_piece(&mut self.piece, second)?;
+        push_piece(&mut self.piece, &first)?;
+        push_piece(&mut self.piece, &second)?;
         self.written.push_str(self.piece.as_str())?;
-        self.trail.add(first);
-        self.trail.add(second);
+        self.trail.add(&first);
+        self.trail.add(&second);
         Ok(())
     }
 

@@ -4,4 +4,4 @@ use Rattle.html5cleaner.proofs.fitting.fit_of.Goals as goal
 
 pub returns-then-run_fits : goal.returns-then-run_fits
 returns-then-run_fits g c =
-    fit-both c.fit_of_tag.result c.args.nesting.now (piece_where c.args.run) (piece_where c.args.tag) (c.run_fits.ensures c.if-run_fits.true) c.fit_of_tag.ensures
+    fit-both c.fit_of_tag.result c.args.nesting.now (piece_where c.args.run.now) (piece_where c.args.tag.now) (c.run_fits.ensures c.if-run_fits.true) c.fit_of_tag.ensures

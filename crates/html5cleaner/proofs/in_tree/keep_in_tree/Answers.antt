@@ -20,4 +20,4 @@ returns-then-is_end g c =
     ] in
     let kept = kept-last c.args.policy.now c.args.depth c.args.run.now c.if-depth-eq0.shown.now told ends shown in
     settles-same (Tree c.args.opened.now.tree.limit) c.write_in_tree.result c.args.page.now c.write_in_tree.new.page c.args.opened.now c.write_in_tree.new.opened true (is_end told)
-    c.args.opened.now.tree.opened _ _ (sym ends) (ap (λ l. l ++ []) c.kept_run.ensures ∙ kept) c.write_in_tree.ensures
+    c.args.opened.now.tree.opened _ _ (sym ends) (ap (λ l. l ++ []) c.kept_run-run.ensures ∙ kept) c.write_in_tree.ensures
