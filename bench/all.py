@@ -9,6 +9,7 @@
 | programs.py | the commands of firnuubal | programs of ours over html5ever 0.26; for `clean` ammonia, too |
 | readers.py | counting tokens: alone, from C and from Rust; one long token | html5ever 0.26, libxml2's push parser |
 | python.py | the package for Python | html.parser, html5lib, lxml, bleach |
+| scale.py | many pages by 1, 2 and 4 processes or threads of Python | nothing |
 | decoding.py | the decoders of encodings | encoding_rs |
 
 Each says at its head what it wants, what it leaves out where that isn't there, and what it doesn't compare. It wants the
@@ -26,6 +27,7 @@ SCRIPTS = [
     ("programs.py", sys.executable, True),
     ("readers.py", sys.executable, True),
     ("python.py", "/usr/bin/python3", True),
+    ("scale.py", "/usr/bin/python3", False),
     ("decoding.py", sys.executable, False),
 ]
 
