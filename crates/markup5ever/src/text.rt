@@ -18,27 +18,31 @@ fn push_with_room<A: Allocator>(text: &mut String<A>, more: &str) -> Result<(), 
     text.push_str(more)
 }
 
-// Appends a text of one byte. The compiler sees that it is one, and stores it.
-fn push_byte<A: Allocator>(text: &mut String<A>, more: &str) -> Result<(), AllocError>
-    requires { length more.now ≡ 1 }
+// Appends a text of so many bytes. Where the compiler knows how many, it stores them.
+#[inline(always)]
+fn push_short<A: Allocator>(text: &mut String<A>, more: &str, len: usize) -> Result<(), AllocError>
+    requires { length more.now ≡ len }
     ensures { string_bytes text.new
         ≡ (if is_ok result then string_bytes text.old ++ more.now else string_bytes text.old) }
 {
-    if text.len() == text.capacity() {
+    if text.capacity() - text.len() < len {
         return push_with_room(text, more);
     }
-    text.push_str(&more[..1])
+    text.push_str(&more[..len])
 }
 
-/// Appends a text to another. One byte is stored at once, without a call that copies bytes.
+/// Appends a text to another. Up to four bytes are stored at once, without a call that copies bytes.
 #[inline(always)]
 pub fn push_text<A: Allocator>(text: &mut String<A>, more: &str) -> Result<(), AllocError>
     ensures bytes { string_bytes text.new
         ≡ (if is_ok result then string_bytes text.old ++ more.now else string_bytes text.old) }
     ensures empty { more.now ≡ [] → IsOk result }
 {
-    if more.len() == 1 {
-        return push_byte(text, more);
+    match more.len() {
+        1 => push_short(text, more, 1),
+        2 => push_short(text, more, 2),
+        3 => push_short(text, more, 3),
+        4 => push_short(text, more, 4),
+        _ => text.push_str(more),
     }
-    text.push_str(more)
 }
