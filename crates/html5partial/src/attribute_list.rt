@@ -139,6 +139,16 @@ impl<A: Allocator + Copy> AttributeList<A> {
         self.is_indexed = true;
         Ok(())
     }
+
+    /// Takes the attributes, as a tag has them, and leaves none.
+    #[inline(always)]
+    pub fn take(&mut self, alloc: A) -> Vec<Attribute<A>, A>
+        ensures taken { map attribute_of result.items ≡ self.old }
+        ensures none { self.new ≡ [] }
+    {
+        self.is_indexed = false;
+        mem::replace(&mut self.items, Vec::new(alloc))
+    }
 }
 
 impl<A: Allocator> AttributeList<A> {
@@ -161,12 +171,17 @@ impl<A: Allocator> AttributeList<A> {
     }
 
     /// Leaves none, and takes the memory of these for the next ones.
+    #[inline(always)]
     pub fn reuse(&mut self, mut attributes: Vec<Attribute<A>, A>, spares: &mut Spares<A>)
         ensures { self.new ≡ [] }
     {
+        self.clear();
+        if attributes.is_empty() {
+            self.items = attributes;
+            return;
+        }
         spares.keep_texts(&mut attributes);
         attributes.clear();
-        self.clear();
         self.items = attributes;
     }
 
@@ -178,17 +193,5 @@ impl<A: Allocator> AttributeList<A> {
             return self.names.contains(name);
         }
         is_among(&self.items, name)
-    }
-
-    /// The attributes, as a tag has them.
-    pub fn into_vec(self) -> Vec<Attribute<A>, A>
-        ensures { map attribute_of result.items ≡ self }
-    {
-        let AttributeList {
-            items,
-            names: _,
-            is_indexed: _,
-        } = self;
-        items
     }
 }

@@ -70,7 +70,7 @@ impl<A: Allocator + Copy> CurrentTag<A> {
             kind: self.kind,
             name: LocalName(mem::replace(&mut self.name, String::new(alloc))),
             self_closing: self.self_closing,
-            attrs: mem::replace(&mut self.attrs, AttributeList::new(alloc)).into_vec(),
+            attrs: self.attrs.take(alloc),
             had_duplicate_attributes: self.had_duplicate_attributes,
         }
     }

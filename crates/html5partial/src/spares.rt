@@ -48,6 +48,7 @@ impl<A: Allocator> Spares<A> {
     }
 
     /// Keeps the texts of attributes. Those that are left are not kept.
+    #[inline(never)]
     pub fn keep_texts(&mut self, attributes: &mut Vec<Attribute<A>, A>) {
         for _ in 0..MANY {
             let Some(Attribute { name, value }) = attributes.pop() else {
