@@ -1,9 +1,9 @@
 //! The standard's states of character references: what a reference comes to, and what is sent of it.
 #![tactic(auto, using(crate::proofs::Tellings::tells_from_memory), unfolding(html5ever_interface::specs::Sink::stepped))]
 
-ghost use Rattle.std.specs.Prelude.{◌≡◌, ◌≤◌, ◌||◌, ◌&&◌, ℕ, ◌+◌, ◌∷◌, ◌++◌, true, not, All, Option, Some, None, IfOk, OnOk, nat_lt, length};
+ghost use Rattle.std.specs.Prelude.{◌≡◌, ◌≤◌, ◌||◌, ◌&&◌, ℕ, ◌+◌, ◌∷◌, ◌++◌, true, not, map, encode_utf8, All, Option, Some, None, IfOk, OnOk, nat_lt, length};
 ghost use Rattle.std.specs.Str.{IsAscii};
-ghost use Rattle.html5ever_interface.specs.Token.Told.{Error};
+ghost use Rattle.html5ever_interface.specs.Token.Told.{Text, Error};
 ghost use Rattle.html5reading.specs.Characters.{number_sign, semicolon};
 ghost use Rattle.html5reading.specs.ErrorText.{where_true};
 ghost use Rattle.html5reading.specs.Reference.{number_reference, named_reference, no_name, is_number, has_digits, number_value, invalid_number, unended_number, without_digits, semicolon_len, longest_name, is_ended, ends_number, in_value, text_in, opened_in, late_tokens, opened_after};
@@ -162,6 +162,19 @@ impl<S: TokenSink<Token<A>>, A: Allocator + Copy> Teller<'_, S, A> {
         }
     }
 
+    // Sends the characters of a reference, and what is held after it. A character alone is sent where it lies.
+    #[tactic(auto, using(crate::proofs::Tellings::tells_from_memory), unfolding(html5ever_interface::specs::Sink::stepped))]
+    fn emit_characters(&mut self, found: &Found, rest: &str) -> Result<(), TokenizerError>
+        requires plain { All (λ c. (number_sign ≤ c) × (c ≤ 0x7A)) rest.now }
+        ensures { Emits S.means S.faults result self.old self.new
+            (map (λ c. Text (encode_utf8 c)) (found.now.first ∷ (more_of found.now.second ++ rest.now))) }
+    {
+        if found.second.is_none() && rest.is_empty() {
+            return self.emit_char(found.first);
+        }
+        self.emit(Token::CharacterTokens(text_of_found(self.alloc, found, rest)?))
+    }
+
     // Flushes characters where the reference stands: text is sent, and a value goes on with them.
     fn put_characters(
         &mut self,
@@ -180,7 +193,7 @@ impl<S: TokenSink<Token<A>>, A: Allocator + Copy> Teller<'_, S, A> {
     {
         match at.state {
             State::AttributeValue(_) => Ok(push_found(&mut at.tag.attr_value, found, rest)?),
-            _ => self.emit(Token::CharacterTokens(text_of_found(self.alloc, found, rest)?)),
+            _ => self.emit_characters(found, rest),
         }
     }
 
