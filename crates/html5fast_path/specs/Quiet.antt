@@ -1,14 +1,19 @@
 -- Characters that tell nothing, where errors are not exact. Vocabulary of proofs.
-use Rattle.std.specs.Prelude.{◌≡◌, ◌≢◌, ◌≤◌, ℕ, true, false, List, [], ◌∷◌, ◌++◌, length, take, drop}
+use Rattle.std.specs.Prelude.{◌≡◌, ◌≢◌, ◌≤◌, ℕ, Bool, true, false, List, [], ◌∷◌, ◌++◌, length, take, drop}
 use Rattle.std.specs.Str.{IsUtf8, chars}
+use Rattle.html5ever_interface.specs.Token.{TagOf}
 use Rattle.html5ever_interface.specs.declared.interface.token.TagKind.{TagKind}
 use Rattle.html5ever_interface.specs.declared.interface.token.TagKind.TheVariants.{StartTag, EndTag}
 use Rattle.html5reading.specs.Characters.{null, line_feed, carriage_return, quotation_mark, equals_sign, greater_than, is_letter}
 use Rattle.html5reading.specs.Machine.{step_at}
-use Rattle.html5reading.specs.Reading.Here.{Tells}
+use Rattle.html5reading.specs.Reading.Here.{Tells, TellsTag}
 use Rattle.html5reading.specs.Start.{Open, is_undecided_open}
 use Rattle.html5reading.specs.Start.Open.{LessThan, LessThanSolidus}
 use Rattle.markup5ever.specs.SmallCharSet.{BeginsOutside}
+
+-- a `>` ends this tag where `opened` is, and tells nothing before it
+abbrev pub EndsQuietly : Open → TagOf → Type 0
+EndsQuietly opened tag = (exact : Bool) → step_at exact opened greater_than ≡ TellsTag [] tag
 
 -- c belongs to no line break and tells nothing where `opened` is. After it `later` is open.
 pub record IsQuiet (opened later : Open) (c : ℕ) : Type 0 where

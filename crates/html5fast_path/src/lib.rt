@@ -6,4 +6,5 @@
 
 mod characters;
 mod names;
+pub mod tag_ends;
 pub mod texts;

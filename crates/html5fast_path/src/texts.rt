@@ -73,10 +73,26 @@ fn read_first_sign<A: Allocator>(at: &mut Opened<A>, text: &str) -> usize
     1
 }
 
-// Reads the sign with which a text begins, as a space or `<`, and the name after it. Answers how many
-// bytes they take.
+// Reads the sign with which a text begins, where it does with one, and after the `<` of an end tag its `/`,
+// too. Answers how many bytes they take.
 #[inline(always)]
-fn read_sign_and_name<A: Allocator + Copy>(
+fn read_signs<A: Allocator>(at: &mut Opened<A>, text: &str) -> usize
+    ensures reads { ReadsFront text.now result (opened_of at.old) (opened_of at.new) }
+    ensures last { last_name_of at.new ≡ last_name_of at.old }
+    ensures held { held_len (opened_of at.new) ≤ held_len (opened_of at.old) }
+{
+    let sign = read_first_sign(at, text);
+    let State::TagOpen = at.state else {
+        return sign;
+    };
+    let solidus = read_first_sign(at, &text[sign..]);
+    sign + solidus
+}
+
+// Reads the signs with which a text begins, as a space, `<` or `</`, and the name after them. Answers how
+// many bytes they take.
+#[inline(always)]
+fn read_signs_and_name<A: Allocator + Copy>(
     at: &mut Opened<A>,
     alloc: A,
     text: &str,
@@ -85,9 +101,9 @@ fn read_sign_and_name<A: Allocator + Copy>(
     ensures last { last_name_of at.new ≡ last_name_of at.old }
     ensures held { held_len (opened_of at.new) ≤ held_len (opened_of at.old) }
 {
-    let sign = read_first_sign(at, text);
-    let name = read_name(at, alloc, &text[sign..])?;
-    Ok(sign + name)
+    let signs = read_signs(at, text);
+    let name = read_name(at, alloc, &text[signs..])?;
+    Ok(signs + name)
 }
 
 // Reads a run, and a sign after it. Answers how many bytes they take.
@@ -161,7 +177,7 @@ fn read_but_value<A: Allocator + Copy>(
     ensures last { last_name_of at.new ≡ last_name_of at.old }
     ensures held { held_len (opened_of at.new) ≤ held_len (opened_of at.old) }
 {
-    match read_sign_and_name(at, alloc, text)? {
+    match read_signs_and_name(at, alloc, text)? {
         0 => read_run_or_character(at, text),
         bytes => Ok(bytes),
     }

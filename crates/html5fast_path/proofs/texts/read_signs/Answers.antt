@@ -1,7 +1,7 @@
 use Rattle.std.proofs.lemmas.Str.{IsCharBoundary-from_drop}
 use Rattle.html5partial.specs.CurrentTag.{opened_of}
 use Rattle.html5fast_path.proofs.Beginnings.{front-append}
-use Rattle.html5fast_path.proofs.texts.read_sign_and_name.Goals as goal
+use Rattle.html5fast_path.proofs.texts.read_signs.Goals as goal
 
 pub range_from-requires : goal.range_from-requires
 range_from-requires g c =
@@ -9,5 +9,5 @@ range_from-requires g c =
 
 pub returns-clause-reads : goal.returns-clause-reads
 returns-clause-reads g c =
-    front-append c.args.text.now c.read_first_sign-sign.result c.in_ok-name.name _ (opened_of c.read_first_sign-sign.new.at) _ c.utf8.text c.read_first_sign-sign.ensures.reads
-    (rw c.range_from.ensures.value at c.in_ok-name.ensures.reads)
+    front-append c.args.text.now c.read_first_sign-sign.result c.read_first_sign-solidus.result _ (opened_of c.read_first_sign-sign.new.at) _ c.utf8.text c.read_first_sign-sign.ensures.reads
+    (rw c.range_from.ensures.value at c.read_first_sign-solidus.ensures.reads)
