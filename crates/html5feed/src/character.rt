@@ -20,11 +20,33 @@ use crate::rules::Rules;
 use crate::undecided::read_undecided;
 use html5ever_interface::interface::sink::TokenSink;
 use html5ever_interface::interface::token::{Tag, Token, TokenSinkResult};
+use html5fast_path::tag_ends::end_tag;
 use html5partial::error::TokenizerError;
 use html5partial::opened::{Opened, Progress, Step};
 use html5states::teller::Teller;
 use markup5ever::tokenizer_result::TokenizerResult;
 use std::alloc::Allocator;
+
+// Reads one character in the state that is open. The `>` of a tag without an error is read at once.
+#[tactic(auto, using(html5states::proofs::Tellings::tells_from_memory), unfolding(html5partial::specs::Steps::tokens_of, html5partial::specs::Steps::afterwards, html5ever_interface::specs::Sink::stepped))]
+#[inline(always)]
+fn step_in_state<S: TokenSink<Token<A>>, A: Allocator + Copy>(
+    teller: &mut Teller<'_, S, A>,
+    opened: &mut Opened<A>,
+    c: char,
+) -> Step
+    requires { is_undecided_open (opened_of opened.old) ≡ false }
+    ensures { Reads S.means S.faults result teller.old teller.new
+        (step_at teller.old.exact_errors (opened_of opened.old) c) opened.old opened.new }
+{
+    if c != '>' {
+        return teller.step(opened, c);
+    }
+    if end_tag(opened, teller.alloc)? {
+        return Ok(Progress::EndsTag);
+    }
+    teller.step(opened, c)
+}
 
 // Reads one character in the state that is open. After a refusal nothing is held.
 #[inline(always)]
@@ -38,7 +60,7 @@ fn step<S: TokenSink<Token<A>>, A: Allocator + Copy>(
         (step_at teller.old.exact_errors (opened_of opened.old) c) opened.old opened.new }
     ensures held { IfErr result (λ error. held_len (opened_of opened.new) ≡ 0) }
 {
-    let step = teller.step(opened, c);
+    let step = step_in_state(teller, opened, c);
     if step.is_err() {
         opened.comment.clear();
     }

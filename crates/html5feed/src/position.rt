@@ -35,6 +35,7 @@ use html5partial::keyword::holds_keyword;
 use html5partial::opened::Opened;
 use html5states::teller::Teller;
 use markup5ever::data::NamedReferences;
+use markup5ever::text::push_text;
 use std::alloc::{AllocError, Allocator, Global};
 use std::marker::Model;
 
@@ -294,7 +295,7 @@ fn keep_name<A: Allocator>(last_name: &mut String<A>, tag: &Tag<A>) -> Result<()
         TagKind::EndTag => Ok(()),
         TagKind::StartTag => {
             last_name.clear();
-            last_name.push_str(&tag.name.0)
+            push_text(last_name, &tag.name.0)
         }
     }
 }
