@@ -13,27 +13,17 @@ ghost use Rattle.html5elements.specs.Elements.{is_empty_element, is_foreign, is_
 pub fn is_void(name: &str) -> bool
     ensures { result ≡ is_void name.now }
 {
-    matches!(
-        name,
-        "area"
-            | "base"
-            | "basefont"
-            | "bgsound"
-            | "br"
-            | "col"
-            | "embed"
-            | "frame"
-            | "hr"
-            | "img"
-            | "input"
-            | "keygen"
-            | "link"
-            | "meta"
-            | "param"
-            | "source"
-            | "track"
-            | "wbr"
-    )
+    // Most names have another length.
+    match name.len() {
+        2 => matches!(name, "br" | "hr"),
+        3 => matches!(name, "col" | "img" | "wbr"),
+        4 => matches!(name, "area" | "base" | "link" | "meta"),
+        5 => matches!(name, "embed" | "frame" | "input" | "param" | "track"),
+        6 => matches!(name, "keygen" | "source"),
+        7 => name == "bgsound",
+        8 => name == "basefont",
+        _ => false,
+    }
 }
 
 /// Whether an element of this name is of another namespace, so that a `/` before the `>` of its start

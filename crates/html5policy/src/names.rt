@@ -36,24 +36,17 @@ pub fn is_one_of_by_guess<A: Allocator>(names: &[String<A>], guess: usize, name:
 pub fn always_hides(name: &str) -> bool
     ensures { result ≡ always_hides name.now }
 {
-    // Most names are shorter than each of these.
-    name.len() > 2
-        && matches!(
-            name,
-            "iframe"
-                | "math"
-                | "noembed"
-                | "noframes"
-                | "noscript"
-                | "plaintext"
-                | "script"
-                | "style"
-                | "svg"
-                | "template"
-                | "textarea"
-                | "title"
-                | "xmp"
-        )
+    // Most names have another length.
+    match name.len() {
+        3 => matches!(name, "svg" | "xmp"),
+        4 => name == "math",
+        5 => matches!(name, "style" | "title"),
+        6 => matches!(name, "iframe" | "script"),
+        7 => name == "noembed",
+        8 => matches!(name, "noframes" | "noscript" | "template" | "textarea"),
+        9 => name == "plaintext",
+        _ => false,
+    }
 }
 
 /// Whether no policy keeps an element of this name, since it acts on more than the place where it stands.
