@@ -14,6 +14,10 @@ use std::alloc::Allocator;
 pub fn raw_text_in(name: &str) -> Option<RawKind>
     ensures { result ≡ raw_text_in name.now }
 {
+    // Most names are shorter than each of these.
+    if name.len() < 3 {
+        return None;
+    }
     match name {
         "title" | "textarea" => Some(RawKind::Rcdata),
         "style" | "xmp" | "iframe" | "noembed" | "noframes" => Some(RawKind::Rawtext),
