@@ -35,6 +35,7 @@ fn name_len(ends: SmallCharSet, text: &str) -> usize
 }
 
 // Begins a tag with its name.
+#[inline(always)]
 fn begin_tag<A: Allocator + Copy>(
     at: &mut Opened<A>,
     kind: TagKind,
