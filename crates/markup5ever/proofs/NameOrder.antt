@@ -1,5 +1,5 @@
 -- The order of names, and names that begin with a text.
-use Rattle.std.proofs.Common.{◌≡◌, ℕ, zero, suc, ◌<◌, ◌≤◌, min, ◌⊎◌, inl, inr, true, false, List, [], ◌∷◌, length, drop, get_or, refl, sym, ap, ◌∙◌, arith}
+use Rattle.std.proofs.Common.{◌≡◌, ℕ, zero, suc, ◌+◌, ◌-◌, ◌<◌, ◌≤◌, min, ◌⊎◌, inl, inr, true, false, List, [], ◌∷◌, ◌++◌, length, take, drop, get_or, refl, sym, ap, ◌∙◌, arith}
 use Rattle.std.specs.Bool.{nat_eq}
 use Rattle.std.specs.Cmp.Lexicographic.{slice_cmp}
 use Rattle.std.specs.List.{starts_with}
@@ -12,7 +12,7 @@ use Rattle.std.proofs.lemmas.Bool.Decides.{nat_tests}
 use Rattle.std.specs.Cmp.{nat_cmp_is}
 use Rattle.std.proofs.lemmas.Cmp.{nat_cmp_total, nat_list_cmp_total, ranked, tied_itself}
 use Rattle.std.proofs.lemmas.Map.Lookups.{exact_unsigned}
-use Rattle.std.proofs.lemmas.List.{take_all}
+use Rattle.std.proofs.lemmas.List.{drop-drop, length-drop, length-take-le, take-append-drop, take_all}
 use Rattle.std.proofs.lemmas.Slice.Eq.{bytes_eq-Decides}
 use Rattle.std.proofs.lemmas.Map.Text.{is_eq-slice_cmp}
 
@@ -40,6 +40,23 @@ bytes_eq-same a b e = (bytes_eq-Decides a b).0 e
 
 pub cmp_equal : (a b : List ℕ) → slice_cmp nat_cmp a b ≡ Equal → a ≡ b
 cmp_equal a b e = bytes_eq-same a b (bytes_eq-cmp a b Equal e)
+
+same_front : (a t : List ℕ) → starts_with nat_eq a t ≡ true → take (length t) a ≡ t
+same_front a t begins = sym (bytes_eq-same t (take (length t) a) begins)
+
+-- names of four to eight bytes are the same where the first four and the last four are
+pub same_by_ends : (a b : List ℕ) (last : ℕ) → length a ≡ length b → 4 ≤ length a → last ≤ 4 → starts_with nat_eq a (take 4 b) ≡ true
+    → starts_with nat_eq (take (length a - last) (drop last a)) (take (length b - last) (drop last b)) ≡ true → a ≡ b
+same_by_ends a b last lengths long short front back =
+    let first : take 4 a ≡ take 4 b = ap (λ n. take n a) (sym (length-take-le 4 b (omega (arith, long, lengths)))) ∙ same_front a (take 4 b) front in
+    let to_end : (l : List ℕ) → take (length l - last) (drop last l) ≡ drop last l = λ l. take_all (length l - last) (drop last l) (omega (arith, length-drop last l)) in
+    let ends : starts_with nat_eq (drop last a) (drop last b) ≡ true = rw (to_end a, to_end b) at back in
+    let fits : length (drop last a) ≤ length (drop last b) = omega (arith, length-drop last a, length-drop last b, lengths) in
+    let final : drop last a ≡ drop last b = sym (take_all (length (drop last b)) (drop last a) fits) ∙ same_front (drop last a) (drop last b) ends in
+    let four : last + (4 - last) ≡ 4 = omega (arith, short) in
+    let rest : drop 4 a ≡ drop 4 b =
+    ap (λ n. drop n a) (sym four) ∙ sym (drop-drop (4 - last) last a) ∙ ap (drop (4 - last)) final ∙ drop-drop (4 - last) last b ∙ ap (λ n. drop n b) four in
+    sym (take-append-drop 4 a) ∙ ap (λ l. l ++ drop 4 a) first ∙ ap (λ l. take 4 b ++ l) rest ∙ take-append-drop 4 b
 
 -- ---- along ascending names the comparisons with another rise
 

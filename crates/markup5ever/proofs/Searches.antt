@@ -8,6 +8,7 @@ use Rattle.std.specs.Option.{option_map_or}
 use Rattle.std.specs.Ordering.{nat_cmp, ordering_index}
 use Rattle.std.specs.declared.cmp.Ordering.{Ordering}
 use Rattle.std.specs.declared.cmp.Ordering.TheVariants.{Less, Equal, Greater}
+use Rattle.std.proofs.lemmas.Bool.{or_left, or_right}
 use Rattle.std.proofs.lemmas.Option.{slice_get-get_or}
 use Rattle.std.proofs.lemmas.List.{drop-map, get_or-map, length-map, map-append, take-map}
 use Rattle.markup5ever.specs.NamedReferences.{NamedReference, begins_name, characters_of_name, reference_of, references_of, comes_before, IsAscending, IsTable}
@@ -82,6 +83,21 @@ module _ {Z : Type 0} (name : List ℕ) where
           afterwards = all_from reference_of (λ entry. slice_cmp nat_cmp entry.name name ≡ Greater) items gap (λ k d low less. parts.1 k d low less);
         };
       }
+
+  -- a name stands where its entry does
+  pub stands : (items : List (String Z × ℕ × Option ℕ)) (place : ℕ) → place < length items → ((d : String Z × ℕ × Option ℕ) → string_bytes (get_or items place d).0 ≡ name) → IsAt (references_of items) name place
+  stands items place within named = record {
+    within = rw (length-map items (reference_of {Z = Z})) within;
+    named = holds_at reference_of (λ entry. entry.name ≡ name) items place within named;
+  }
+
+  -- a name begins with the text where one at some place does
+  pub begins-somewhere : (items : List (String Z × ℕ × Option ℕ)) (place : ℕ) → place < length items → ((d : String Z × ℕ × Option ℕ) → starts_with nat_eq (string_bytes (get_or items place d).0) name ≡ true) → begins_name (references_of items) name ≡ true
+  unfolding begins_name
+  begins-somewhere [] place within begins = absurd (omega (arith, within))
+  begins-somewhere (x ∷ xs) zero within begins = or_left (starts_with nat_eq (string_bytes x.0) name) (begins_name (references_of xs) name) (begins x)
+  begins-somewhere (x ∷ xs) (suc k) within begins =
+      or_right (starts_with nat_eq (string_bytes x.0) name) (begins_name (references_of xs) name) (begins-somewhere xs k (omega (arith, within)) begins)
 
   -- where the entry before a place comes before the name, all before the place do
   pub all_before : (items : List (String Z × ℕ × Option ℕ)) (last : ℕ) → IsAscending (references_of items) → last < length items → ((d : String Z × ℕ × Option ℕ) → slice_cmp nat_cmp (string_bytes (get_or items last d).0) name ≡ Less) → AllByRecursion (λ entry. slice_cmp nat_cmp entry.name name ≡ Less) (take (last + 1) (references_of items))

@@ -2,7 +2,8 @@
 ghost use Rattle.std.specs.Prelude.{◌≡◌, ℕ, ◌+◌, ◌≤◌, List, ◌++◌, ◌⊎◌, length, take, slice_get, true, IsTrue, IfOk, IfErr, IfSome, IsSomeAnd, OnOk, None, Some, string_bytes};
 ghost use Rattle.std.specs.Cmp.Lexicographic.{slice_cmp};
 ghost use Rattle.std.specs.Char.{is_ascii_alphanumeric};
-ghost use Rattle.std.specs.List.{AllByRecursion, list_all};
+ghost use Rattle.std.specs.Bool.{nat_eq};
+ghost use Rattle.std.specs.List.{AllByRecursion, list_all, starts_with};
 ghost use Rattle.std.specs.Ordering.{nat_cmp};
 ghost use Rattle.std.specs.declared.cmp.Ordering.TheVariants.{Less};
 ghost use Rattle.markup5ever.specs.C1.{character_of_c1};
@@ -50,6 +51,9 @@ pub struct NamedReferences<A: Allocator = Global> {
     entries: Vec<Entry<A>, A>,
     // The keys of these names, by which a search guesses a place. What is found does not depend on them.
     keys: Vec<u64, A>,
+    // Places of names, each in the slot of its name, where a search looks first. What is found does not depend on
+    // them either.
+    slots: Vec<u16, A>,
 }
 
 impl<A: Allocator> Model for NamedReferences<A> {
@@ -82,10 +86,12 @@ impl<A: Allocator + Copy> NamedReferences<A> {
         let mut table = NamedReferences {
             entries: Vec::with_capacity(alloc, entries.len())?,
             keys: Vec::with_capacity(alloc, entries.len())?,
+            slots: vec![in alloc; 0; slots_for(entries.len())]?,
         };
         for entry in entries {
             table.add(entry)?;
         }
+        table.fill_slots();
         Ok(table)
     }
 }
@@ -105,7 +111,7 @@ impl<A: Allocator> NamedReferences<A> {
         if has_zero(&entry) {
             return Err(TableError::ZeroCharacter(place));
         }
-        let Err(gap) = self.search(&entry.0) else {
+        let Err(gap) = self.search_in_order(&entry.0) else {
             return Err(TableError::RepeatedName(place));
         };
         if insert_key(&mut self.keys, gap, &entry.0).is_err() {
@@ -115,6 +121,13 @@ impl<A: Allocator> NamedReferences<A> {
             return Err(TableError::Memory);
         }
         Ok(())
+    }
+
+    // Notes in its slot where each name stands. Of names that share a slot the last has it: `lt;`, and not `lt`.
+    fn fill_slots(&mut self)
+        ensures { self.new ≡ self.old }
+    {
+        note_places(&mut self.slots, &self.entries);
     }
 
     /// The characters that the name stands for.
@@ -136,7 +149,11 @@ impl<A: Allocator> NamedReferences<A> {
         ensures begins { result ≡ begins_name self.now text.now }
         ensures table { IsTable self.now }
     {
-        match self.search(text) {
+        self.table_laws();
+        if self.begins_at(self.place_by_slot(text), text) {
+            return true;
+        }
+        match self.search_in_order(text) {
             Ok(_) => true,
             Err(gap) => match self.entries.get(gap) {
                 Some(entry) => entry.0.as_bytes().starts_with(text.as_bytes()),
@@ -153,8 +170,52 @@ impl<A: Allocator> NamedReferences<A> {
         let _ = &self.entries;
     }
 
-    // Where the name stands, or where it would.
+    // Where the name stands, or where it would. Most names stand where their slot says.
+    #[inline(always)]
     fn search(&self, name: &str) -> Result<usize, usize>
+        ensures found { IfOk result (IsAt self.now name.now) }
+        ensures absent { IfErr result (IsGapFor self.now name.now) }
+    {
+        let place = self.place_by_slot(name);
+        if self.is_at(place, name) {
+            return Ok(place);
+        }
+        self.search_in_order(name)
+    }
+
+    // The place that the slot of the name says. The name may stand at another, or at none.
+    #[inline(always)]
+    fn place_by_slot(&self, name: &str) -> usize {
+        match self.slots.get(slot_of(name)) {
+            Some(place) => usize::from(*place),
+            None => 0,
+        }
+    }
+
+    // Whether the name stands at this place.
+    #[inline(always)]
+    fn is_at(&self, place: usize, name: &str) -> bool
+        ensures { result ≡ true → IsAt self.now name.now place }
+    {
+        match self.entries.get(place) {
+            Some(entry) => is_same(entry.0.as_bytes(), name.as_bytes()),
+            None => false,
+        }
+    }
+
+    // Whether the name at this place begins with the text.
+    #[inline(always)]
+    fn begins_at(&self, place: usize, text: &str) -> bool
+        ensures { result ≡ true → begins_name self.now text.now ≡ true }
+    {
+        match self.entries.get(place) {
+            Some(entry) => begins_with(entry.0.as_bytes(), text.as_bytes()),
+            None => false,
+        }
+    }
+
+    // Where the name stands, or where it would, by the order of names.
+    fn search_in_order(&self, name: &str) -> Result<usize, usize>
         ensures found { IfOk result (IsAt self.now name.now) }
         ensures absent { IfErr result (IsGapFor self.now name.now) }
     {
@@ -213,17 +274,73 @@ impl<A: Allocator> NamedReferences<A> {
 // How many bytes of a name its key has.
 const KEY_LEN: usize = 8;
 
-// The first bytes of a name as a number, so that most names are in the order of their keys.
+// The first bytes of a name as a number, so that most names are in the order of their keys. Where the pieces that it
+// is made of overlap, they have the same bits.
 #[inline(always)]
 fn key_of(name: &[u8]) -> u64 {
-    let mut key = 0;
-    for at in 0..KEY_LEN {
-        key = key << 8;
-        if at < name.len() {
-            key |= u64::from(name[at]);
+    let len = name.len().min(KEY_LEN);
+    if len >= 4 {
+        return four_bytes(name, 0) | four_bytes(name, len - 4);
+    }
+    if len == 0 {
+        return 0;
+    }
+    one_byte(name, 0) | one_byte(name, len / 2) | one_byte(name, len - 1)
+}
+
+// Four bytes of a name, where its key has them.
+#[inline(always)]
+fn four_bytes(name: &[u8], at: usize) -> u64
+    requires within { at + 4 ≤ length name.now }
+    requires in_key { at ≤ 4 }
+{
+    let bytes = [name[at], name[at + 1], name[at + 2], name[at + 3]];
+    u64::from(u32::from_be_bytes(bytes)) << (32 - 8 * at)
+}
+
+// A byte of a name, where its key has it.
+#[inline(always)]
+fn one_byte(name: &[u8], at: usize) -> u64
+    requires within { at + 1 ≤ length name.now }
+    requires in_key { at ≤ 7 }
+{
+    u64::from(name[at]) << (56 - 8 * at)
+}
+
+// How many slots a table has, if it has names.
+const SLOTS: usize = 4096;
+
+// By which keys are multiplied. With this number those of the standard's names that pages use most have their slots.
+const SPREAD: u64 = 0xAB15_A7B1_CBF6_9201;
+
+// How many slots a table of so many names has. One without names asks for no memory.
+fn slots_for(names: usize) -> usize {
+    if names == 0 { 0 } else { SLOTS }
+}
+
+// The slot of a name, a number of 12 bits. A semicolon at its end makes no difference.
+#[inline(always)]
+fn slot_of(name: &str) -> usize {
+    let key = key_of(without_semicolon(name.as_bytes()));
+    (key.wrapping_mul(SPREAD) >> 52) as usize
+}
+
+// Notes where a name stands, in its slot.
+#[inline(always)]
+fn note_place(slots: &mut [u16], place: usize, name: &str) {
+    let slot = slot_of(name);
+    if slot < slots.len() && place <= usize::from(u16::MAX) {
+        slots[slot] = place as u16;
+    }
+}
+
+// Notes where each name stands.
+fn note_places<A: Allocator>(slots: &mut [u16], entries: &[Entry<A>]) {
+    for place in 0..entries.len() {
+        if let Some(entry) = entries.get(place) {
+            note_place(slots, place, &entry.0);
         }
     }
-    key
 }
 
 // Takes in the key of a name that is to stand at this place.
@@ -257,6 +374,33 @@ fn order_of_bytes(name: &[u8], other: &[u8]) -> Ordering
         }
     }
     name.len().cmp(&other.len())
+}
+
+// Whether two names are the same. Most are short: of four to eight bytes the first four and the last four say it.
+#[inline(always)]
+fn is_same(name: &[u8], other: &[u8]) -> bool
+    ensures { result ≡ true → name.now ≡ other.now }
+{
+    let len = name.len();
+    if len != other.len() {
+        return false;
+    }
+    if 4 <= len && len <= 8 {
+        let last = len - 4;
+        return name.starts_with(&other[..4]) && name[last..].starts_with(&other[last..]);
+    }
+    name == other
+}
+
+// Whether a name begins with these bytes.
+#[inline(always)]
+fn begins_with(name: &[u8], bytes: &[u8]) -> bool
+    ensures { result ≡ true → starts_with nat_eq name.now bytes.now ≡ true }
+{
+    match name.get(..bytes.len()) {
+        Some(front) => is_same(front, bytes),
+        None => false,
+    }
 }
 
 // Whether these are letters and digits, with at most one semicolon, at the end.

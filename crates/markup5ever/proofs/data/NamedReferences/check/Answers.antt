@@ -1,11 +1,11 @@
 -- The loop keeps the entries that were taken and those that are left. Each answer gives its lemma both lists.
-use Rattle.std.proofs.Common.{◌≡◌, [], ◌∷◌, ◌++◌, length, sym, ap, inl, inr, ◌∙◌, append_assoc, append-nil, arith}
+use Rattle.std.proofs.Common.{◌≡◌, [], ◌∷◌, ◌++◌, length, refl, sym, ap, inl, inr, ◌∙◌, append_assoc, append-nil, arith, rules}
 use Rattle.std.specs.Vec.Iter.{into_iter_items}
 use Rattle.std.proofs.lemmas.List.{map-append, nil_from_length}
 use Rattle.std.proofs.lemmas.Result.{err_from_is_err_and}
 use Rattle.markup5ever.specs.NamedReferences.{begins_name, characters_of_name, references_of, reference_of, first_fault, first_fault_after}
 use Rattle.markup5ever.proofs.NamedReferencesLemmas.{IsTable-none, IsAscending-none}
-use Rattle.markup5ever.proofs.TableChecks.{IsTableOf-more, faultless-more, fault-first, faultless-end}
+use Rattle.markup5ever.proofs.TableChecks.{IsTableOf-none, IsTableOf-more, faultless-more, fault-first, faultless-end}
 use Rattle.markup5ever.proofs.data.NamedReferences.check.Goals as goal
 
 pub invariant_of-table : goal.invariant_of-table
@@ -55,11 +55,16 @@ returns-clause-characters g c name =
     let at = c.loop-entry in
     let left : into_iter_items at.entry-iterator ≡ [] = nil_from_length (into_iter_items at.entry-iterator) (sym at.invariant.left ∙ c.in-None.ensures.steps.0) in
     let all : at.yielded ≡ c.args.entries.items = sym (append-nil at.yielded) ∙ rw left at at.invariant.all ∙ c.into_iter-entry-iterator.ensures.into_iter_gives.0 in
-    at.invariant.table.same_characters name ∙ ap (λ es. characters_of_name (references_of es) name) all
+    rw c.fill_slots.ensures (at.invariant.table.same_characters name) ∙ ap (λ es. characters_of_name (references_of es) name) all
 
 pub returns-clause-beginnings : goal.returns-clause-beginnings
 returns-clause-beginnings g c text =
     let at = c.loop-entry in
     let left : into_iter_items at.entry-iterator ≡ [] = nil_from_length (into_iter_items at.entry-iterator) (sym at.invariant.left ∙ c.in-None.ensures.steps.0) in
     let all : at.yielded ≡ c.args.entries.items = sym (append-nil at.yielded) ∙ rw left at at.invariant.all ∙ c.into_iter-entry-iterator.ensures.into_iter_gives.0 in
-    at.invariant.table.same_beginnings text ∙ ap (λ es. begins_name (references_of es) text) all
+    rw c.fill_slots.ensures (at.invariant.table.same_beginnings text) ∙ ap (λ es. begins_name (references_of es) text) all
+
+pub loop-entry-init : goal.loop-entry-init
+loop-entry-init g c =
+    let none : references_of c.in_ok-with_capacity.field-0.items ≡ [] = ap references_of c.in_ok-with_capacity.ensures.items in
+    record { all = refl; left = search rules; table = IsTableOf-none _ none; faultless = refl }

@@ -4,7 +4,7 @@ use Rattle.std.specs.Ordering.{nat_cmp}
 use Rattle.std.specs.String.{string_bytes}
 use Rattle.std.proofs.lemmas.Fn.{always_returns_same}
 use Rattle.markup5ever.proofs.Searches.{searched}
-use Rattle.markup5ever.proofs.data.NamedReferences.search.Goals as goal
+use Rattle.markup5ever.proofs.data.NamedReferences.search_in_order.Goals as goal
 
 pub returns-in-None : goal.returns-in-None
 returns-in-None g c =
