@@ -9,3 +9,4 @@ pub mod CharacterReading
 pub mod UndecidedReading
 pub mod Starting
 pub mod AfterSemicolon
+pub mod LineFeedBlocks

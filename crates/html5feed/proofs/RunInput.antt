@@ -1,5 +1,5 @@
 -- How a run comes in: as it stands, and its line feeds move the line. They are counted by its bytes.
-use Rattle.std.proofs.Common.{◌≡◌, ◌≢◌, ℕ, ◌+◌, ◌<◌, ◌^◌, Bool, false, cond, get_or, length, List, [], ◌∷◌, refl, sym, ap, ◌∙◌, inl, inr, arith}
+use Rattle.std.proofs.Common.{◌≡◌, ◌≢◌, ℕ, ◌+◌, ◌<◌, ◌^◌, Bool, false, cond, List, [], ◌∷◌, refl, sym, ap, ◌∙◌, inl, inr, arith}
 use Rattle.std.specs.Prelude.{All, ◌==◌, count_by, encode_utf8, encode_utf8_all}
 use Rattle.std.specs.Str.{IsUtf8, chars}
 use Rattle.std.proofs.lemmas.Bool.{cases_eq, ne_eqb}
@@ -78,9 +78,3 @@ of-characters (c ∷ cs) =
 
 pub line_feeds-bytes : (text : List ℕ) → IsUtf8 text → count_by (λ b. b == line_feed) text ≡ count_by (λ c. c == line_feed) (chars text)
 line_feeds-bytes text utf8 = ap line_feeds (sym (encodes-chars text utf8)) ∙ of-characters (chars text)
-
--- those of one byte
-pub line_feeds-one : (text : List ℕ) → length text ≡ 1 → cond (get_or text 0 0 == line_feed) 1 0 ≡ count_by (λ b. b == line_feed) text
-line_feeds-one [] one = omega (arith, one)
-line_feeds-one (b ∷ []) one = omega (arith, sum_by-cons (λ (d : ℕ). cond (d == line_feed) 1 0) b [])
-line_feeds-one (b ∷ c ∷ text) one = omega (arith, one)

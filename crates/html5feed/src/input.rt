@@ -9,6 +9,9 @@ use std::simd::prelude::*;
 // How many bytes are looked at in one step.
 const BLOCK: usize = 16;
 
+// How many are of a shorter text.
+const HALF: usize = 8;
+
 /// How the characters of a stream come in: the line that was reached, and whether the next character
 /// may be dropped.
 #[derive(Drop)]
@@ -111,30 +114,60 @@ fn line_feeds(text: &str) -> u64
     ensures { result ≡ count_by (λ c. c == line_feed) (chars text.now) }
 {
     let bytes = text.as_bytes();
-    if bytes.len() == 1 {
-        return u64::from(bytes[0] == b'\n');
+    if bytes.len() < BLOCK {
+        return line_feeds_in_few(bytes);
     }
     let mut found = 0;
     let mut at = 0;
     while BLOCK <= bytes.len() - at {
-        found += line_feeds_in_block(bytes, at);
+        found += line_feeds_in_block(bytes, at, 0);
         at += BLOCK;
     }
-    for place in at..bytes.len() {
+    let last = bytes.len() - BLOCK;
+    found + line_feeds_in_block(bytes, last, at - last)
+}
+
+// How many line feeds a text has that is shorter than a block.
+#[inline(always)]
+fn line_feeds_in_few(bytes: &[u8]) -> u64
+    requires { length bytes.now < 16 }
+    ensures { result ≡ count_by (λ b. b == line_feed) bytes.now }
+{
+    if HALF <= bytes.len() {
+        let last = bytes.len() - HALF;
+        return line_feeds_in_half(bytes, 0, 0) + line_feeds_in_half(bytes, last, HALF - last);
+    }
+    let mut found = 0;
+    for place in 0..bytes.len() {
         found += u64::from(bytes[place] == b'\n');
     }
     found
 }
 
-// How many of the bytes of a block are line feeds. All are looked at at once.
+// How many line feeds a block has after its first bytes, whose own were counted. All bytes are looked at at once.
 #[inline(always)]
-fn line_feeds_in_block(bytes: &[u8], from: usize) -> u64
-    requires { from + 16 ≤ length bytes.now }
-    ensures counts { count_by (λ b. b == line_feed) (take from bytes.now) + result
+fn line_feeds_in_block(bytes: &[u8], from: usize, counted: usize) -> u64
+    requires within { from + 16 ≤ length bytes.now }
+    requires counted { counted ≤ 16 }
+    ensures counts { count_by (λ b. b == line_feed) (take (from + counted) bytes.now) + result
         ≡ count_by (λ b. b == line_feed) (take (from + 16) bytes.now) }
     ensures few { result ≤ 16 }
 {
     let block = u8x16::from_slice(&bytes[from..]);
     let found = block.simd_eq(u8x16::splat(b'\n'));
-    u64::from(found.to_bitmask().count_ones())
+    u64::from((found.to_bitmask() >> counted).count_ones())
+}
+
+// The same for half a block.
+#[inline(always)]
+fn line_feeds_in_half(bytes: &[u8], from: usize, counted: usize) -> u64
+    requires within { from + 8 ≤ length bytes.now }
+    requires counted { counted ≤ 8 }
+    ensures counts { count_by (λ b. b == line_feed) (take (from + counted) bytes.now) + result
+        ≡ count_by (λ b. b == line_feed) (take (from + 8) bytes.now) }
+    ensures few { result ≤ 8 }
+{
+    let block = u8x8::from_slice(&bytes[from..]);
+    let found = block.simd_eq(u8x8::splat(b'\n'));
+    u64::from((found.to_bitmask() >> counted).count_ones())
 }

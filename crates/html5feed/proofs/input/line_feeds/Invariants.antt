@@ -8,6 +8,3 @@ invariant-loop-at l = (l.found ≡ count_by (λ b. b == line_feed) (take l.at l.
 
 abbrev pub decreases-loop-at : goal.decreases-loop-at
 decreases-loop-at l = length l.bytes - l.at
-
-abbrev pub invariant-loop-place : goal.invariant-loop-place
-invariant-loop-place l = (l.found ≡ count_by (λ b. b == line_feed) (take l.place l.bytes)) × (l.found ≤ l.place)
