@@ -401,9 +401,8 @@ static const uint8_t *places_read(reader *self, const uint8_t *at, const uint8_t
 /* Reads any other record. It answers the place after it, or null. */
 static const uint8_t *token_read(reader *self, const uint8_t *at, const uint8_t *end, PyObject *found) {
     html5_token token;
-    memset(&token, 0, sizeof token);
+    html5_begin_token(&token, *at);
     bool is_known = 1 <= *at && *at <= KINDS;
-    token.kind = (enum html5_kind)*at;
     const uint8_t *after = checked(is_known ? html5_read_other(&token, at, end) : NULL);
     if (!after || !self->on_token(self, &token, found)) return NULL;
     self->has_places = false;
