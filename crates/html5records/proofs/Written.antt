@@ -6,10 +6,10 @@ use Rattle.std.proofs.lemmas.Result.{on_ok_weaker}
 use Rattle.std.specs.List.{flat_map}
 use Rattle.markup5ever.specs.Names.{AttributeOf, attribute_of}
 use Rattle.markup5ever.specs.declared.interface.Attribute.{Attribute}
-use Rattle.html5ever_interface.specs.Token.{Told, is_text}
+use Rattle.html5ever_interface.specs.Token.{Told, TagOf, is_text}
 use Rattle.html5ever_interface.specs.Token.Told.{Text}
 use Rattle.html5records.specs.Recording.{text_closing, added_by}
-use Rattle.html5records.specs.Records.{attribute_record, heading, heading_of, code_of, record_of}
+use Rattle.html5records.specs.Records.{number, counted, attribute_record, attribute_records, tag_flags, tag_parts, tag_code, heading, heading_of, code_of, record_of}
 
 -- what is written for one thing more
 pub flat_map-push : {X : Type 0} (f : X → List ℕ) (xs : List X) (x : X) → flat_map f (xs ++ x ∷ []) ≡ flat_map f xs ++ f x
@@ -31,10 +31,31 @@ attributes-more old written next attributes i attribute before here within last 
     ∙ append_assoc old (flat_map attribute_record front) (attribute_record (attribute_of attribute))
     ∙ ap (λ l. old ++ l) (sym (ap (flat_map attribute_record) more ∙ flat_map-push attribute_record front (attribute_of attribute)))
 
--- two pieces, of which the last could fail
-pub pieces-two : {T E : Type 0} (r : Result T E) (old written next a b : List ℕ) → written ≡ old ++ a → OnOk r (next ≡ written ++ b) → OnOk r (next ≡ old ++ (a ++ b))
-pieces-two r old written next a b before last =
-    on_ok_weaker r (λ (e : next ≡ written ++ b). e ∙ ap (λ l. l ++ b) before ∙ append_assoc old a b) last
+-- a tag
+
+-- up to the end of its name
+pub tag-begun : (tag : TagOf) (kind line flags : ℕ) (name old beginning begun named : List ℕ)
+    → kind ≡ tag_code tag.kind → flags ≡ tag_flags tag → name ≡ tag.name
+    → beginning ≡ heading kind line ++ flags ∷ number (length name)
+    → begun ≡ old ++ beginning → named ≡ begun ++ name
+    → named ≡ old ++ (heading (tag_code tag.kind) line ++ tag_flags tag ∷ counted tag.name)
+unfolding counted
+tag-begun tag kind line flags name old beginning begun named kinds flagged names begins first second =
+    let head = heading (tag_code tag.kind) line in
+    let front = tag_flags tag ∷ number (length tag.name) in
+    second
+    ∙ rw (first, begins, kinds, flagged, names) (append_assoc old (head ++ front) tag.name)
+    ∙ ap (λ l. old ++ l) (append_assoc head front tag.name)
+
+-- and with its attributes
+pub tag-whole : {T E : Type 0} (r : Result T E) (tag : TagOf) (head old named next attributes : List ℕ)
+    → named ≡ old ++ (head ++ tag_flags tag ∷ counted tag.name)
+    → attributes ≡ attribute_records tag.attributes
+    → OnOk r (next ≡ named ++ attributes) → OnOk r (next ≡ old ++ (head ++ tag_parts tag))
+unfolding tag_parts
+tag-whole r tag head old named next attributes begun more last =
+    let front = tag_flags tag ∷ counted tag.name in
+    on_ok_weaker r (λ (e : next ≡ named ++ attributes). e ∙ rw (begun, more) (append_assoc old (head ++ front) (attribute_records tag.attributes)) ∙ ap (λ l. old ++ l) (append_assoc head front (attribute_records tag.attributes))) last
 
 -- a token that is no text
 

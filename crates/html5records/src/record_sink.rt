@@ -2,6 +2,7 @@
 ghost use Rattle.std.specs.Prelude.{◌≡◌, ◌≢◌, ℕ, Err, false, List, [], ◌∷◌, ◌+◌, ◌≤◌, ◌++◌, length, take, drop, min, string_bytes, IfOk, OnOk, OnErr};
 ghost use Rattle.html5records.specs.Recording.{Recorded, waiting, nothing_recorded, at_script, pause_after_tag, reply_by, with_foreign, added_by, added_by_text, recorded_step, WritesOn, closed_bytes, joined, after_taking};
 ghost use Rattle.html5records.specs.Records.{records_of};
+ghost use Rattle.markup5ever.specs.Lists.{BeginsWith};
 ghost use Rattle.html5ever_interface.specs.Sink.{Message, stepped};
 ghost use Rattle.html5ever_interface.specs.Token.Told.{End, Text};
 ghost use Rattle.html5ever_interface.specs.Token.{told_by, reply_of};
@@ -119,25 +120,22 @@ fn push_whole_text<A: Allocator>(
     }
 }
 
-// Appends what a token adds, or nothing.
-fn push_whole_token<A: Allocator>(
+// Appends what a token adds, and then replies to it. Where one of them is refused, a part may be left.
+fn push_then_reply<A: Allocator + Copy>(
     written: &mut Vec<u8, A>,
     in_text: bool,
+    replies: Replies,
     token: &Token<A>,
     line: u64,
-) -> Result<(), AllocError>
+) -> Result<TokenSinkResult<PausedAt, String<A>>, AllocError>
     ensures ok { OnOk result
         (written.new.items ≡ written.old.items ++ added_by in_text (told_by token.now) line) }
-    ensures err { OnErr result (written.new.items ≡ written.old.items) }
+    ensures replies { IfOk result
+        (λ reply. reply_of string_bytes reply ≡ reply_by replies (told_by token.now)) }
+    ensures err { OnErr result (BeginsWith written.new.items written.old.items) }
 {
-    let len = written.len();
-    match push_token(written, in_text, token, line) {
-        Ok(()) => Ok(()),
-        Err(AllocError) => {
-            written.truncate(len);
-            Err(AllocError)
-        }
-    }
+    push_token(written, in_text, token, line)?;
+    reply_to(replies, token)
 }
 
 // Appends what a token adds, and replies to it, or does nothing.
@@ -154,9 +152,14 @@ fn push_and_reply<A: Allocator + Copy>(
         (λ reply. reply_of string_bytes reply ≡ reply_by replies (told_by token.now)) }
     ensures err { OnErr result (written.new.items ≡ written.old.items) }
 {
-    let reply = reply_to(replies, token)?;
-    push_whole_token(written, in_text, token, line)?;
-    Ok(reply)
+    let len = written.len();
+    match push_then_reply(written, in_text, replies, token, line) {
+        Ok(reply) => Ok(reply),
+        Err(AllocError) => {
+            written.truncate(len);
+            Err(AllocError)
+        }
+    }
 }
 
 /// What is written for messages is their records, one after the other. Adjacent texts are one, and an empty text has none.
@@ -295,6 +298,7 @@ impl<A: Allocator + Copy> TokenSink<Token<A>> for RecordSink<A> {
         token: &mut Token<A>,
         line_number: u64,
     ) -> Result<TokenSinkResult<PausedAt, String<A>>, SinkFault> {
+        let in_text = is_open_after(self.in_text, token);
         match push_and_reply(
             &mut self.written,
             self.in_text,
@@ -303,7 +307,7 @@ impl<A: Allocator + Copy> TokenSink<Token<A>> for RecordSink<A> {
             line_number,
         ) {
             Ok(reply) => {
-                self.in_text = is_open_after(self.in_text, token);
+                self.in_text = in_text;
                 Ok(reply)
             }
             Err(AllocError) => {

@@ -1,10 +1,10 @@
 //! Writing records.
 ghost use Rattle.std.specs.Prelude.{◌≡◌, ◌+◌, ◌++◌, false, ◌∷◌, [], map, option_map, is_some, string_bytes, OnOk, OnErr};
 ghost use Rattle.std.specs.List.{flat_map};
-ghost use Rattle.html5records.specs.Records.{number, counted, flag, attribute_record, attribute_records, optional, tag_flags, tag_parts, tag_code, code_of, doctype_flags, doctype_parts, heading, parts, record_of};
+ghost use Rattle.html5records.specs.Records.{number, counted, flag, attribute_record, attribute_records, optional, tag_flags, tag_code, doctype_flags, doctype_parts, heading, record_of};
 ghost use Rattle.markup5ever.specs.Lists.{BeginsWith};
 ghost use Rattle.html5records.specs.Recording.{text_closing, added_by_text, added_by, open_after};
-ghost use Rattle.html5ever_interface.specs.Token.{told_by, tag_of, doctype_of, is_text};
+ghost use Rattle.html5ever_interface.specs.Token.{Told, told_by, tag_of, doctype_of, is_text, is_tag};
 ghost use Rattle.html5ever_interface.specs.Token.Told.{Text};
 ghost use Rattle.markup5ever.specs.Names.{attribute_of};
 
@@ -104,17 +104,6 @@ fn tag_flags<A: Allocator>(tag: &Tag<A>) -> u8
         + flag_where(tag.had_duplicate_attributes, kinds::DUPLICATE_ATTRIBUTES)
 }
 
-// Appends what comes after the line of a tag.
-#[tactic(auto, unfolding(crate::specs::Records::tag_parts))]
-fn push_tag_parts<A: Allocator>(written: &mut Vec<u8, A>, tag: &Tag<A>) -> Result<(), AllocError>
-    ensures ok { OnOk result (written.new.items ≡ written.old.items ++ tag_parts (tag_of tag.now)) }
-    ensures err { OnErr result (BeginsWith written.new.items written.old.items) }
-{
-    written.push(tag_flags(tag))?;
-    push_counted(written, tag.name.0.as_bytes())?;
-    push_attributes(written, &tag.attrs)
-}
-
 // The kind of a tag's record.
 fn tag_kind(kind: TagKind) -> u8
     ensures { result ≡ tag_code kind }
@@ -123,6 +112,38 @@ fn tag_kind(kind: TagKind) -> u8
         TagKind::StartTag => kinds::START_TAG,
         TagKind::EndTag => kinds::END_TAG,
     }
+}
+
+// What the record of a tag begins with: its kind, its line, its flags, and the length of its name.
+#[tactic(auto, unfolding(crate::specs::Records::heading, crate::specs::Records::number))]
+fn tag_beginning(kind: u8, line: u64, flags: u8, name_len: u64) -> [u8; 18]
+    ensures { result ≡ heading kind line ++ flags ∷ number name_len }
+{
+    let line = line.to_le_bytes();
+    let len = name_len.to_le_bytes();
+    [
+        kind, line[0], line[1], line[2], line[3], line[4], line[5], line[6], line[7], flags,
+        len[0], len[1], len[2], len[3], len[4], len[5], len[6], len[7],
+    ]
+}
+
+// Appends the record of a tag. It is inlined wherever it is called, since a page has more tags than other tokens.
+#[inline(always)]
+fn push_tag_record<A: Allocator>(
+    written: &mut Vec<u8, A>,
+    tag: &Tag<A>,
+    line: u64,
+) -> Result<(), AllocError>
+    ensures ok { OnOk result
+        (written.new.items ≡ written.old.items ++ record_of (Told.Tag (tag_of tag.now)) line) }
+    ensures err { OnErr result (BeginsWith written.new.items written.old.items) }
+{
+    let name = tag.name.0.as_bytes();
+    let len = name.len() as u64;
+    let beginning = tag_beginning(tag_kind(tag.kind), line, tag_flags(tag), len);
+    written.extend_from_slice(&beginning)?;
+    written.extend_from_slice(name)?;
+    push_attributes(written, &tag.attrs)
 }
 
 // The flags of a DOCTYPE.
@@ -167,43 +188,66 @@ fn push_doctype_parts<A: Allocator>(
     push_optional(written, &doctype.system_id)
 }
 
-// The first byte of a token's record.
-fn kind_of<A: Allocator>(token: &Token<A>) -> u8
-    ensures { result ≡ code_of (told_by token.now) }
+// Appends the record of a DOCTYPE.
+fn push_doctype<A: Allocator>(
+    written: &mut Vec<u8, A>,
+    doctype: &Doctype<A>,
+    line: u64,
+) -> Result<(), AllocError>
+    ensures ok { OnOk result
+        (written.new.items ≡ written.old.items ++ (heading 6 line ++ doctype_parts (doctype_of doctype.now))) }
+    ensures err { OnErr result (BeginsWith written.new.items written.old.items) }
 {
-    match token {
-        Token::DoctypeToken(_) => kinds::DOCTYPE,
-        Token::TagToken(tag) => tag_kind(tag.kind),
-        Token::CommentToken(_) => kinds::COMMENT,
-        Token::ProcessingInstructionToken(_) => kinds::PROCESSING_INSTRUCTION,
-        Token::CharacterTokens(_) => kinds::TEXT,
-        Token::NullCharacterToken => kinds::NULL_CHARACTER,
-        Token::EOFToken => kinds::END,
-        Token::ParseError(_) => kinds::PARSE_ERROR,
-    }
+    push_heading(written, kinds::DOCTYPE, line)?;
+    push_doctype_parts(written, doctype)
 }
 
-// Appends what comes after the line.
-#[tactic(auto, unfolding(crate::specs::Records::parts))]
-fn push_parts<A: Allocator>(written: &mut Vec<u8, A>, token: &Token<A>) -> Result<(), AllocError>
-    requires { is_text (told_by token.now) ≡ false }
-    ensures ok { OnOk result (written.new.items ≡ written.old.items ++ parts (told_by token.now)) }
+// Appends the record of a token that has a text alone.
+fn push_headed<A: Allocator>(
+    written: &mut Vec<u8, A>,
+    kind: u8,
+    line: u64,
+    text: &[u8],
+) -> Result<(), AllocError>
+    ensures ok { OnOk result
+        (written.new.items ≡ written.old.items ++ (heading kind line ++ counted text.now)) }
+    ensures err { OnErr result (BeginsWith written.new.items written.old.items) }
+{
+    push_heading(written, kind, line)?;
+    push_counted(written, text)
+}
+
+// Appends the record of a token that is no text and no tag.
+#[tactic(auto, unfolding(crate::specs::Records::record_of, crate::specs::Records::heading_of, crate::specs::Records::parts))]
+fn push_other_record<A: Allocator>(
+    written: &mut Vec<u8, A>,
+    token: &Token<A>,
+    line: u64,
+) -> Result<(), AllocError>
+    requires no_text { is_text (told_by token.now) ≡ false }
+    requires no_tag { is_tag (told_by token.now) ≡ false }
+    ensures ok { OnOk result
+        (written.new.items ≡ written.old.items ++ record_of (told_by token.now) line) }
     ensures err { OnErr result (BeginsWith written.new.items written.old.items) }
 {
     match token {
-        Token::DoctypeToken(doctype) => push_doctype_parts(written, doctype),
-        Token::TagToken(tag) => push_tag_parts(written, tag),
-        Token::CommentToken(text) => push_counted(written, text.as_bytes()),
-        Token::ProcessingInstructionToken(content) => push_counted(written, content.as_bytes()),
+        Token::TagToken(_) => unreachable!(),
+        Token::DoctypeToken(doctype) => push_doctype(written, doctype, line),
+        Token::CommentToken(text) => push_headed(written, kinds::COMMENT, line, text.as_bytes()),
+        Token::ProcessingInstructionToken(content) => {
+            let kind = kinds::PROCESSING_INSTRUCTION;
+            push_headed(written, kind, line, content.as_bytes())
+        }
         Token::CharacterTokens(_) => unreachable!(),
-        Token::NullCharacterToken => Ok(()),
-        Token::EOFToken => Ok(()),
-        Token::ParseError(message) => push_counted(written, message.as_bytes()),
+        Token::NullCharacterToken => push_heading(written, kinds::NULL_CHARACTER, line),
+        Token::EOFToken => push_heading(written, kinds::END, line),
+        Token::ParseError(message) => {
+            push_headed(written, kinds::PARSE_ERROR, line, message.as_bytes())
+        }
     }
 }
 
 /// Appends the record of a token that is no text.
-#[tactic(auto, unfolding(crate::specs::Records::record_of))]
 pub fn push_record<A: Allocator>(
     written: &mut Vec<u8, A>,
     token: &Token<A>,
@@ -214,8 +258,10 @@ pub fn push_record<A: Allocator>(
         (written.new.items ≡ written.old.items ++ record_of (told_by token.now) line) }
     ensures err { OnErr result (BeginsWith written.new.items written.old.items) }
 {
-    push_heading(written, kind_of(token), line)?;
-    push_parts(written, token)
+    match token {
+        Token::TagToken(tag) => push_tag_record(written, tag, line),
+        _ => push_other_record(written, token, line),
+    }
 }
 
 /// Appends a text, or a piece of it. An empty one opens no record.
@@ -248,20 +294,38 @@ fn push_text_end<A: Allocator>(written: &mut Vec<u8, A>, in_text: bool) -> Resul
     Ok(())
 }
 
-// Ends an open text, and appends the record of a token that is no text.
+// Ends an open text, and appends the record of a tag.
+#[tactic(auto, unfolding(crate::specs::Recording::added_by))]
+fn push_tag<A: Allocator>(
+    written: &mut Vec<u8, A>,
+    in_text: bool,
+    tag: &Tag<A>,
+    line: u64,
+) -> Result<(), AllocError>
+    ensures ok { OnOk result
+        (written.new.items ≡ written.old.items ++ added_by in_text (Told.Tag (tag_of tag.now)) line) }
+    ensures err { OnErr result (BeginsWith written.new.items written.old.items) }
+{
+    push_text_end(written, in_text)?;
+    push_tag_record(written, tag, line)
+}
+
+// Ends an open text, and appends the record of a token that is no text and no tag.
+#[tactic(auto, unfolding(crate::specs::Recording::added_by))]
 fn push_other<A: Allocator>(
     written: &mut Vec<u8, A>,
     in_text: bool,
     token: &Token<A>,
     line: u64,
 ) -> Result<(), AllocError>
-    requires { is_text (told_by token.now) ≡ false }
+    requires no_text { is_text (told_by token.now) ≡ false }
+    requires no_tag { is_tag (told_by token.now) ≡ false }
     ensures ok { OnOk result
         (written.new.items ≡ written.old.items ++ added_by in_text (told_by token.now) line) }
     ensures err { OnErr result (BeginsWith written.new.items written.old.items) }
 {
     push_text_end(written, in_text)?;
-    push_record(written, token, line)
+    push_other_record(written, token, line)
 }
 
 /// Appends what a token adds, where `in_text` says whether a text is open.
@@ -277,6 +341,7 @@ pub fn push_token<A: Allocator>(
     ensures err { OnErr result (BeginsWith written.new.items written.old.items) }
 {
     match token {
+        Token::TagToken(tag) => push_tag(written, in_text, tag, line),
         Token::CharacterTokens(text) => push_text(written, in_text, text.as_bytes()),
         _ => push_other(written, in_text, token, line),
     }

@@ -7,4 +7,4 @@ pub returns-in-Ok-clause-steps : goal.returns-in-Ok-clause-steps
 unfolding recorded_step
 returns-in-Ok-clause-steps g c =
     let s = c.self.inside in
-    rw (← c.self.view_is, bytes-more s.taken.bytes s.written.items _ _ s.skipped c.self.invariant c.in-Ok.ensures.ok, c.is_open_after-self-inside.ensures) refl
+    rw (← c.self.view_is, bytes-more s.taken.bytes s.written.items _ _ s.skipped c.self.invariant c.in-Ok.ensures.ok, c.is_open_after-in_text.ensures) refl
