@@ -191,14 +191,15 @@ fn push_doctype_parts<A: Allocator>(
 // Appends the record of a DOCTYPE.
 fn push_doctype<A: Allocator>(
     written: &mut Vec<u8, A>,
-    doctype: &Doctype<A>,
+    kind: u8,
     line: u64,
+    doctype: &Doctype<A>,
 ) -> Result<(), AllocError>
     ensures ok { OnOk result
-        (written.new.items ≡ written.old.items ++ (heading 6 line ++ doctype_parts (doctype_of doctype.now))) }
+        (written.new.items ≡ written.old.items ++ (heading kind line ++ doctype_parts (doctype_of doctype.now))) }
     ensures err { OnErr result (BeginsWith written.new.items written.old.items) }
 {
-    push_heading(written, kinds::DOCTYPE, line)?;
+    push_heading(written, kind, line)?;
     push_doctype_parts(written, doctype)
 }
 
@@ -232,7 +233,7 @@ fn push_other_record<A: Allocator>(
 {
     match token {
         Token::TagToken(_) => unreachable!(),
-        Token::DoctypeToken(doctype) => push_doctype(written, doctype, line),
+        Token::DoctypeToken(doctype) => push_doctype(written, kinds::DOCTYPE, line, doctype),
         Token::CommentToken(text) => push_headed(written, kinds::COMMENT, line, text.as_bytes()),
         Token::ProcessingInstructionToken(content) => {
             let kind = kinds::PROCESSING_INSTRUCTION;
