@@ -138,7 +138,7 @@ impl<'t> Tokens<'t> {
     fn next_text(&mut self) -> Option<(Token<'t>, usize)> {
         let begin = self.read.at + 1;
         let from = begin.max(self.read.searched);
-        let Some(len) = self.bytes[from..].iter().position(|byte| *byte == 0xFF) else {
+        let Some(len) = text_len(&self.bytes[from..]) else {
             self.read.searched = self.bytes.len();
             return None;
         };
@@ -201,6 +201,17 @@ impl<'t> Iterator for PlacedTokens<'t> {
 
 // What a record of places begins with.
 const PLACES: u8 = 10;
+
+// What ends a text: a byte that UTF-8 never has.
+const TEXT_END: u8 = 0xFF;
+
+// How many bytes stand before the first end of a text. It looks at 16 at once.
+fn text_len(bytes: &[u8]) -> Option<usize> {
+    let has_end = |block: &&[u8]| block.iter().fold(false, |found, byte| found | (*byte == TEXT_END));
+    let skipped = 16 * bytes.chunks_exact(16).take_while(|block| !has_end(block)).count();
+    let len = bytes[skipped..].iter().position(|byte| *byte == TEXT_END)?;
+    Some(skipped + len)
+}
 
 // The texts of records are UTF-8, as the README of html5records says.
 fn text(bytes: &[u8]) -> &str {
