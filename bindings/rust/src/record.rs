@@ -213,8 +213,12 @@ fn text_len(bytes: &[u8]) -> Option<usize> {
     Some(skipped + len)
 }
 
-// The texts of records are UTF-8, as the README of html5records says.
+// The texts of records are UTF-8, as the README of html5records says. Most are ASCII, which is seen faster.
 fn text(bytes: &[u8]) -> &str {
+    if bytes.is_ascii() {
+        // SAFETY: ASCII is UTF-8.
+        return unsafe { str::from_utf8_unchecked(bytes) };
+    }
     str::from_utf8(bytes).expect("the texts of records are UTF-8")
 }
 
