@@ -1,7 +1,7 @@
 #!/bin/bash
 # Builds the archive and the shared library from sources, and leaves both in bindings/out, with Python's extension where
-# its headers are there. What isn't proved yet is proved first, and named as it is: half an hour from nothing, and a minute
-# after `python3 tools/stamps.py rt ci`. It wants the Rattle toolchain, ar and gcc.
+# its headers are there. What isn't proved yet is proved first, and named as it is: an hour from nothing, and a quarter of
+# an hour after `python3 tools/stamps.py rt ci`. It wants the Rattle toolchain, ar and gcc.
 set -eu
 cd "$(dirname "$0")"
 here=$PWD
