@@ -8,10 +8,10 @@
 #define FIRNUUBAL_H
 
 /* The version of the library, of this header and of the readers. */
-#define FIRNUUBAL_VERSION "0.13.0"
+#define FIRNUUBAL_VERSION "0.14.0"
 
 /* The same as a number, its three numbers a byte each. `html5_version` says it of the library that is linked. */
-#define FIRNUUBAL_VERSION_NUMBER 0x000d00
+#define FIRNUUBAL_VERSION_NUMBER 0x000e00
 
 #include <stdbool.h>
 #include <stddef.h>
@@ -456,11 +456,26 @@ static inline bool html5_read_places(html5_reader *reader) {
     return reader->at < reader->len;
 }
 
-/* Sets where a token stands. A text stands where the run before the next token does. */
+/* Sets where a token stands, if that was read. A text stands where the run before the next token does. */
 static inline void html5_set_places(const html5_reader *reader, html5_token *token) {
-    token->text_begin = reader->has_places ? reader->places[0] : HTML5_NO_PLACE;
-    token->begin = reader->has_places ? reader->places[token->kind == HTML5_TEXT ? 0 : 1] : HTML5_NO_PLACE;
-    token->end = reader->has_places ? reader->places[token->kind == HTML5_TEXT ? 1 : 2] : HTML5_NO_PLACE;
+    if (!reader->has_places) return;
+    const uint64_t *place = reader->places + (token->kind == HTML5_TEXT ? 0 : 1);
+    token->text_begin = reader->places[0];
+    token->begin = place[0];
+    token->end = place[1];
+}
+
+/* A token of which its kind alone is known. Each member is set by itself: that is faster here than clearing all of it. */
+static inline void html5_begin_token(html5_token *token, uint8_t kind) {
+    const html5_text none = {"", 0};
+    token->kind = (enum html5_kind)kind;
+    token->line = 0;
+    token->text = token->public_id = token->system_id = none;
+    token->attributes.at = NULL;
+    token->attributes.count = 0;
+    token->self_closing = token->duplicate_attributes = false;
+    token->has_name = token->has_public_id = token->has_system_id = token->force_quirks = false;
+    token->text_begin = token->begin = token->end = HTML5_NO_PLACE;
 }
 
 /* The next token that was taken whole. It answers whether there is one, and if not `reader->stop` says why. */
@@ -471,9 +486,7 @@ static inline bool html5_next_token(html5_reader *reader, html5_token *token) {
         if (reader->at < reader->len) reader->stop = HTML5_NOT_WHOLE;
         return false;
     }
-    memset(token, 0, sizeof *token);
-    token->text.at = token->public_id.at = token->system_id.at = "";
-    token->kind = (enum html5_kind)reader->bytes[reader->at];
+    html5_begin_token(token, reader->bytes[reader->at]);
     const uint8_t *after = token->kind == HTML5_TEXT
                                ? html5_read_text(reader, token)
                                : html5_read_other(token, reader->bytes + reader->at, reader->bytes + reader->len);
