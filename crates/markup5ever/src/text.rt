@@ -31,7 +31,26 @@ fn push_short<A: Allocator>(text: &mut String<A>, more: &str, len: usize) -> Res
     text.push_str(&more[..len])
 }
 
-/// Appends a text to another. Up to four bytes are stored at once, without a call that copies bytes.
+// Appends a text of a few bytes. It stands apart too: eight copies of what appends would keep the compiler from putting
+// that, and what calls this, where they are called.
+#[inline(never)]
+fn push_few<A: Allocator>(text: &mut String<A>, more: &str) -> Result<(), AllocError>
+    ensures { string_bytes text.new
+        ≡ (if is_ok result then string_bytes text.old ++ more.now else string_bytes text.old) }
+{
+    match more.len() {
+        2 => push_short(text, more, 2),
+        3 => push_short(text, more, 3),
+        4 => push_short(text, more, 4),
+        5 => push_short(text, more, 5),
+        6 => push_short(text, more, 6),
+        7 => push_short(text, more, 7),
+        8 => push_short(text, more, 8),
+        _ => text.push_str(more),
+    }
+}
+
+/// Appends a text to another. Up to eight bytes are stored at once, without a call that copies bytes.
 #[inline(always)]
 pub fn push_text<A: Allocator>(text: &mut String<A>, more: &str) -> Result<(), AllocError>
     ensures bytes { string_bytes text.new
@@ -40,9 +59,7 @@ pub fn push_text<A: Allocator>(text: &mut String<A>, more: &str) -> Result<(), A
 {
     match more.len() {
         1 => push_short(text, more, 1),
-        2 => push_short(text, more, 2),
-        3 => push_short(text, more, 3),
-        4 => push_short(text, more, 4),
+        2..=8 => push_few(text, more),
         _ => text.push_str(more),
     }
 }
