@@ -7,7 +7,7 @@ ghost use Rattle.html5reading.specs.Tag.{attribute, has_attribute};
 ghost use Rattle.markup5ever.specs.Names.{attribute_of};
 
 use crate::spares::Spares;
-use markup5ever::interface::{Attribute, LocalName, Namespace, QualName};
+use markup5ever::interface::Attribute;
 use std::alloc::{AllocError, Allocator, Global};
 use std::collections::BTreeSet;
 use std::marker::Model;
@@ -100,18 +100,23 @@ fn index_with<A: Allocator + Copy>(
 }
 
 // Appends an attribute.
-fn push_attribute<A: Allocator + Copy>(
-    alloc: A,
+fn push_attribute<A: Allocator>(
     attributes: &mut Vec<Attribute<A>, A>,
-    name: String<A>,
-    value: String<A>,
+    attribute: Attribute<A>,
 ) -> Result<(), AllocError>
     ensures { OnOk result (map attribute_of attributes.new.items
-        ≡ map attribute_of attributes.old.items ++ attribute (string_bytes name) (string_bytes value) ∷ []) }
+        ≡ map attribute_of attributes.old.items ++ attribute_of attribute ∷ []) }
 {
-    let name = QualName::new(None, Namespace(String::new(alloc)), LocalName(name));
-    attributes.push(Attribute { name, value })?;
+    attributes.push(attribute)?;
     Ok(())
+}
+
+// Lets a list go. One that has no memory, as most have, has nothing to let go.
+#[inline(always)]
+fn let_go<A: Allocator>(attributes: Vec<Attribute<A>, A>) {
+    if attributes.capacity() == 0 {
+        mem::forget(attributes);
+    }
 }
 
 impl<A: Allocator + Copy> AttributeList<A> {
@@ -126,16 +131,17 @@ impl<A: Allocator + Copy> AttributeList<A> {
         }
     }
 
-    /// Appends an attribute.
-    pub fn push(&mut self, alloc: A, name: String<A>, value: String<A>) -> Result<(), AllocError>
-        ensures { OnOk result (self.new ≡ self.old ++ attribute (string_bytes name) (string_bytes value) ∷ []) }
+    /// Appends an attribute, which has no prefix and no namespace.
+    pub fn push(&mut self, attribute: Attribute<A>) -> Result<(), AllocError>
+        ensures { OnOk result (self.new ≡ self.old ++ attribute_of attribute ∷ []) }
     {
         let is_indexed = mem::replace(&mut self.is_indexed, false);
         if self.items.len() < FEW {
-            return push_attribute(alloc, &mut self.items, name, value);
+            return push_attribute(&mut self.items, attribute);
         }
-        index_with(&mut self.names, is_indexed, &self.items, &name)?;
-        push_attribute(alloc, &mut self.items, name, value)?;
+        let name = &attribute.name.local.0;
+        index_with(&mut self.names, is_indexed, &self.items, name)?;
+        push_attribute(&mut self.items, attribute)?;
         self.is_indexed = true;
         Ok(())
     }
@@ -147,6 +153,9 @@ impl<A: Allocator + Copy> AttributeList<A> {
         ensures none { self.new ≡ [] }
     {
         self.is_indexed = false;
+        if self.items.is_empty() {
+            return Vec::new(alloc);
+        }
         mem::replace(&mut self.items, Vec::new(alloc))
     }
 }
@@ -176,13 +185,12 @@ impl<A: Allocator> AttributeList<A> {
         ensures { self.new ≡ [] }
     {
         self.clear();
-        if attributes.is_empty() {
-            self.items = attributes;
-            return;
+        if attributes.capacity() == 0 {
+            return let_go(attributes);
         }
-        spares.keep_texts(&mut attributes);
+        spares.keep(&mut attributes);
         attributes.clear();
-        self.items = attributes;
+        let_go(mem::replace(&mut self.items, attributes));
     }
 
     /// Whether an attribute has the name.
