@@ -5,3 +5,5 @@ pub mod InComments
 pub mod Runs
 pub mod TagEnds
 pub mod Beginnings
+pub mod AsciiFronts
+pub mod PlainFronts

@@ -1,13 +1,17 @@
 //! Names within a tag, which are read at once from their first letter on.
 #![tactic(auto, unfolding(html5reading::specs::Tag::with_last_attribute))]
 
-ghost use Rattle.std.specs.Prelude.{◌≡◌, ◌≢◌, ◌≤◌, ◌&&◌, not, true, false, IfOk, OnOk};
+ghost use Rattle.std.specs.Prelude.{◌≡◌, ◌≢◌, ◌<◌, ◌≤◌, ◌&&◌, ◌++◌, not, true, false, flat_map, string_bytes, take, IfOk, OnOk};
+ghost use Rattle.std.specs.List.{AllPass};
 ghost use Rattle.std.specs.Str.{chars};
+ghost use Rattle.html5reading.specs.Characters.{name_bytes};
 ghost use Rattle.html5reading.specs.Start.{begun, held_len};
 ghost use Rattle.html5reading.specs.Start.Open.{InTag};
 ghost use Rattle.html5reading.specs.Start.Place.{InName, InAttributeName, BeforeAttribute};
 ghost use Rattle.html5reading.specs.Tag.{has_last, repeats_attribute, with_name, with_last_attribute, with_last_name};
 ghost use Rattle.html5partial.specs.CurrentTag.{open_tag, opened_of, last_name_of};
+ghost use Rattle.html5partial.specs.Runs.{stays_in_names};
+ghost use Rattle.markup5ever.specs.SmallCharSet.{BeginsOutside, IsMember};
 ghost use Rattle.html5fast_path.specs.Quiet.{IsNameIn, ReadsFront, opening_of};
 
 use crate::characters::first_ascii;
@@ -17,13 +21,58 @@ use html5partial::characters::is_letter;
 use html5partial::opened::Opened;
 use html5partial::runs::{attribute_name_ends, push_names, tag_name_ends};
 use markup5ever::small_char_set::SmallCharSet;
+use markup5ever::text::push_text;
 use std::alloc::{AllocError, Allocator};
 
-// How many bytes the name takes with which a text begins, up to what ends it. Where the text begins
-// with no letter, it is none.
+// Whether a byte goes on with a plain name: a letter in lower case, a digit or a dash, which is not in the set.
 #[inline(always)]
-fn name_len(ends: SmallCharSet, text: &str) -> usize
-    ensures { result ≢ 0 → IsNameIn ends text.now result }
+fn goes_on(ends: SmallCharSet, byte: u8) -> bool
+    ensures ascii { result ≡ true → byte < 128 }
+    ensures stays { result ≡ true → stays_in_names byte ≡ true }
+    ensures outside { result ≡ true → ¬ IsMember ends byte }
+{
+    matches!(byte, b'a'..=b'z' | b'0'..=b'9' | b'-') && !ends.contains(char::from(byte))
+}
+
+// How many bytes of plain names a text begins with.
+#[inline(always)]
+fn plain_len(ends: SmallCharSet, text: &str) -> usize
+    ensures outside { BeginsOutside ends text.now result }
+    ensures stays { AllPass stays_in_names (take result text.now) }
+{
+    let bytes = text.as_bytes();
+    for at in 0..bytes.len() {
+        if !goes_on(ends, bytes[at]) {
+            return at;
+        }
+    }
+    bytes.len()
+}
+
+// Whether a text begins with a letter in lower case, as most names do.
+#[inline(always)]
+fn begins_plain(text: &str) -> bool {
+    matches!(text.as_bytes().first(), Some(b'a'..=b'z'))
+}
+
+// How many bytes a text begins with that don't end a name: where only plain ones are wanted, those.
+#[inline(always)]
+fn front_len(ends: SmallCharSet, is_plain: bool, text: &str) -> usize
+    ensures outside { BeginsOutside ends text.now result }
+    ensures stays { is_plain ≡ true → AllPass stays_in_names (take result text.now) }
+{
+    if is_plain {
+        plain_len(ends, text)
+    } else {
+        ends.nonmember_prefix_len(text)
+    }
+}
+
+// How many bytes the front of the name takes with which a text begins. Where the text begins with no letter, it is none.
+#[inline(always)]
+fn name_len(ends: SmallCharSet, is_plain: bool, text: &str) -> usize
+    ensures name { result ≢ 0 → IsNameIn ends text.now result }
+    ensures stays { is_plain ≡ true → AllPass stays_in_names (take result text.now) }
 {
     let Some(first) = first_ascii(text) else {
         return 0;
@@ -31,35 +80,57 @@ fn name_len(ends: SmallCharSet, text: &str) -> usize
     if !is_letter(first) {
         return 0;
     }
-    ends.nonmember_prefix_len(text)
+    front_len(ends, is_plain, text)
 }
 
-// Begins a tag with its name.
+// Appends the front of a name.
+#[inline(always)]
+fn push_front<A: Allocator>(
+    name: &mut String<A>,
+    front: &str,
+    is_plain: bool,
+) -> Result<(), AllocError>
+    requires { is_plain ≡ true → AllPass stays_in_names front.now }
+    ensures { OnOk result (string_bytes name.new
+        ≡ string_bytes name.old ++ flat_map name_bytes (chars front.now)) }
+{
+    if !is_plain {
+        return push_names(name, front);
+    }
+    push_text(name, front)?;
+    Ok(())
+}
+
+// Begins a tag with the front of its name.
 #[inline(always)]
 fn begin_tag<A: Allocator + Copy>(
     at: &mut Opened<A>,
     kind: TagKind,
-    name: &str,
+    front: &str,
+    is_plain: bool,
 ) -> Result<(), AllocError>
-    ensures begun { OnOk result (opened_of at.new ≡ InTag InName (with_name (begun kind) (chars name.now))) }
+    requires { is_plain ≡ true → AllPass stays_in_names front.now }
+    ensures begun { OnOk result (opened_of at.new ≡ InTag InName (with_name (begun kind) (chars front.now))) }
     ensures last { last_name_of at.new ≡ last_name_of at.old }
     ensures held { held_len (opened_of at.new) ≤ held_len (opened_of at.old) }
 {
     at.state = State::TagName;
     at.tag.begin(kind);
-    push_names(&mut at.tag.name, name)
+    push_front(&mut at.tag.name, front, is_plain)
 }
 
-// Begins an attribute with its name. Where the one before it repeats a name, nothing changes.
+// Begins an attribute with the front of its name. Where the one before it repeats a name, nothing changes.
 fn begin_attribute<A: Allocator + Copy>(
     at: &mut Opened<A>,
     alloc: A,
-    name: &str,
+    front: &str,
+    is_plain: bool,
 ) -> Result<bool, AllocError>
+    requires { is_plain ≡ true → AllPass stays_in_names front.now }
     ensures begins { IfOk result (λ begins. begins
         ≡ not (has_last (open_tag at.old.tag) && repeats_attribute (open_tag at.old.tag))) }
     ensures begun { IfOk result (λ begins. begins ≡ true → opened_of at.new
-        ≡ InTag InAttributeName (with_last_name (with_last_attribute (open_tag at.old.tag)) (chars name.now))) }
+        ≡ InTag InAttributeName (with_last_name (with_last_attribute (open_tag at.old.tag)) (chars front.now))) }
     ensures unchanged { IfOk result (λ begins. begins ≡ false → at.new ≡ at.old) }
     ensures last { last_name_of at.new ≡ last_name_of at.old }
     ensures held { held_len (opened_of at.new) ≤ held_len (opened_of at.old) }
@@ -68,11 +139,11 @@ fn begin_attribute<A: Allocator + Copy>(
         return Ok(false);
     }
     at.state = State::AttributeName;
-    push_names(&mut at.tag.attr_name, name)?;
+    push_front(&mut at.tag.attr_name, front, is_plain)?;
     Ok(true)
 }
 
-// Reads the name of a tag after its `<` or `</`. Answers how many bytes it takes.
+// Reads the front of a tag's name after its `<` or `</`. Answers how many bytes it takes.
 #[inline(always)]
 fn read_tag_name<A: Allocator + Copy>(
     at: &mut Opened<A>,
@@ -84,15 +155,16 @@ fn read_tag_name<A: Allocator + Copy>(
     ensures last { last_name_of at.new ≡ last_name_of at.old }
     ensures held { held_len (opened_of at.new) ≤ held_len (opened_of at.old) }
 {
-    let bytes = name_len(tag_name_ends(), text);
+    let is_plain = begins_plain(text);
+    let bytes = name_len(tag_name_ends(), is_plain, text);
     if bytes == 0 {
         return Ok(0);
     }
-    begin_tag(at, kind, &text[..bytes])?;
+    begin_tag(at, kind, &text[..bytes], is_plain)?;
     Ok(bytes)
 }
 
-// Reads the name of an attribute after white space, unless the attribute before it repeats a name.
+// Reads the front of an attribute's name after white space, unless the attribute before it repeats a name.
 // Answers how many bytes it takes.
 #[inline(always)]
 fn read_attribute_name<A: Allocator + Copy>(
@@ -105,18 +177,19 @@ fn read_attribute_name<A: Allocator + Copy>(
     ensures last { last_name_of at.new ≡ last_name_of at.old }
     ensures held { held_len (opened_of at.new) ≤ held_len (opened_of at.old) }
 {
-    let bytes = name_len(attribute_name_ends(), text);
+    let is_plain = begins_plain(text);
+    let bytes = name_len(attribute_name_ends(), is_plain, text);
     if bytes == 0 {
         return Ok(0);
     }
-    if !begin_attribute(at, alloc, &text[..bytes])? {
+    if !begin_attribute(at, alloc, &text[..bytes], is_plain)? {
         return Ok(0);
     }
     Ok(bytes)
 }
 
-/// Reads the name of a tag or of an attribute with which a text begins, where one can begin there.
-/// Answers how many bytes it takes.
+/// Reads the front of the name of a tag or of an attribute with which a text begins, where one can begin
+/// there. Answers how many bytes it takes.
 #[inline(always)]
 pub fn read_name<A: Allocator + Copy>(
     at: &mut Opened<A>,

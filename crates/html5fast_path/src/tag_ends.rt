@@ -1,6 +1,4 @@
 //! The `>` of a tag that has no error.
-#![tactic(auto, unfolding(html5reading::specs::Machine::step_at, html5reading::specs::Machine::tag_step, html5reading::specs::Machine::tag_name_step, html5reading::specs::Machine::part_step, html5reading::specs::Machine::attribute_name_step, html5reading::specs::Tag::in_tag_name, html5reading::specs::Tag::in_attribute_name, html5reading::specs::Tag::place_error, html5reading::specs::Characters::is_white_space))]
-
 ghost use Rattle.std.specs.Prelude.{◌≡◌, Bool, [], true, false, IfOk, IfSome};
 ghost use Rattle.html5reading.specs.Characters.{greater_than};
 ghost use Rattle.html5reading.specs.Machine.{closing_step, step_at};
@@ -17,6 +15,7 @@ use html5partial::opened::Opened;
 use std::alloc::{AllocError, Allocator};
 
 // Where a `>` ends the open tag, and has no error of its place: whether the tag closes itself.
+#[tactic(auto, unfolding(html5reading::specs::Machine::step_at, html5reading::specs::Machine::tag_step, html5reading::specs::Machine::tag_name_step, html5reading::specs::Machine::part_step, html5reading::specs::Machine::attribute_name_step, html5reading::specs::Tag::in_tag_name, html5reading::specs::Tag::in_attribute_name, html5reading::specs::Tag::place_error, html5reading::specs::Characters::is_white_space))]
 #[inline(always)]
 fn self_closing_at<A: Allocator>(at: &Opened<A>) -> Option<bool>
     ensures { IfSome result (λ self_closing. (exact : Bool) → step_at exact (opened_of at.now) greater_than

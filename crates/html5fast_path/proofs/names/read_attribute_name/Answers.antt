@@ -16,7 +16,7 @@ returns-then-bytes-eq0-clause-reads g c = front-nothing _ _ _ c.utf8.text refl
 
 pub range-requires-clause-end_boundary : goal.range-requires-clause-end_boundary
 range-requires-clause-end_boundary g c =
-    let name = c.name_len-bytes.ensures c.if-bytes-eq0.false in
+    let name = c.name_len-bytes.ensures.name c.if-bytes-eq0.false in
     IsCharBoundary-from_drop c.args.text.now c.name_len-bytes.result name.outside.within name.outside.rest_utf8
 
 pub returns-then-not-branch-clause-reads : goal.returns-then-not-branch-clause-reads
@@ -28,7 +28,7 @@ returns-clause-reads g c =
     let bytes = c.name_len-bytes.result in
     let tag = open_tag c.args.at.now.tag in
     let begins = c.in_ok-begin_attribute.ensures in
-    reads-attribute_name tag c.attribute_name_ends.result _ text bytes _ _ refl c.attribute_name_ends.ensures (c.name_len-bytes.ensures c.if-bytes-eq0.false)
+    reads-attribute_name tag c.attribute_name_ends.result _ text bytes _ _ refl c.attribute_name_ends.ensures (c.name_len-bytes.ensures.name c.if-bytes-eq0.false)
     (not-true _ (sym begins.begins ∙ c.if-not-branch.false)) c.requires
     (begins.begun c.if-not-branch.false
     ∙ ap (λ t. InTag InAttributeName (with_last_name (with_last_attribute tag) (chars t))) (c.range.ensures.value ∙ range_from_start text bytes))
