@@ -9,8 +9,11 @@ use std::simd::prelude::*;
 // How many bytes are looked at in one step.
 const BLOCK: usize = 16;
 
-// How many are of a shorter text.
+// How many are of a text that is shorter than a block.
 const HALF: usize = 8;
+
+// How many are of one that is shorter than half a block.
+const QUARTER: usize = 4;
 
 /// How the characters of a stream come in: the line that was reached, and whether the next character
 /// may be dropped.
@@ -120,11 +123,11 @@ fn line_feeds(text: &str) -> u64
     let mut found = 0;
     let mut at = 0;
     while BLOCK <= bytes.len() - at {
-        found += line_feeds_in_block(bytes, at, 0);
+        found += line_feeds_in_block::<BLOCK>(bytes, at, 0);
         at += BLOCK;
     }
     let last = bytes.len() - BLOCK;
-    found + line_feeds_in_block(bytes, last, at - last)
+    found + line_feeds_in_block::<BLOCK>(bytes, last, at - last)
 }
 
 // How many line feeds a text has that is shorter than a block.
@@ -134,8 +137,10 @@ fn line_feeds_in_few(bytes: &[u8]) -> u64
     ensures { result ≡ count_by (λ b. b == line_feed) bytes.now }
 {
     if HALF <= bytes.len() {
-        let last = bytes.len() - HALF;
-        return line_feeds_in_half(bytes, 0, 0) + line_feeds_in_half(bytes, last, HALF - last);
+        return line_feeds_in_ends::<HALF>(bytes);
+    }
+    if QUARTER <= bytes.len() {
+        return line_feeds_in_ends::<QUARTER>(bytes);
     }
     let mut found = 0;
     for place in 0..bytes.len() {
@@ -144,30 +149,31 @@ fn line_feeds_in_few(bytes: &[u8]) -> u64
     found
 }
 
-// How many line feeds a block has after its first bytes, whose own were counted. All bytes are looked at at once.
+// How many line feeds a text has, by the blocks of so many lanes that it begins and ends with, which may overlap.
 #[inline(always)]
-fn line_feeds_in_block(bytes: &[u8], from: usize, counted: usize) -> u64
-    requires within { from + 16 ≤ length bytes.now }
-    requires counted { counted ≤ 16 }
-    ensures counts { count_by (λ b. b == line_feed) (take (from + counted) bytes.now) + result
-        ≡ count_by (λ b. b == line_feed) (take (from + 16) bytes.now) }
-    ensures few { result ≤ 16 }
+fn line_feeds_in_ends<const LANES: usize>(bytes: &[u8]) -> u64
+    requires lanes { LANES < 64 }
+    requires within { LANES ≤ length bytes.now }
+    requires reaches { length bytes.now ≤ LANES + LANES }
+    ensures { result ≡ count_by (λ b. b == line_feed) bytes.now }
 {
-    let block = u8x16::from_slice(&bytes[from..]);
-    let found = block.simd_eq(u8x16::splat(b'\n'));
-    u64::from((found.to_bitmask() >> counted).count_ones())
+    let last = bytes.len() - LANES;
+    line_feeds_in_block::<LANES>(bytes, 0, 0)
+        + line_feeds_in_block::<LANES>(bytes, last, LANES - last)
 }
 
-// The same for half a block.
+// How many line feeds a block of so many lanes has after its first bytes, whose own were counted. All bytes are looked at
+// at once.
 #[inline(always)]
-fn line_feeds_in_half(bytes: &[u8], from: usize, counted: usize) -> u64
-    requires within { from + 8 ≤ length bytes.now }
-    requires counted { counted ≤ 8 }
+fn line_feeds_in_block<const LANES: usize>(bytes: &[u8], from: usize, counted: usize) -> u64
+    requires lanes { LANES < 64 }
+    requires within { from + LANES ≤ length bytes.now }
+    requires counted { counted ≤ LANES }
     ensures counts { count_by (λ b. b == line_feed) (take (from + counted) bytes.now) + result
-        ≡ count_by (λ b. b == line_feed) (take (from + 8) bytes.now) }
-    ensures few { result ≤ 8 }
+        ≡ count_by (λ b. b == line_feed) (take (from + LANES) bytes.now) }
+    ensures few { result ≤ LANES }
 {
-    let block = u8x8::from_slice(&bytes[from..]);
-    let found = block.simd_eq(u8x8::splat(b'\n'));
+    let block = Simd::<u8, LANES>::from_slice(&bytes[from..]);
+    let found = block.simd_eq(Simd::<u8, LANES>::splat(b'\n'));
     u64::from((found.to_bitmask() >> counted).count_ones())
 }
