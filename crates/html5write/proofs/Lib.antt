@@ -15,7 +15,10 @@ pub mod FirstCharacters
 pub mod LoneDashes
 pub mod Repeats
 pub mod Refused
+pub mod Grown
+pub mod SmallWords
 pub mod Bytes
 pub mod PlainRuns
+pub mod Looked
 pub mod Said
 pub mod PiecesLemmas

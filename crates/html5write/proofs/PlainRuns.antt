@@ -7,7 +7,7 @@ use lib.Count.{count_trailing_zeros}
 use lib.Lanes.{chunk, zip2, mask_l, top}
 use Rattle.std.proofs.lemmas.Simd.{map-map, length-chunk, zip2_splat, zip2_of_maps, mask_l-mod, first_set_mask_l, run_in_chunk_le, run_in_chunk_fails, run_in_chunk_stops}
 use Rattle.std.proofs.lemmas.Bool.{agree_below_at, cases_eq, cases_lt, ne_eqb, false_from_ne_true, true≢false}
-use Rattle.std.proofs.lemmas.List.{append-nil, append_assoc, take_at, drop_at, take-append-drop, length-append, drop_all, at_drop_more, get_or-take, length-take-le, length-drop, length-map}
+use Rattle.std.proofs.lemmas.List.{append-nil, append_assoc, take_at, drop_at, take_all, take-append-drop, length-append, drop_all, at_drop_more, get_or-take, length-take-le, length-drop, length-map}
 use Rattle.std.proofs.lemmas.List.Concat.{flat_map-append}
 use Rattle.std.proofs.lemmas.List.Elements.{All-take, All-drop, All-get_or, All-from_get_or}
 use Rattle.std.proofs.lemmas.Str.{chars-append, chars-nil, chars_past_char, encodes-append, encodes-chars, length-encode, len_utf8_bounds, IsCharBoundary-before_ascii, IsCharBoundary-end, IsCharBoundary-from_drop, IsUtf8-drop, IsUtf8-take}
@@ -15,7 +15,7 @@ use Rattle.markup5ever.specs.Blocks.{NoneWithin, IsFirstFrom}
 use Rattle.html5reading.specs.Characters.{null}
 use Rattle.html5write.specs.Escaped.{escaped, escaped_text}
 use Rattle.html5write.specs.Refusals.{null_from}
-use Rattle.html5write.specs.Runs.{is_stop, IsStop, NoStopWithin, IsNull, BeginsPlain}
+use Rattle.html5write.specs.Runs.{is_stop, IsStop, NoStopWithin, IsNull, BeginsPlain, IsPlainText}
 use Rattle.html5write.proofs.Characters.{each_character, escaped-plain}
 use Rattle.html5write.proofs.Bytes.{bytes-escaped}
 use Rattle.html5write.proofs.FirstCharacters.{null-here}
@@ -219,6 +219,18 @@ module _ (text : List ℕ) (at : ℕ) (utf8 : IsUtf8 text) (first : IsFirstFrom 
       let end : at ≡ length text = omega (arith, past, first.high) in
       let cut : IsCharBoundary text at = rw end (IsCharBoundary-end text) in
       from-there cut ∙ ap (null_from at) (ap chars (drop_all at text past) ∙ chars-nil)
+
+-- ---- a text with no stop
+
+pub plain-text : (text : List ℕ) (len : ℕ) → IsUtf8 text → IsFirstFrom IsStop text 0 len → len ≡ length text → IsPlainText text
+plain-text text len utf8 first end =
+    let none : IsFirstFrom IsNull text 0 len = record { low = first.low; high = first.high; none_before = no_null-first text len first; stops = λ less. absurd (omega (arith, less, end)) } in
+    let whole : take len text ≡ text = take_all len text (omega (arith, end)) in
+    let begins = BeginsPlain-stops text len utf8 first in
+    record {
+      no_null = null-nowhere text len utf8 none (omega (arith, end));
+      plain = ap encode_utf8_all (rw whole at begins.plain) ∙ encodes-chars text utf8;
+    }
 
 -- ---- what is appended of a text
 

@@ -4,3 +4,5 @@ pub mod Told
 pub mod Writing
 pub mod Refusals
 pub mod Runs
+pub mod Looked
+pub mod SmallWords

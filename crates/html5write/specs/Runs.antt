@@ -1,8 +1,9 @@
 -- Texts of which a run of characters is written as it is. These are words of the proofs: no promise to callers is made of them.
-use Rattle.std.specs.Prelude.{◌≡◌, ℕ, Bool, true, ◌≤◌, List, length, take, drop, ◌==◌, ◌||◌}
+use Rattle.std.specs.Prelude.{◌≡◌, ℕ, Bool, true, ◌≤◌, List, length, take, drop, ◌==◌, ◌||◌, None, encode_utf8_all}
 use Rattle.std.specs.Str.{IsUtf8, chars}
 use Rattle.markup5ever.specs.Blocks.{NoneWithin}
 use Rattle.html5write.specs.Escaped.{escaped_text}
+use Rattle.html5write.specs.Refusals.{null_from}
 
 -- whether a byte is NUL, or may begin a character that is written as a reference: 0xEF begins U+FEFF, and others
 unfoldable pub is_stop : ℕ → Bool
@@ -25,3 +26,8 @@ pub record BeginsPlain (text : List ℕ) (len : ℕ) : Type 0 where
   pub within : len ≤ length text
   pub rest_utf8 : IsUtf8 (drop len text)
   pub plain : escaped_text (chars (take len text)) ≡ chars (take len text)
+
+-- the text can be written, and its own bytes are written for it
+pub record IsPlainText (text : List ℕ) : Type 0 where
+  pub no_null : null_from 0 (chars text) ≡ None
+  pub plain : encode_utf8_all (escaped_text (chars text)) ≡ text

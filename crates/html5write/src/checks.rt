@@ -1,8 +1,9 @@
 //! Which pieces can be written.
-ghost use Rattle.std.specs.Prelude.{◌≡◌, ◌+◌, ◌<◌, ◌^◌, encode_utf8_all, length, map, not, option_map};
+ghost use Rattle.std.specs.Prelude.{◌≡◌, true, ◌+◌, ◌<◌, ◌^◌, encode_utf8_all, length, map, not, option_map};
 ghost use Rattle.std.specs.List.{list_all};
 ghost use Rattle.std.specs.Option.{option_or};
 ghost use Rattle.std.specs.Str.{chars, bytes_eq};
+ghost use Rattle.html5write.specs.SmallWords.{IsNameOfBoth, is_small_letter};
 ghost use Rattle.html5write.specs.Pieces.{is_attribute_character, is_attribute_name, is_comment_character, is_comment_text, is_name_character, is_tag_name, has_lone_dashes, can_begin_comment};
 ghost use Rattle.html5write.specs.Pieces.Piece.{StartTagPiece};
 ghost use Rattle.html5write.specs.Refusals.{attribute_refusal, attributes_refusal, null_from, refusal_of, repeat_from};
@@ -46,8 +47,32 @@ fn has_attribute_characters(text: &str) -> bool
     text.chars().all(is_attribute_character)
 }
 
-/// Whether a text can be the name of a tag: another would not be read as itself.
-pub fn is_tag_name(name: &str) -> bool
+// Whether a byte is a small ASCII letter.
+#[inline(always)]
+fn is_small_letter(byte: u8) -> bool
+    ensures { result ≡ is_small_letter byte }
+{
+    byte.is_ascii_lowercase()
+}
+
+// Whether each byte of a text is one.
+#[inline(always)]
+fn has_small_letters(text: &str) -> bool
+    ensures { result ≡ list_all is_small_letter text.now }
+{
+    text.bytes().all(is_small_letter)
+}
+
+// Whether a text has small letters alone, as most names have: then it is the name of a tag, and of an attribute.
+#[inline(always)]
+fn is_small_word(text: &str) -> bool
+    ensures { result ≡ true → IsNameOfBoth text.now }
+{
+    !text.is_empty() && has_small_letters(text)
+}
+
+// Whether a text can be the name of a tag, character by character.
+fn is_any_tag_name(name: &str) -> bool
     ensures { result ≡ is_tag_name (chars name.now) }
 {
     let mut characters = name.chars();
@@ -57,8 +82,15 @@ pub fn is_tag_name(name: &str) -> bool
     }
 }
 
-/// Whether a text can be the name of an attribute: another would not be read as itself.
-pub fn is_attribute_name(name: &str) -> bool
+/// Whether a text can be the name of a tag: another would not be read as itself.
+pub fn is_tag_name(name: &str) -> bool
+    ensures { result ≡ is_tag_name (chars name.now) }
+{
+    is_small_word(name) || is_any_tag_name(name)
+}
+
+// Whether a text can be the name of an attribute, character by character.
+fn is_any_attribute_name(name: &str) -> bool
     ensures { result ≡ is_attribute_name (chars name.now) }
 {
     let mut characters = name.chars();
@@ -68,6 +100,13 @@ pub fn is_attribute_name(name: &str) -> bool
         }
         None => false,
     }
+}
+
+/// Whether a text can be the name of an attribute: another would not be read as itself.
+pub fn is_attribute_name(name: &str) -> bool
+    ensures { result ≡ is_attribute_name (chars name.now) }
+{
+    is_small_word(name) || is_any_attribute_name(name)
 }
 
 // The byte at which the first NUL of a text stands.
@@ -205,6 +244,7 @@ fn attributes_refusal(attributes: &[Attribute<'_>]) -> Option<WriteError>
 }
 
 // What is wrong with a start tag.
+#[inline(always)]
 #[tactic(auto, unfolding(crate::specs::Refusals::refusal_of))]
 fn start_tag_refusal(name: &str, attributes: &[Attribute<'_>]) -> Option<WriteError>
     ensures { result ≡ refusal_of (StartTagPiece (chars name.now) (map attribute_of attributes.now)) }
@@ -217,6 +257,7 @@ fn start_tag_refusal(name: &str, attributes: &[Attribute<'_>]) -> Option<WriteEr
 }
 
 /// Why the piece can't be written, where it can't: of several reasons the first in the order of the text.
+#[inline(always)]
 #[tactic(auto, unfolding(crate::specs::Refusals::refusal_of))]
 pub fn refusal_of(piece: &Piece<'_>) -> Option<WriteError>
     ensures { result ≡ refusal_of (piece_of piece.now) }

@@ -1,7 +1,7 @@
 //! Searches for what can't be written as it is, many bytes a step.
 ghost use Rattle.std.specs.Prelude.{◌≡◌, ◌+◌, ◌≤◌, true, false, length};
 ghost use Rattle.markup5ever.specs.Blocks.{IsFirstFrom};
-ghost use Rattle.html5write.specs.Runs.{BeginsPlain, IsNull, IsStop, NoStopWithin, is_stop};
+ghost use Rattle.html5write.specs.Runs.{BeginsPlain, IsNull, IsPlainText, IsStop, NoStopWithin, is_stop};
 
 use markup5ever::blocks::{BLOCK, Sought, first_from, lowest_bit};
 use std::simd::prelude::*;
@@ -90,6 +90,14 @@ pub fn plain_prefix_len(text: &str) -> usize
     ensures { BeginsPlain text.now result }
 {
     first_from(&Stops {}, text.as_bytes(), 0)
+}
+
+/// Whether it is seen in one search that a text can be written, and is written as it is.
+#[inline(always)]
+pub fn is_plain(text: &str) -> bool
+    ensures { result ≡ true → IsPlainText text.now }
+{
+    first_from(&Stops {}, text.as_bytes(), 0) == text.len()
 }
 
 /// The place of the first NUL, or the end.

@@ -1,27 +1,40 @@
 //! A writer of pages.
 ghost use Rattle.std.specs.Prelude.{◌≡◌, ◌++◌, ◌∷◌, [], List, IfOk, IsOkUnless, OnErr, OnOk, chars, encode_utf8_all, map, string_bytes, true};
 ghost use Rattle.std.specs.List.{list_all};
+ghost use Rattle.markup5ever.specs.Lists.{BeginsWith};
 ghost use Rattle.html5write.specs.Pieces as pieces;
 ghost use Rattle.html5write.specs.Pieces.{can_write, pieces_text, piece_text};
 ghost use Rattle.html5write.specs.Pieces.Piece.{CommentPiece, EndTagPiece, StartTagPiece, TextPiece};
 ghost use Rattle.html5write.specs.Writing.{IsTextOf, Writes, WritesBoth, attribute_of, piece_of};
 ghost use Rattle.html5write.specs.declared.error.WriteError.TheVariants.{Memory};
 
-use crate::appending::push_piece;
+use crate::appending::whole_or_nothing;
 use crate::error::WriteError;
 use crate::piece::{Attribute, Piece};
 use crate::trail::Trail;
 use crate::writable::Writable;
-use std::alloc::{Allocator, Global};
+use std::alloc::{AllocError, Allocator, Global};
 use std::marker::Model;
+
+// Appends two pieces. Where memory is refused, a part may be left.
+fn push_both<A: Allocator>(
+    out: &mut String<A>,
+    first: &Writable<'_>,
+    second: &Writable<'_>,
+) -> Result<(), AllocError>
+    ensures ok { OnOk result (string_bytes out.new ≡ string_bytes out.old
+        ++ (encode_utf8_all (piece_text (piece_of first.now)) ++ encode_utf8_all (piece_text (piece_of second.now)))) }
+    ensures err { OnErr result (BeginsWith (string_bytes out.new) (string_bytes out.old)) }
+{
+    first.push_to(out)?;
+    second.push_to(out)
+}
 
 /// A page that is written piece by piece. Contracts see the pieces that it has, in order: all of them can
 /// be written, and so `laws::all_pieces` and `laws::whole_text` say how the page is read.
 #[derive(Drop)]
 pub struct Writer<A: Allocator = Global> {
     written: String<A>,
-    // The piece that is being written, until it is whole.
-    piece: String<A>,
     trail: Trail,
 }
 
@@ -40,7 +53,6 @@ impl<A: Allocator + Copy> Writer<A> {
     {
         Writer {
             written: String::new(alloc),
-            piece: String::new(alloc),
             trail: Trail::new(),
         }
     }
@@ -59,11 +71,10 @@ impl<A: Allocator + Copy> Writer<A> {
         ensures unchanged { OnErr result (self.new ≡ self.old) }
         ensures memory { IsOkUnless result Memory }
     {
-        let piece = piece.piece();
-        self.piece.clear();
-        push_piece(&mut self.piece, &piece)?;
-        self.written.push_str(self.piece.as_str())?;
-        self.trail.add(&piece);
+        let len = self.written.len();
+        let appended = piece.push_to(&mut self.written);
+        whole_or_nothing(&mut self.written, len, appended)?;
+        self.trail.add(&piece.piece());
         Ok(())
     }
 
@@ -88,14 +99,11 @@ impl<A: Allocator + Copy> Writer<A> {
         ensures unchanged { OnErr result (self.new ≡ self.old) }
         ensures memory { IsOkUnless result Memory }
     {
-        let first = first.piece();
-        let second = second.piece();
-        self.piece.clear();
-        push_piece(&mut self.piece, &first)?;
-        push_piece(&mut self.piece, &second)?;
-        self.written.push_str(self.piece.as_str())?;
-        self.trail.add(&first);
-        self.trail.add(&second);
+        let len = self.written.len();
+        let appended = push_both(&mut self.written, first, second);
+        whole_or_nothing(&mut self.written, len, appended)?;
+        self.trail.add(&first.piece());
+        self.trail.add(&second.piece());
         Ok(())
     }
 

@@ -1,20 +1,32 @@
-use Rattle.std.proofs.Common.{[], ◌∷◌, ◌++◌, string_bytes, sym, ap, ◌∙◌, subst}
-use Rattle.std.specs.Prelude.{encode_utf8_all}
-use Rattle.html5write.specs.Pieces.{piece_text}
+use Rattle.std.proofs.Common.{◌≡◌, true, [], ◌∷◌, ◌++◌, string_bytes, sym, ap, ◌∙◌, subst}
+use Rattle.std.specs.Prelude.{encode_utf8_all, OnOk}
+use Rattle.std.proofs.lemmas.Result.{on_err_weaker}
+use Rattle.std.proofs.lemmas.Str.{IsUtf8-string_bytes}
+use Rattle.html5write.specs.Pieces.{piece_text, can_write}
 use Rattle.html5write.specs.Writing.{IsTextOf, piece_of}
+use Rattle.html5write.proofs.Grown.{front_cut}
 use Rattle.html5write.proofs.PiecesLemmas.{written-both}
 use Rattle.html5write.proofs.Refused.{can-write}
 use Rattle.html5write.proofs.writer.Writer.put_both.Goals as goal
 
+pub whole_or_nothing-requires : goal.whole_or_nothing-requires
+whole_or_nothing-requires g c =
+    let written = c.push_both-appended.new.out in
+    on_err_weaker c.push_both-appended.result
+    (front_cut (string_bytes written) (string_bytes c.self.inside.written) c.len-len.result (IsUtf8-string_bytes written) (IsUtf8-string_bytes c.self.inside.written) (c.len-len.ensures ∙ c.self.inside.written.bytes.ok.0))
+    c.push_both-appended.ensures.err
+
 pub invariant_of-self-2 : goal.invariant_of-self-2
 invariant_of-self-2 g c =
-    let first = piece_of c.piece-first.result in
-    let second = piece_of c.piece-second.result in
-    let one = c.in_ok-push_piece.ensures ∙ ap (λ l. l ++ encode_utf8_all (piece_text first)) c.clear.ensures.bytes in
-    let both = c.as_str.ensures.value ∙ c.in_ok-push_piece-2.ensures ∙ ap (λ l. l ++ encode_utf8_all (piece_text second)) one in
-    subst (λ pieces. IsTextOf (string_bytes c.push_str.new.self) pieces)
-    (sym (c.add-2.ensures ∙ ap (λ pieces. pieces ++ second ∷ []) c.add.ensures))
-    (written-both (string_bytes c.self.inside.written) (string_bytes c.push_str.new.self) c.self.inside.trail.pieces first second c.self.invariant
-    (c.in_ok-push_str.ensures.bytes ∙ ap (λ l. string_bytes c.self.inside.written ++ l) both)
-    (can-write first c.piece-first.ensures.writable)
-    (can-write second c.piece-second.ensures.writable))
+    let first = piece_of c.args.first.now in
+    let second = piece_of c.args.second.now in
+    let after = string_bytes c.whole_or_nothing.new.out in
+    let before = string_bytes c.self.inside.written in
+    let appended = subst (λ r. OnOk r (string_bytes c.push_both-appended.new.out ≡ before ++ (encode_utf8_all (piece_text first) ++ encode_utf8_all (piece_text second)))) (sym c.in_ok-whole_or_nothing.ensures.same) c.push_both-appended.ensures.ok in
+    subst (λ pieces. IsTextOf after pieces)
+    (sym (c.add-2.ensures
+    ∙ ap (λ p. c.add.new.self.pieces ++ piece_of p ∷ []) c.piece-2.ensures.same
+    ∙ ap (λ pieces. pieces ++ second ∷ []) (c.add.ensures ∙ ap (λ p. c.self.inside.trail.pieces ++ piece_of p ∷ []) c.piece.ensures.same)))
+    (written-both before after c.self.inside.trail.pieces first second c.self.invariant (c.in_ok-whole_or_nothing.ensures.ok ∙ appended)
+    (subst (λ p. can_write (piece_of p) ≡ true) c.piece.ensures.same (can-write (piece_of c.piece.result) c.piece.ensures.writable))
+    (subst (λ p. can_write (piece_of p) ≡ true) c.piece-2.ensures.same (can-write (piece_of c.piece-2.result) c.piece-2.ensures.writable)))

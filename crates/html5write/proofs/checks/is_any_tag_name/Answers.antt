@@ -6,7 +6,7 @@ use Rattle.std.specs.Str.Iter.{chars_rest}
 use Rattle.std.proofs.lemmas.List.{nil_from_length}
 use Rattle.html5write.specs.Pieces.{is_name_character}
 use Rattle.html5write.proofs.FirstCharacters.{tag_name-first, tag_name-none}
-use Rattle.html5write.proofs.checks.is_tag_name.Goals as goal
+use Rattle.html5write.proofs.checks.is_any_tag_name.Goals as goal
 
 pub returns-then-is_ascii_lowercase : goal.returns-then-is_ascii_lowercase
 returns-then-is_ascii_lowercase c =

@@ -6,7 +6,7 @@ use Rattle.std.specs.Str.Iter.{chars_rest}
 use Rattle.std.proofs.lemmas.List.{nil_from_length}
 use Rattle.html5write.specs.Pieces.{is_attribute_character}
 use Rattle.html5write.proofs.FirstCharacters.{attribute_name-first, attribute_name-none}
-use Rattle.html5write.proofs.checks.is_attribute_name.Goals as goal
+use Rattle.html5write.proofs.checks.is_any_attribute_name.Goals as goal
 
 pub returns-then-is_attribute_character : goal.returns-then-is_attribute_character
 returns-then-is_attribute_character c =
