@@ -1,6 +1,6 @@
 -- What a policy writes into links.
-use Rattle.std.proofs.Common.{◌≡◌, ℕ, Bool, true, false, List, [], ◌∷◌, ◌++◌, filter, sym, ap, ◌∙◌}
-use Rattle.std.specs.Prelude.{◌&&◌, codes, if◌then◌else◌}
+use Rattle.std.proofs.Common.{◌≡◌, ℕ, Bool, true, false, List, [], ◌∷◌, ◌++◌, filter, refl, sym, ap, ◌∙◌}
+use Rattle.std.specs.Prelude.{◌&&◌, codes, encode_utf8_all, if◌then◌else◌}
 use Rattle.std.specs.List.{list_any}
 use Rattle.html5policy.specs.Policy.{PolicyOf, is_rel_of_link}
 use Rattle.html5write.specs.Pieces.{NameAndValue}
@@ -37,3 +37,12 @@ kept-link policy element attributes kept adds is adds_is on =
     let passed = filter (is_kept_attribute policy element) attributes in
     let some : adds_noopener policy element passed ≡ true = ap (adds_noopener policy element) (sym is) ∙ sym adds_is ∙ on in
     ap (λ l. l ++ noopener_attribute ∷ []) is ∙ sym (ap (λ b. if b then passed ++ noopener_attribute ∷ [] else passed) some)
+
+-- none is kept of none
+and-none : (a : Bool) → (a && false) ≡ false
+and-none true = refl
+and-none false = refl
+
+pub kept-none : (policy : PolicyOf) (element : List ℕ) → kept_attributes policy element [] ≡ []
+unfolding kept_attributes
+kept-none policy element = ap (λ b. if b then [] ++ noopener_attribute ∷ [] else []) (and-none (is_rel_of_link policy (encode_utf8_all element) (codes "rel")))

@@ -5,7 +5,7 @@ ghost use Rattle.html5nested.specs.PageItems.{items_of, items_of_piece};
 ghost use Rattle.html5write.specs.Pieces.Piece.{EndTagPiece, StartTagPiece, TextPiece};
 ghost use Rattle.html5write.specs.Writing.{attribute_of, piece_of};
 ghost use Rattle.html5cleaner.specs.Balance.{is_end, open_by, written_by};
-ghost use Rattle.html5cleaner.specs.Clean.{kept_of_run, kept_of_tag, kept_where};
+ghost use Rattle.html5cleaner.specs.Clean.{attribute_chars, kept_attributes, kept_of_run, kept_of_tag, kept_where};
 ghost use Rattle.html5cleaner.specs.Fits.{IsFit};
 ghost use Rattle.html5cleaner.specs.declared.fitting.Fit.TheVariants.{Opens};
 ghost use Rattle.html5cleaner.specs.Kept.{AddsAll, AddsLast, Settles, piece_where};
@@ -187,7 +187,30 @@ fn write_within<A: Allocator + Copy>(
     }
 }
 
-// Writes what is kept of a run of text and the tag after it so that it fits, all of it or nothing.
+// Writes what is kept of a run of text and the tag after it so that it fits, all of it or nothing, where these of the tag's
+// attributes are kept.
+fn keep_tag_with<A: Allocator + Copy>(
+    alloc: A,
+    policy: &Policy<A>,
+    opened: &mut Opened<A>,
+    page: &mut Writer<A>,
+    run: &str,
+    tag: &Tag<A>,
+    attributes: &[Attribute<'_>],
+) -> Result<Pending, WriteError>
+    requires limit { opened.old.tree.limit ≡ policy.now.depth }
+    requires kept { map attribute_of attributes.now ≡ kept_attributes policy.now (chars (tag_of tag.now).name)
+        (map attribute_chars (tag_of tag.now).attributes) }
+    ensures { Settles (Tree opened.old.tree.limit) result page.old page.new opened.old opened.new
+        (written_by (Tree opened.old.tree.limit) false opened.old.tree.opened (kept_of_run run.now ++ kept_of_tag policy.now (tag_of tag.now)))
+        (open_by (Tree opened.old.tree.limit) false opened.old.tree.opened (kept_of_run run.now ++ kept_of_tag policy.now (tag_of tag.now))) }
+{
+    let tag = kept_tag(policy, tag.kind, &tag.name.0, attributes);
+    write_within(alloc, policy.depth(), opened, page, kept_run(run), tag)
+}
+
+// Writes what is kept of a run of text and the tag after it so that it fits, all of it or nothing. Most tags have no
+// attribute.
 fn keep_tag<A: Allocator + Copy>(
     alloc: A,
     policy: &Policy<A>,
@@ -201,9 +224,11 @@ fn keep_tag<A: Allocator + Copy>(
         (written_by (Tree opened.old.tree.limit) false opened.old.tree.opened (kept_of_run run.now ++ kept_of_tag policy.now (tag_of tag.now)))
         (open_by (Tree opened.old.tree.limit) false opened.old.tree.opened (kept_of_run run.now ++ kept_of_tag policy.now (tag_of tag.now))) }
 {
+    if tag.attrs.is_empty() {
+        return keep_tag_with(alloc, policy, opened, page, run, tag, &[]);
+    }
     let attributes = kept_attributes(alloc, policy, &tag.name.0, &tag.attrs)?;
-    let tag = kept_tag(policy, tag.kind, &tag.name.0, &attributes);
-    write_within(alloc, policy.depth(), opened, page, kept_run(run), tag)
+    keep_tag_with(alloc, policy, opened, page, run, tag, &attributes)
 }
 
 /// Writes what is kept of a run of text and the token after it so that it fits, all of it or nothing, where so many

@@ -21,6 +21,7 @@ pub fn is_end<A: Allocator>(token: &Token<A>) -> bool
 }
 
 // The piece, where it can be written.
+#[inline(always)]
 fn where_writable(piece: Piece<'_>) -> Option<Writable<'_>>
     ensures { piece_where result ≡ where_writable (piece_of piece.entry) }
 {
