@@ -1,10 +1,12 @@
-use Rattle.std.proofs.Common.{◌≡◌, ℕ, List, chars, map, ap, ◌∙◌}
+use Rattle.std.proofs.Common.{chars, map, string_bytes, sym, ap, ◌∙◌, arith}
+use Rattle.std.proofs.lemmas.List.{nil_from_length}
 use Rattle.markup5ever.specs.Names.{attribute_of}
-use Rattle.html5policy.specs.Policy.{PolicyOf}
-use Rattle.html5write.specs.Pieces.{NameAndValue}
-use Rattle.html5write.specs.Writing as writing
 use Rattle.html5cleaner.specs.Clean.{attribute_chars, kept_attributes}
+use Rattle.html5cleaner.proofs.Links.{kept-none}
 use Rattle.html5cleaner.proofs.in_tree.keep_tag.Goals as goal
 
-attributes-same : (policy : PolicyOf) (a b : List ℕ) (x y : List NameAndValue) → a ≡ b → x ≡ y → kept_attributes policy a x ≡ kept_attributes policy b y
-attributes-same policy a b x y element same = ap (λ e. kept_attributes policy e x) element ∙ ap (kept_attributes policy b) same
+pub keep_tag_with-requires-clause-kept : goal.keep_tag_with-requires-clause-kept
+keep_tag_with-requires-clause-kept g c =
+    let none = nil_from_length c.args.tag.now.attrs.items (grind (arith, c.is_empty.ensures, c.if-is_empty.true)) in
+    sym (ap (λ l. kept_attributes c.args.policy.now (chars (string_bytes c.args.tag.now.name.0)) (map attribute_chars (map attribute_of l))) none
+    ∙ kept-none c.args.policy.now (chars (string_bytes c.args.tag.now.name.0)))
