@@ -9,11 +9,10 @@ out=$here/out
 kit=$(dirname "$(rt doc)")
 version=$(sed -n 's/^#define FIRNUUBAL_VERSION "\(.*\)"/\1/p' c/firnuubal.h)
 
-# The library of the crate, over the libraries that a gate passed, by up to four jobs: each wants some 1.5 GB.
+# The library of the crate, over the libraries that a gate passed.
 proved() {
     python3 ../tools/stamps.py || true
-    jobs=$(nproc)
-    (cd ../crates/html5c && rt lib --jobs "$((jobs < 4 ? jobs : 4))") >"$out/rt.log" 2>&1 &
+    (cd ../crates/html5c && rt lib) >"$out/rt.log" 2>&1 &
     tail -n +1 -f --pid=$! "$out/rt.log" | sed -u -n 's/^crate \([^:]*\):.*/bindings: \1 is proved/p'
     wait $! || {
         tail -20 "$out/rt.log"
