@@ -7,7 +7,7 @@ ghost use Rattle.html5reading.specs.Tag.{attribute, has_attribute};
 ghost use Rattle.markup5ever.specs.Names.{attribute_of};
 
 use crate::spares::Spares;
-use markup5ever::interface::Attribute;
+use markup5ever::interface::{Attribute, LocalName, Namespace, QualName};
 use std::alloc::{AllocError, Allocator, Global};
 use std::collections::BTreeSet;
 use std::marker::Model;
@@ -100,14 +100,18 @@ fn index_with<A: Allocator + Copy>(
 }
 
 // Appends an attribute.
-fn push_attribute<A: Allocator>(
+#[inline(always)]
+fn push_attribute<A: Allocator + Copy>(
+    alloc: A,
     attributes: &mut Vec<Attribute<A>, A>,
-    attribute: Attribute<A>,
+    name: String<A>,
+    value: String<A>,
 ) -> Result<(), AllocError>
     ensures { OnOk result (map attribute_of attributes.new.items
-        ≡ map attribute_of attributes.old.items ++ attribute_of attribute ∷ []) }
+        ≡ map attribute_of attributes.old.items ++ attribute (string_bytes name) (string_bytes value) ∷ []) }
 {
-    attributes.push(attribute)?;
+    let name = QualName::new(None, Namespace(String::new(alloc)), LocalName(name));
+    attributes.push(Attribute { name, value })?;
     Ok(())
 }
 
@@ -131,17 +135,16 @@ impl<A: Allocator + Copy> AttributeList<A> {
         }
     }
 
-    /// Appends an attribute, which has no prefix and no namespace.
-    pub fn push(&mut self, attribute: Attribute<A>) -> Result<(), AllocError>
-        ensures { OnOk result (self.new ≡ self.old ++ attribute_of attribute ∷ []) }
+    /// Appends an attribute.
+    pub fn push(&mut self, alloc: A, name: String<A>, value: String<A>) -> Result<(), AllocError>
+        ensures { OnOk result (self.new ≡ self.old ++ attribute (string_bytes name) (string_bytes value) ∷ []) }
     {
         let is_indexed = mem::replace(&mut self.is_indexed, false);
         if self.items.len() < FEW {
-            return push_attribute(&mut self.items, attribute);
+            return push_attribute(alloc, &mut self.items, name, value);
         }
-        let name = &attribute.name.local.0;
-        index_with(&mut self.names, is_indexed, &self.items, name)?;
-        push_attribute(&mut self.items, attribute)?;
+        index_with(&mut self.names, is_indexed, &self.items, &name)?;
+        push_attribute(alloc, &mut self.items, name, value)?;
         self.is_indexed = true;
         Ok(())
     }
@@ -188,7 +191,7 @@ impl<A: Allocator> AttributeList<A> {
         if attributes.capacity() == 0 {
             return let_go(attributes);
         }
-        spares.keep(&mut attributes);
+        spares.keep_texts(&mut attributes);
         attributes.clear();
         let_go(mem::replace(&mut self.items, attributes));
     }

@@ -121,10 +121,11 @@ impl<A: Allocator + Copy> CurrentTag<A> {
         if self.attrs.has(&self.attr_name) {
             return Ok(false);
         }
-        let mut attribute = self.spares.take(alloc)?;
-        mem::swap(&mut attribute.name.local.0, &mut self.attr_name);
-        mem::swap(&mut attribute.value, &mut self.attr_value);
-        self.attrs.push(attribute)?;
+        let next_name = self.spares.take(alloc)?;
+        let next_value = self.spares.take(alloc)?;
+        let name = mem::replace(&mut self.attr_name, next_name);
+        let value = mem::replace(&mut self.attr_value, next_value);
+        self.attrs.push(alloc, name, value)?;
         Ok(true)
     }
 

@@ -1,7 +1,7 @@
 use Rattle.std.proofs.Common.{◌∙◌, ap, sym, map, string_bytes}
 use Rattle.std.specs.Prelude.{◌||◌}
 use Rattle.std.specs.Str.{bytes_eq}
-use Rattle.html5reading.specs.Tag.{has_attribute}
+use Rattle.html5reading.specs.Tag.{attribute, has_attribute}
 use Rattle.markup5ever.specs.Names.{attribute_of}
 use Rattle.html5partial.proofs.AttributeNames.{has_attribute-last}
 use Rattle.html5partial.proofs.attribute_list.AttributeList.push.Goals as goal
@@ -9,6 +9,6 @@ use Rattle.html5partial.proofs.attribute_list.AttributeList.push.Goals as goal
 pub invariant_of-self-2 : goal.invariant_of-self-2
 invariant_of-self-2 g c = λ _ name.
     c.in_ok-index_with.ensures name
-    ∙ ap (λ items. bytes_eq (string_bytes c.args.attribute.name.local.0) name || has_attribute (map attribute_of items) name) c.deref.ensures.value
-    ∙ sym (has_attribute-last (map attribute_of c.self.inside.items.items) (attribute_of c.args.attribute) name)
+    ∙ ap (λ items. bytes_eq (string_bytes c.args.name) name || has_attribute (map attribute_of items) name) c.deref.ensures.value
+    ∙ sym (has_attribute-last (map attribute_of c.self.inside.items.items) (attribute (string_bytes c.args.name) (string_bytes c.args.value)) name)
     ∙ ap (λ l. has_attribute l name) (sym c.in_ok-push_attribute.ensures)
