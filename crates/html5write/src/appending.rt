@@ -1,5 +1,5 @@
 //! Pieces as they are written.
-ghost use Rattle.std.specs.Prelude.{◌≡◌, ◌++◌, encode_utf8_all, flat_map, if◌then◌else◌, is_ok, map, option_map, string_bytes, take, OnErr, OnOk};
+ghost use Rattle.std.specs.Prelude.{◌≡◌, ◌++◌, encode_utf8_all, flat_map, map, option_map, string_bytes, take, OnErr, OnOk};
 ghost use Rattle.std.specs.Str.{chars};
 ghost use Rattle.std.specs.String.Boundary.{IsSplitPoint};
 ghost use Rattle.markup5ever.specs.Lists.{BeginsWith};
@@ -39,16 +39,6 @@ fn push_character<A: Allocator>(out: &mut String<A>, c: char) -> Result<(), Allo
         None => out.push(c)?,
     }
     Ok(())
-}
-
-/// Appends a text that may be long, by a call that copies bytes. It stands apart, so that short texts don't save registers
-/// for it.
-#[inline(never)]
-pub fn push_long<A: Allocator>(out: &mut String<A>, text: &str) -> Result<(), AllocError>
-    ensures { string_bytes out.new
-        ≡ (if is_ok result then string_bytes out.old ++ text.now else string_bytes out.old) }
-{
-    out.push_str(text)
 }
 
 // Appends a text, with references for the characters that can't stand for themselves: what stands between them goes at

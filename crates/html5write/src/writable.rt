@@ -7,12 +7,12 @@ ghost use Rattle.html5write.specs.Refusals.{refusal_of};
 ghost use Rattle.html5write.specs.Writing.{piece_of};
 ghost use Rattle.html5write.specs.declared.error.WriteError.{WriteError};
 
-use crate::appending::{push_long, push_piece};
+use crate::appending::push_piece;
 use crate::checks::refusal_of;
 use crate::error::WriteError;
 use crate::piece::Piece;
 use crate::runs::is_plain;
-use markup5ever::text::push_text;
+use markup5ever::text::{push_long, push_text};
 use std::alloc::{AllocError, Allocator};
 use std::marker::Model;
 

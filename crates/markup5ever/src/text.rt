@@ -46,8 +46,19 @@ fn push_few<A: Allocator>(text: &mut String<A>, more: &str) -> Result<(), AllocE
         6 => push_short(text, more, 6),
         7 => push_short(text, more, 7),
         8 => push_short(text, more, 8),
-        _ => text.push_str(more),
+        _ => push_long(text, more),
     }
+}
+
+/// Appends a text that may be long, by a call that copies bytes. It stands apart, so that short texts don't save registers
+/// for it.
+#[inline(never)]
+pub fn push_long<A: Allocator>(text: &mut String<A>, more: &str) -> Result<(), AllocError>
+    ensures bytes { string_bytes text.new
+        ≡ (if is_ok result then string_bytes text.old ++ more.now else string_bytes text.old) }
+    ensures empty { more.now ≡ [] → IsOk result }
+{
+    text.push_str(more)
 }
 
 /// Appends a text to another. Up to eight bytes are stored at once, without a call that copies bytes.
@@ -60,6 +71,6 @@ pub fn push_text<A: Allocator>(text: &mut String<A>, more: &str) -> Result<(), A
     match more.len() {
         1 => push_short(text, more, 1),
         2..=8 => push_few(text, more),
-        _ => text.push_str(more),
+        _ => push_long(text, more),
     }
 }
