@@ -24,14 +24,25 @@ use markup5ever::small_char_set::SmallCharSet;
 use markup5ever::text::push_text;
 use std::alloc::{AllocError, Allocator};
 
-// Whether a byte goes on with a plain name: a letter in lower case, a digit or a dash, which is not in the set.
+// Whether a byte is a digit or a dash that is not in the set.
+#[inline(always)]
+fn is_other_plain(ends: SmallCharSet, byte: u8) -> bool
+    ensures ascii { result ≡ true → byte < 128 }
+    ensures stays { result ≡ true → stays_in_names byte ≡ true }
+    ensures outside { result ≡ true → ¬ IsMember ends byte }
+{
+    matches!(byte, b'0'..=b'9' | b'-') && !ends.contains(char::from(byte))
+}
+
+// Whether a byte goes on with a plain name: a letter in lower case, which no set has, or a digit or a dash that is not in
+// the set. Letters are looked for first, since most are.
 #[inline(always)]
 fn goes_on(ends: SmallCharSet, byte: u8) -> bool
     ensures ascii { result ≡ true → byte < 128 }
     ensures stays { result ≡ true → stays_in_names byte ≡ true }
     ensures outside { result ≡ true → ¬ IsMember ends byte }
 {
-    matches!(byte, b'a'..=b'z' | b'0'..=b'9' | b'-') && !ends.contains(char::from(byte))
+    byte.is_ascii_lowercase() || is_other_plain(ends, byte)
 }
 
 // How many bytes of plain names a text begins with.
