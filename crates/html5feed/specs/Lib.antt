@@ -3,5 +3,6 @@ pub mod Refused
 pub mod Runs
 pub mod Starting
 pub mod Beginning
+pub mod LastNames
 pub mod Undecided
 pub mod Quiet

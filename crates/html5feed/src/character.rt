@@ -89,8 +89,9 @@ fn emit_tag<S: TokenSink<Token<A>>, A: Allocator + Copy>(
     ensures input { position.new.input ≡ position.old.input }
     ensures held { held_len position.new.opened ≡ 0 }
 {
-    position.note_tag(&tag)?;
+    // The tag is moved once, into the token.
     let mut token = Token::TagToken(tag);
+    position.note_tag(&token)?;
     let reply = teller.emit_lent(&mut token);
     position.reuse(token);
     match reply? {

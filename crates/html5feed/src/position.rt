@@ -4,7 +4,7 @@
 ghost use Rattle.std.specs.Prelude.{◌≡◌, ◌^◌, ◌<◌, ◌+◌, true, false, Some, drop, IfErr, OnOk, option_map, string_bytes};
 ghost use Rattle.html5ever_interface.specs.Options.{options_of};
 ghost use Rattle.html5ever_interface.specs.Sink.{on_line};
-ghost use Rattle.html5ever_interface.specs.Token.{tag_of};
+ghost use Rattle.html5ever_interface.specs.Token.{tag_of, told_by};
 ghost use Rattle.html5reading.specs.EndOfInput.{late_at_end_of, open_at_end_of, tokens_at_end};
 ghost use Rattle.html5reading.specs.Reading.{last_after};
 ghost use Rattle.html5reading.specs.Slice.{tokens_of_late};
@@ -16,6 +16,7 @@ ghost use Rattle.html5partial.specs.CurrentTag.{is_between, opened_of, last_name
 ghost use Rattle.std.specs.Str.{chars};
 ghost use Rattle.html5states.specs.Telling.{Emits, Tells, IsRefusal, faults_of};
 ghost use Rattle.html5feed.specs.Beginning.{is_after_less_than};
+ghost use Rattle.html5feed.specs.LastNames.{last_after_token};
 ghost use Rattle.html5feed.specs.Starting.{CanStart, in_state};
 ghost use Rattle.html5feed.specs.Undecided.{rules_with};
 
@@ -216,17 +217,18 @@ impl<A: Allocator + Copy> Position<A> {
         self.in_reference = false;
     }
 
-    /// Keeps the name of a start tag as that of the last one. The tag is sent next.
-    pub(crate) fn note_tag(&mut self, tag: &Tag<A>) -> Result<(), TokenizerError>
+    /// Keeps the name of a start tag as that of the last one. The token is sent next.
+    #[inline(always)]
+    pub(crate) fn note_tag(&mut self, token: &Token<A>) -> Result<(), TokenizerError>
         requires { self.old.opened ≡ Between Data }
         ensures opened { self.new.opened ≡ Between Data }
         ensures last { OnOk result
-            (self.new.last_start_tag ≡ last_after self.old.last_start_tag (tag_of tag.now)) }
+            (self.new.last_start_tag ≡ last_after_token self.old.last_start_tag (told_by token.now)) }
         ensures input { self.new.input ≡ self.old.input }
         ensures memory { IfErr result (λ error. error ≡ TokenizerError.Memory) }
     {
         self.in_reference = false;
-        Ok(keep_name(&mut self.opened.last_start_tag, tag)?)
+        Ok(keep_name(&mut self.opened.last_start_tag, token)?)
     }
 
     /// Takes what a sink left of a tag that was sent, for its memory alone.
@@ -286,16 +288,35 @@ fn is_after_less_than<A: Allocator>(opened: &Opened<A>) -> bool
     matches!(opened.state, State::TagOpen | State::RawLessThanSign(_))
 }
 
+// Sets the name of the last start tag. It stands apart, so that an end tag passes without a call.
+#[inline(never)]
+fn set_name<A: Allocator>(last_name: &mut String<A>, name: &str) -> Result<(), AllocError>
+    ensures { OnOk result (string_bytes last_name.new ≡ name.now) }
+{
+    last_name.clear();
+    push_text(last_name, name)
+}
+
 // Keeps the name of a start tag as that of the last one.
 #[tactic(auto, unfolding(html5reading::specs::Reading::last_after))]
-fn keep_name<A: Allocator>(last_name: &mut String<A>, tag: &Tag<A>) -> Result<(), AllocError>
+#[inline(always)]
+fn keep_tag_name<A: Allocator>(last_name: &mut String<A>, tag: &Tag<A>) -> Result<(), AllocError>
     ensures { OnOk result (string_bytes last_name.new ≡ last_after (string_bytes last_name.old) (tag_of tag.now)) }
 {
     match tag.kind {
         TagKind::EndTag => Ok(()),
-        TagKind::StartTag => {
-            last_name.clear();
-            push_text(last_name, &tag.name.0)
-        }
+        TagKind::StartTag => set_name(last_name, &tag.name.0),
+    }
+}
+
+// The same, where the token is a tag.
+#[inline(always)]
+fn keep_name<A: Allocator>(last_name: &mut String<A>, token: &Token<A>) -> Result<(), AllocError>
+    ensures { OnOk result
+        (string_bytes last_name.new ≡ last_after_token (string_bytes last_name.old) (told_by token.now)) }
+{
+    match token {
+        Token::TagToken(tag) => keep_tag_name(last_name, tag),
+        _ => Ok(()),
     }
 }

@@ -97,6 +97,10 @@ fn read_waiting_quietly<A: Allocator + Copy>(
     if text.is_empty() {
         return Ok(());
     }
+    // An `&` begins a reference, nearly always, and then it is not read here.
+    if text.as_bytes()[0] == b'&' {
+        return Ok(());
+    }
     match position.read_quietly(alloc, rules, text) {
         Ok(0) => Ok(()),
         Ok(bytes) => {

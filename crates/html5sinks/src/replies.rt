@@ -11,6 +11,7 @@ use std::alloc::Allocator;
 /// `textarea` references are read. In `style`, `xmp`, `iframe`, `noembed` and `noframes` nothing is
 /// markup. `script` has rules of its own.
 #[tactic(auto, unfolding(crate::specs::Replies::raw_text_in))]
+#[inline(always)]
 pub fn raw_text_in(name: &str) -> Option<RawKind>
     ensures { result ≡ raw_text_in name.now }
 {
@@ -18,6 +19,14 @@ pub fn raw_text_in(name: &str) -> Option<RawKind>
     if name.len() < 3 {
         return None;
     }
+    raw_text_by_name(name)
+}
+
+// The same, of a name of any length.
+#[tactic(auto, unfolding(crate::specs::Replies::raw_text_in))]
+fn raw_text_by_name(name: &str) -> Option<RawKind>
+    ensures { result ≡ raw_text_in name.now }
+{
     match name {
         "title" | "textarea" => Some(RawKind::Rcdata),
         "style" | "xmp" | "iframe" | "noembed" | "noframes" => Some(RawKind::Rawtext),

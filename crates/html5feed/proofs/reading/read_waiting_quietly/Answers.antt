@@ -18,3 +18,6 @@ pub returns-in-Err-clause-reads : goal.returns-in-Err-clause-reads
 returns-in-Err-clause-reads g c =
     let stops = rw c.front_text-text.ensures at c.in-Err.ensures.refused in
     stops-quietly c.args.rules.now c.args.position.now c.read_quietly.new.self c.args.queue.now c.skip-in-Err.new.self _ c.skip-in-Err.ensures stops
+
+pub returns-then-as_bytes-eq38-clause-reads : goal.returns-then-as_bytes-eq38-clause-reads
+returns-then-as_bytes-eq38-clause-reads g c = takes-none _ c.args.rules.now c.args.position.now c.args.queue.now
