@@ -1,5 +1,5 @@
 //! Writing records.
-ghost use Rattle.std.specs.Prelude.{◌≡◌, ◌+◌, ◌++◌, false, ◌∷◌, [], map, option_map, is_some, string_bytes, OnOk, OnErr};
+ghost use Rattle.std.specs.Prelude.{◌≡◌, ◌+◌, ◌++◌, false, ◌∷◌, [], length, map, option_map, is_some, string_bytes, OnOk, OnErr};
 ghost use Rattle.std.specs.List.{flat_map};
 ghost use Rattle.html5records.specs.Records.{number, counted, flag, attribute_record, attribute_records, optional, tag_flags, tag_code, doctype_flags, doctype_parts, heading, record_of};
 ghost use Rattle.markup5ever.specs.Lists.{BeginsWith};
@@ -22,6 +22,51 @@ pub fn push_number<A: Allocator>(written: &mut Vec<u8, A>, value: u64) -> Result
     written.extend_from_slice(&value.to_le_bytes())
 }
 
+// Appends bytes for which there may be no room yet. It stands apart, so that what most names go through stays small.
+#[inline(never)]
+fn push_long<A: Allocator>(written: &mut Vec<u8, A>, bytes: &[u8]) -> Result<(), AllocError>
+    ensures ok { OnOk result (written.new.items ≡ written.old.items ++ bytes.now) }
+    ensures err { OnErr result (BeginsWith written.new.items written.old.items) }
+{
+    written.extend_from_slice(bytes)
+}
+
+// Appends so many bytes. Where the compiler knows how many, it stores them.
+#[inline(always)]
+fn push_short<A: Allocator>(
+    written: &mut Vec<u8, A>,
+    bytes: &[u8],
+    len: usize,
+) -> Result<(), AllocError>
+    requires { length bytes.now ≡ len }
+    ensures ok { OnOk result (written.new.items ≡ written.old.items ++ bytes.now) }
+    ensures err { OnErr result (BeginsWith written.new.items written.old.items) }
+{
+    if written.capacity() - written.len() < len {
+        return push_long(written, bytes);
+    }
+    written.extend_from_slice(&bytes[..len])
+}
+
+// Appends bytes. Up to eight, as most names have, are stored at once, without a call that copies bytes.
+#[inline(never)]
+fn push_bytes<A: Allocator>(written: &mut Vec<u8, A>, bytes: &[u8]) -> Result<(), AllocError>
+    ensures ok { OnOk result (written.new.items ≡ written.old.items ++ bytes.now) }
+    ensures err { OnErr result (BeginsWith written.new.items written.old.items) }
+{
+    match bytes.len() {
+        1 => push_short(written, bytes, 1),
+        2 => push_short(written, bytes, 2),
+        3 => push_short(written, bytes, 3),
+        4 => push_short(written, bytes, 4),
+        5 => push_short(written, bytes, 5),
+        6 => push_short(written, bytes, 6),
+        7 => push_short(written, bytes, 7),
+        8 => push_short(written, bytes, 8),
+        _ => push_long(written, bytes),
+    }
+}
+
 // Appends a text with its length.
 #[tactic(auto, unfolding(crate::specs::Records::counted))]
 fn push_counted<A: Allocator>(written: &mut Vec<u8, A>, text: &[u8]) -> Result<(), AllocError>
@@ -29,7 +74,7 @@ fn push_counted<A: Allocator>(written: &mut Vec<u8, A>, text: &[u8]) -> Result<(
     ensures err { OnErr result (BeginsWith written.new.items written.old.items) }
 {
     push_number(written, text.len() as u64)?;
-    written.extend_from_slice(text)
+    push_bytes(written, text)
 }
 
 #[tactic(auto, unfolding(crate::specs::Records::attribute_record))]
@@ -142,7 +187,7 @@ fn push_tag_record<A: Allocator>(
     let len = name.len() as u64;
     let beginning = tag_beginning(tag_kind(tag.kind), line, tag_flags(tag), len);
     written.extend_from_slice(&beginning)?;
-    written.extend_from_slice(name)?;
+    push_bytes(written, name)?;
     push_attributes(written, &tag.attrs)
 }
 
@@ -281,7 +326,7 @@ pub fn push_text<A: Allocator>(
     if !in_text {
         written.push(kinds::TEXT)?;
     }
-    written.extend_from_slice(text)
+    push_bytes(written, text)
 }
 
 // Ends an open text.

@@ -12,12 +12,12 @@ unfolding record_of heading_of parts
 returns-clause-ok g c =
     let tag = tag_of c.args.tag.now in
     let begun = tag-begun tag _ _ _ _ c.args.written.now.items _ _ _ c.tag_kind.ensures c.tag_flags.ensures c.as_bytes-name.ensures.value
-    c.tag_beginning-beginning.ensures c.in_ok-extend_from_slice.ensures.items c.in_ok-extend_from_slice-2.ensures.items in
+    c.tag_beginning-beginning.ensures c.in_ok-extend_from_slice.ensures.items c.in_ok-push_bytes.ensures.ok in
     let attributes = ap (λ l. attribute_records (map attribute_of l)) c.deref.ensures.value in
     tag-whole c.push_attributes.result tag (heading (tag_code tag.kind) c.args.line) c.args.written.now.items _ _ _ begun attributes c.push_attributes.ensures.ok
 
 pub returns-clause-err : goal.returns-clause-err
 returns-clause-err g c =
     let begun = tag-begun (tag_of c.args.tag.now) _ _ _ _ c.args.written.now.items _ _ _ c.tag_kind.ensures c.tag_flags.ensures c.as_bytes-name.ensures.value
-    c.tag_beginning-beginning.ensures c.in_ok-extend_from_slice.ensures.items c.in_ok-extend_from_slice-2.ensures.items in
+    c.tag_beginning-beginning.ensures c.in_ok-extend_from_slice.ensures.items c.in_ok-push_bytes.ensures.ok in
     on_err_weaker c.push_attributes.result (BeginsWith-less _ _ _ _ begun) c.push_attributes.ensures.err
