@@ -65,10 +65,10 @@ pub fn write_closed<A: Allocator + Copy>(
     ensures unchanged { OnErr result (page.new ≡ page.old) }
 {
     if count == 0 {
-        return write_kept(page, kept_run(run), None);
+        return write_kept(page, &kept_run(run), &None);
     }
     let mut part = Writer::new(alloc);
-    write_kept(&mut part, kept_run(run), None)?;
+    write_kept(&mut part, &kept_run(run), &None)?;
     write_end_tags(&mut part, opened.names(), count)?;
     page.append(&part)
 }
@@ -88,7 +88,7 @@ fn write_opened<A: Allocator + Copy>(
     ensures unopened { OnErr result (opened.new ≡ opened.old) }
 {
     opened.push(name)?;
-    match write_kept(page, kept_run(run), Some(tag)) {
+    match write_kept(page, &kept_run(run), &Some(tag)) {
         Ok(()) => Ok(()),
         Err(error) => {
             opened.close(1);
@@ -107,7 +107,7 @@ pub fn write_plain<A: Allocator + Copy>(
     ensures unchanged { OnErr result (page.new ≡ page.old) }
     ensures change { IfOk result (λ change. (change.undo ≡ 0) × (change.close ≡ 0)) }
 {
-    write_kept(page, kept_run(run), tag)?;
+    write_kept(page, &kept_run(run), &tag)?;
     Ok(NO_CHANGE)
 }
 

@@ -5,16 +5,20 @@ ghost use Rattle.html5elements.specs.Hidden.{hidden_after, hidden_after_tag, hid
 ghost use Rattle.html5cleaner.specs.Clean.{opens};
 
 use html5elements::hidden::{Hidden, has_content};
-use html5ever_interface::interface::token::{Tag, Token};
+use html5ever_interface::interface::token::{Tag, TagKind, Token};
 use html5policy::Policy;
 use std::alloc::Allocator;
 use std::mem;
 
-// Whether a tag begins an element that is dropped with what stands in it.
+// Whether a tag begins an element that is dropped with what stands in it. The name of an end tag need not be looked up.
+#[tactic(auto, using(std::proofs::Math::Bool::and-false))]
 fn opens<A: Allocator>(policy: &Policy<A>, tag: &Tag<A>) -> bool
     ensures { result ≡ opens policy.now (tag_of tag.now) }
 {
-    policy.hides(&tag.name.0) && has_content(tag)
+    match tag.kind {
+        TagKind::StartTag => policy.hides(&tag.name.0) && has_content(tag),
+        TagKind::EndTag => false,
+    }
 }
 
 // Passes a tag.

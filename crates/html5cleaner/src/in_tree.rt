@@ -139,16 +139,16 @@ fn write_in_tree<A: Allocator + Copy>(
 fn write_opening<A: Allocator + Copy>(
     opened: &mut Opened<A>,
     page: &mut Writer<A>,
-    run: Option<Writable<'_>>,
-    tag: Option<Writable<'_>>,
+    run: &Option<Writable<'_>>,
+    tag: &Option<Writable<'_>>,
     name: ElementName,
 ) -> Result<Pending, WriteError>
-    requires { IsFit (Opens name) opened.old.tree (piece_where run ++ piece_where tag) }
+    requires { IsFit (Opens name) opened.old.tree (piece_where run.now ++ piece_where tag.now) }
     ensures { Settles (Tree opened.old.tree.limit) result page.old page.new opened.old opened.new
-        (written_by (Tree opened.old.tree.limit) false opened.old.tree.opened (piece_where run.entry ++ piece_where tag.entry))
-        (open_by (Tree opened.old.tree.limit) false opened.old.tree.opened (piece_where run.entry ++ piece_where tag.entry)) }
+        (written_by (Tree opened.old.tree.limit) false opened.old.tree.opened (piece_where run.now ++ piece_where tag.now))
+        (open_by (Tree opened.old.tree.limit) false opened.old.tree.opened (piece_where run.now ++ piece_where tag.now)) }
 {
-    opened.tree.start_tag(name)?;
+    opened.tree.open(name)?;
     match write_kept(page, run, tag) {
         Ok(()) => Ok(Pending::Opened),
         Err(error) => {
@@ -165,16 +165,16 @@ fn write_within<A: Allocator + Copy>(
     limit: usize,
     opened: &mut Opened<A>,
     page: &mut Writer<A>,
-    run: Option<Writable<'_>>,
-    tag: Option<Writable<'_>>,
+    run: &Option<Writable<'_>>,
+    tag: &Option<Writable<'_>>,
 ) -> Result<Pending, WriteError>
     requires { limit ≡ opened.old.tree.limit }
     ensures { Settles (Tree opened.old.tree.limit) result page.old page.new opened.old opened.new
-        (written_by (Tree opened.old.tree.limit) false opened.old.tree.opened (piece_where run.entry ++ piece_where tag.entry))
-        (open_by (Tree opened.old.tree.limit) false opened.old.tree.opened (piece_where run.entry ++ piece_where tag.entry)) }
+        (written_by (Tree opened.old.tree.limit) false opened.old.tree.opened (piece_where run.now ++ piece_where tag.now))
+        (open_by (Tree opened.old.tree.limit) false opened.old.tree.opened (piece_where run.now ++ piece_where tag.now)) }
 {
-    match fit_of(&opened.tree, limit, &run, &tag) {
-        Fit::Unfit => write_in_tree(alloc, opened, page, &run, &tag, false),
+    match fit_of(&opened.tree, limit, run, tag) {
+        Fit::Unfit => write_in_tree(alloc, opened, page, run, tag, false),
         Fit::Stays => {
             write_kept(page, run, tag)?;
             Ok(Pending::Nothing)
@@ -205,8 +205,9 @@ fn keep_tag_with<A: Allocator + Copy>(
         (written_by (Tree opened.old.tree.limit) false opened.old.tree.opened (kept_of_run run.now ++ kept_of_tag policy.now (tag_of tag.now)))
         (open_by (Tree opened.old.tree.limit) false opened.old.tree.opened (kept_of_run run.now ++ kept_of_tag policy.now (tag_of tag.now))) }
 {
+    let run = kept_run(run);
     let tag = kept_tag(policy, tag.kind, &tag.name.0, attributes);
-    write_within(alloc, policy.depth(), opened, page, kept_run(run), tag)
+    write_within(alloc, policy.depth(), opened, page, &run, &tag)
 }
 
 // Writes what is kept of a run of text and the tag after it so that it fits, all of it or nothing. Most tags have no
@@ -253,10 +254,13 @@ pub fn keep_in_tree<A: Allocator + Copy>(
         return write_in_tree(alloc, opened, page, &run, &None, true);
     }
     if depth != 0 {
-        return write_within(alloc, policy.depth(), opened, page, None, None);
+        return write_within(alloc, policy.depth(), opened, page, &None, &None);
     }
     match token {
         Token::TagToken(tag) => keep_tag(alloc, policy, opened, page, run, tag),
-        _ => write_within(alloc, policy.depth(), opened, page, kept_run(run), None),
+        _ => {
+            let run = kept_run(run);
+            write_within(alloc, policy.depth(), opened, page, &run, &None)
+        }
     }
 }

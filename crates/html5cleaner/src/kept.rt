@@ -69,19 +69,34 @@ pub fn kept_tag<'t, A: Allocator>(
     }
 }
 
+// Writes a piece, where there is one: all of it or nothing.
+fn write_where<A: Allocator + Copy>(
+    page: &mut Writer<A>,
+    piece: &Option<Writable<'_>>,
+) -> Result<(), WriteError>
+    ensures written { OnOk result (page.new ≡ page.old ++ piece_where piece.now) }
+    ensures unchanged { OnErr result (page.new ≡ page.old) }
+{
+    match piece {
+        None => Ok(()),
+        Some(piece) => page.put(piece),
+    }
+}
+
 /// Writes what is kept, all of it or nothing.
 pub fn write_kept<A: Allocator + Copy>(
     page: &mut Writer<A>,
-    run: Option<Writable<'_>>,
-    tag: Option<Writable<'_>>,
+    run: &Option<Writable<'_>>,
+    tag: &Option<Writable<'_>>,
 ) -> Result<(), WriteError>
-    ensures written { OnOk result (page.new ≡ page.old ++ (piece_where run.entry ++ piece_where tag.entry)) }
+    ensures written { OnOk result (page.new ≡ page.old ++ (piece_where run.now ++ piece_where tag.now)) }
     ensures unchanged { OnErr result (page.new ≡ page.old) }
 {
-    match (run, tag) {
-        (None, None) => Ok(()),
-        (Some(piece), None) => page.put(&piece),
-        (None, Some(piece)) => page.put(&piece),
-        (Some(run), Some(tag)) => page.put_both(&run, &tag),
+    match run {
+        None => write_where(page, tag),
+        Some(run) => match tag {
+            None => page.put(run),
+            Some(tag) => page.put_both(run, tag),
+        },
     }
 }

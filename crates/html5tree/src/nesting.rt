@@ -3,7 +3,7 @@ ghost use Rattle.std.specs.Prelude.{◌≡◌, ℕ, ◌≤◌, List, ◌∷◌, 
 ghost use Rattle.html5tree.specs.Fitting.{fits, open_after};
 ghost use Rattle.html5tree.specs.Items.{Attribute};
 ghost use Rattle.html5tree.specs.Items.Item.{EndTag, StartTag, Text};
-ghost use Rattle.html5tree.specs.Normal.{IsReady, after_written, plan_of};
+ghost use Rattle.html5tree.specs.Normal.{IsReady, after_written, open_after_fitted, plan_of};
 ghost use Rattle.html5tree.specs.Searches.{names_open};
 ghost use Rattle.html5tree.specs.ElementNames.{name_of};
 ghost use Rattle.html5tree.specs.Nested.{nested_after, nothing_nested, with_own};
@@ -145,6 +145,17 @@ impl<A: Allocator> Nesting<A> {
         let plan = plan_for_start(self.limit, &self.opened, name);
         follow(&mut self.opened, &mut self.closed, plan, own_of(plan, name))?;
         Ok(plan)
+    }
+
+    /// Opens an element inside the others, where a start tag of it does that alone.
+    pub fn open(&mut self, name: ElementName) -> Result<(), AllocError>
+        requires { open_after_fitted self.old.limit self.old.opened (StartTag (name_of name) [])
+            ≡ name_of name ∷ self.old.opened }
+        ensures ok { OnOk result (self.new ≡ record self.old { opened = name_of name ∷ self.old.opened }) }
+        ensures err { OnErr result (self.new ≡ self.old) }
+    {
+        self.opened.push(name)?;
+        Ok(())
     }
 
     /// Does what an end tag asks for.

@@ -15,4 +15,4 @@ unfolding kept_of_tag
 returns g c =
     let tag = c.kept_tag-tag.ensures ∙ parts-same c.args.policy.now _ _ _ _ _ (ap chars c.deref.ensures) c.requires.kept in
     settles-same (Tree c.args.opened.now.tree.limit) c.write_within.result c.args.page.now c.write_within.new.page c.args.opened.now c.write_within.new.opened false false
-    c.args.opened.now.tree.opened _ _ refl ((λ i. c.kept_run.ensures i ++ tag i)) c.write_within.ensures
+    c.args.opened.now.tree.opened _ _ refl ((λ i. c.kept_run-run.ensures i ++ tag i)) c.write_within.ensures
