@@ -63,7 +63,7 @@ hidden-may elements name none = two-pass ElementName AllowedAndHidden (is_tag_na
 
 -- ---- one more
 
-all-more : {X : Type 0} (p : X → Bool) (xs : List X) (x : X) → list_all p xs ≡ true → p x ≡ true → list_all p (xs ++ x ∷ []) ≡ true
+pub all-more : {X : Type 0} (p : X → Bool) (xs : List X) (x : X) → list_all p xs ≡ true → p x ≡ true → list_all p (xs ++ x ∷ []) ≡ true
 all-more p xs x before here = list_all-append p xs (x ∷ []) ∙ rw (before, here) refl
 
 not-true : (b : Bool) → not b ≡ true → b ≡ false
@@ -116,7 +116,7 @@ one_of-any names name none = none
 all-both : {X : Type 0} (p : X → Bool) (xs ys : List X) → list_all p xs ≡ true → list_all p ys ≡ true → list_all p (xs ++ ys) ≡ true
 all-both p xs ys first second = list_all-append p xs ys ∙ rw (first, second) refl
 
-weaker-all : {X : Type 0} (p q : X → Bool) → ((x : X) → p x ≡ true → q x ≡ true) → (xs : List X) → list_all p xs ≡ true → list_all q xs ≡ true
+pub weaker-all : {X : Type 0} (p q : X → Bool) → ((x : X) → p x ≡ true → q x ≡ true) → (xs : List X) → list_all p xs ≡ true → list_all q xs ≡ true
 weaker-all p q weaker [] all = refl
 weaker-all p q weaker (x ∷ xs) all =
     rw (weaker x (and-left (p x) (list_all p xs) all), weaker-all p q weaker xs (and-right (p x) (list_all p xs) all)) refl

@@ -1,6 +1,7 @@
 pub mod Names
 pub mod Addresses
 pub mod Policy
+pub mod Marks
 pub mod Rules
 pub mod Code
 pub mod Text

@@ -6,6 +6,7 @@ mod addresses;
 mod error;
 mod faults;
 mod guesses;
+mod marks;
 mod names;
 mod policy;
 mod rule;

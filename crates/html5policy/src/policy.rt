@@ -31,10 +31,11 @@ impl<A: Allocator> Model for Policy<A> {
     ghost Value = { PolicyOf };
 
     ghost use Rattle.html5policy.specs.Code.{policy_of};
+    ghost use Rattle.html5policy.specs.Marks.{AllMarked};
 
     ghost view = { λ p. policy_of p.rules };
 
-    ghost invariant = { λ p. IsSound (policy_of p.rules) };
+    ghost invariant = { λ p. IsSound (policy_of p.rules) × AllMarked p.rules.marks (policy_of p.rules) };
 }
 
 impl<A: Allocator + Copy> Policy<A> {
@@ -117,6 +118,10 @@ impl<A: Allocator> Policy<A> {
     fn is_named(&self, element: &str, attribute: &str) -> bool
         ensures { result ≡ is_named self.now element.now attribute.now }
     {
+        // Most attributes of pages are not.
+        if !self.rules.marks.may_have(attribute) {
+            return false;
+        }
         is_one_of(&self.rules.everywhere, attribute) || is_own(&self.rules.own, element, attribute)
     }
 

@@ -1,10 +1,12 @@
 //! The rules of a policy, as they are stored.
 ghost use Rattle.std.specs.Prelude.{◌≡◌, ◌<◌, ◌+◌, ◌≤◌, ◌++◌, ◌∷◌, [], OnOk, OnErr, map, string_bytes, vec_capacity, vec_len};
 ghost use Rattle.html5policy.specs.Policy.{implied_elements, is_own, nothing_kept};
+ghost use Rattle.html5policy.specs.Marks.{AllMarked};
 ghost use Rattle.html5policy.specs.Rules.{with_rule};
 ghost use Rattle.html5policy.specs.Code.{own_of, policy_of, rule_of};
 
 use crate::guesses::Guesses;
+use crate::marks::Marks;
 use crate::rule::Rule;
 use std::alloc::{AllocError, Allocator};
 
@@ -21,6 +23,8 @@ pub struct Rules<A: Allocator> {
     pub elements: Vec<String<A>, A>,
     /// Where the name of an element may stand among these.
     pub guesses: Guesses,
+    /// Marks of the attributes that the next two name.
+    pub marks: Marks,
     pub own: Vec<OwnAttribute<A>, A>,
     pub everywhere: Vec<String<A>, A>,
     pub schemes: Vec<String<A>, A>,
@@ -112,11 +116,13 @@ pub fn is_own<A: Allocator>(attributes: &[OwnAttribute<A>], element: &str, attri
 impl<A: Allocator + Copy> Rules<A> {
     /// No rule.
     pub fn none(alloc: A) -> Rules<A>
-        ensures { policy_of result ≡ nothing_kept }
+        ensures nothing { policy_of result ≡ nothing_kept }
+        ensures marked { AllMarked result.marks (policy_of result) }
     {
         Rules {
             elements: Vec::new(alloc),
             guesses: Guesses::none(),
+            marks: Marks::none(),
             own: Vec::new(alloc),
             everywhere: Vec::new(alloc),
             schemes: Vec::new(alloc),
@@ -133,14 +139,21 @@ impl<A: Allocator + Copy> Rules<A> {
     pub fn push(&mut self, alloc: A, rule: Rule<'_>) -> Result<(), AllocError>
         ensures ok { OnOk result (policy_of self.new ≡ with_rule (policy_of self.old) (rule_of rule.entry)) }
         ensures err { OnErr result (policy_of self.new ≡ policy_of self.old) }
+        ensures marked { AllMarked self.old.marks (policy_of self.old) → AllMarked self.new.marks (policy_of self.new) }
     {
         match rule {
             Rule::Element(name) => {
                 self.guesses.note(name, self.elements.len());
                 push_name(alloc, &mut self.elements, name)
             }
-            Rule::Attribute { element, name } => push_own(alloc, &mut self.own, element, name),
-            Rule::Everywhere(name) => push_name(alloc, &mut self.everywhere, name),
+            Rule::Attribute { element, name } => {
+                self.marks.note(name);
+                push_own(alloc, &mut self.own, element, name)
+            }
+            Rule::Everywhere(name) => {
+                self.marks.note(name);
+                push_name(alloc, &mut self.everywhere, name)
+            }
             Rule::Scheme(scheme) => push_name(alloc, &mut self.schemes, scheme),
             Rule::Hidden(name) => push_name(alloc, &mut self.hidden, name),
             Rule::Noopener => {
