@@ -11,7 +11,6 @@ use std::alloc::Allocator;
 use std::mem;
 
 // Whether a tag begins an element that is dropped with what stands in it. The name of an end tag need not be looked up.
-#[tactic(auto, using(std::proofs::Math::Bool::and-false))]
 fn opens<A: Allocator>(policy: &Policy<A>, tag: &Tag<A>) -> bool
     ensures { result ≡ opens policy.now (tag_of tag.now) }
 {
