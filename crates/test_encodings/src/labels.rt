@@ -1,6 +1,5 @@
 //! Labels, names and byte order marks.
 use html5encodings::{Encoding, SingleByte};
-use std::process::Abort;
 
 // A label, and the name of its encoding.
 const LABELS: [(&str, &str); 23] = [
@@ -51,28 +50,31 @@ fn name_of(label: &str) -> &'static str {
 
 #[test]
 fn labels_in_any_case(rt: HostRuntime) {
-    for (label, name) in LABELS {
+    for &(label, name) in &LABELS {
         assert_eq!(rt; name_of(label), name, "{label:?}");
     }
-    for label in NONE {
+    for &label in &NONE {
         assert_eq!(rt; name_of(label), "", "{label:?}");
     }
 }
 
-fn check_mark(rt: &impl Abort, bytes: &[u8], mark: Option<(Encoding, usize)>) {
-    assert!(rt; Encoding::for_bom(bytes) == mark, "{bytes:?}");
-}
+// Bytes, and the mark that they begin with.
+const MARKS: [(&[u8], Option<(Encoding, usize)>); 8] = [
+    (b"\xef\xbb\xbf", Some((Encoding::Utf8, 3))),
+    (b"\xef\xbb\xbfa", Some((Encoding::Utf8, 3))),
+    (b"\xfe\xff", Some((Encoding::Utf16Be, 2))),
+    (b"\xff\xfe\0\0", Some((Encoding::Utf16Le, 2))),
+    (b"\xef\xbb", None),
+    (b"\xff", None),
+    (b"", None),
+    (b"a\xef\xbb\xbf", None),
+];
 
 #[test]
 fn byte_order_marks(rt: HostRuntime) {
-    check_mark(&rt, b"\xef\xbb\xbf", Some((Encoding::Utf8, 3)));
-    check_mark(&rt, b"\xef\xbb\xbfa", Some((Encoding::Utf8, 3)));
-    check_mark(&rt, b"\xfe\xff", Some((Encoding::Utf16Be, 2)));
-    check_mark(&rt, b"\xff\xfe\0\0", Some((Encoding::Utf16Le, 2)));
-    check_mark(&rt, b"\xef\xbb", None);
-    check_mark(&rt, b"\xff", None);
-    check_mark(&rt, b"", None);
-    check_mark(&rt, b"a\xef\xbb\xbf", None);
+    for &(bytes, mark) in &MARKS {
+        assert!(rt; Encoding::for_bom(bytes) == mark, "{bytes:?}");
+    }
 }
 
 #[test]

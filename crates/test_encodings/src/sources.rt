@@ -36,7 +36,7 @@ fn check_pieces(rt: &impl Abort, alloc: Global, label: &str, bytes: &[u8], wante
 
 #[test]
 fn texts_of_sources(rt: HostRuntime) {
-    for (label, bytes, wanted) in [
+    for &(label, bytes, wanted) in &[
         ("windows-1252", b"caf\xe9".as_slice(), "caf\u{e9}"),
         ("shift_jis", b"a\x93\xfa\x96\x7bb", "a\u{65e5}\u{672c}b"),
         ("shift_jis", b"a\x93", "a\u{fffd}"),

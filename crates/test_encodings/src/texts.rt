@@ -143,32 +143,30 @@ fn check_cuts(rt: &impl Abort, alloc: Global, label: &str, bytes: &[u8], wanted:
     }
 }
 
+fn check_rows(rt: &impl Abort, alloc: Global, rows: &[(&str, &[u8], &str)]) {
+    for (label, bytes, wanted) in rows {
+        check_cuts(rt, alloc, label, bytes, wanted);
+    }
+}
+
 #[test]
 fn texts_in_single_bytes(rt: HostRuntime) {
-    for (label, bytes, wanted) in SINGLE {
-        check_cuts(&rt, rt.alloc(), label, bytes, wanted);
-    }
+    check_rows(&rt, rt.alloc(), &SINGLE);
 }
 
 #[test]
 fn texts_in_unicode(rt: HostRuntime) {
-    for (label, bytes, wanted) in UNICODE {
-        check_cuts(&rt, rt.alloc(), label, bytes, wanted);
-    }
+    check_rows(&rt, rt.alloc(), &UNICODE);
 }
 
 #[test]
 fn texts_in_korean_and_chinese(rt: HostRuntime) {
-    for (label, bytes, wanted) in KOREAN_AND_CHINESE {
-        check_cuts(&rt, rt.alloc(), label, bytes, wanted);
-    }
+    check_rows(&rt, rt.alloc(), &KOREAN_AND_CHINESE);
 }
 
 #[test]
 fn texts_in_japanese(rt: HostRuntime) {
-    for (label, bytes, wanted) in JAPANESE {
-        check_cuts(&rt, rt.alloc(), label, bytes, wanted);
-    }
+    check_rows(&rt, rt.alloc(), &JAPANESE);
 }
 
 // The text of two pieces in the encoding that a label names.

@@ -1,10 +1,7 @@
 //! Where the tokens of a page stand in its source, and in texts that were put in.
-use crate::placed::Cuts;
-use html5entities::standard_references;
-use html5ever::tokenizer::TokenizerOpts;
-use html5places::{Origin, Origins, PlaceError, PlaceReader};
+use crate::calls::{Call, check_calls};
+use html5places::{Origin, Origins, PlaceError};
 use std::alloc::{Allocator, Global};
-use std::process::Abort;
 use testing_alloc::Refusing;
 
 // Notes some stretches: so many bytes of the source, three of text 0 from its second byte on, and the rest of the source.
@@ -20,7 +17,7 @@ fn each_byte_comes_from_its_stretch(rt: HostRuntime) {
     let mut origins = Origins::new(rt.alloc());
     assert_eq!(rt; origins.origin_of(0), None);
     noted(&mut origins).expect(&rt, "memory");
-    let rows = [
+    for &(place, origin) in &[
         (0, Some(Origin::Source(0))),
         (3, Some(Origin::Source(3))),
         (4, Some(Origin::PutIn { text: 0, at: 1 })),
@@ -29,8 +26,7 @@ fn each_byte_comes_from_its_stretch(rt: HostRuntime) {
         (8, Some(Origin::Source(5))),
         (9, None),
         (usize::MAX, None),
-    ];
-    for (place, origin) in rows {
+    ] {
         assert_eq!(rt; origins.origin_of(place), origin, "at {place}");
     }
 }
@@ -58,42 +54,37 @@ fn a_refused_growth_notes_nothing(rt: HostRuntime) {
 // A script puts a text in. The tags after it stand in the source where they are written.
 #[test]
 fn tags_stand_in_the_source(rt: HostRuntime) {
-    let alloc = rt.alloc();
-    let references = standard_references(alloc).expect(&rt, "memory");
-    let mut reader = PlaceReader::new(alloc, &references, TokenizerOpts::default());
-    let mut origins = Origins::new(alloc);
-    let source = "<script></script> class=a><b>";
-    let mut handler = Cuts::new(alloc, "<script></script><i class=a><b>");
-    let mut at = 0;
-    for _ in 0..2 {
-        let rest = source.get(at..).unwrap_or("none");
-        let count = reader
-            .read_to_token(rest, &mut handler)
-            .expect(&rt, "memory");
-        origins
-            .record(Origin::Source(at), count)
-            .expect(&rt, "memory");
-        at = at.saturating_add(count);
+    check_calls(
+        &rt,
+        rt.alloc(),
+        "<script></script><i class=a><b>",
+        &[
+            Call::ReadToToken("<script></script> class=a><b>", Ok("</script> class=a><b>")),
+            Call::Place(8),
+            Call::ReadToToken("</script> class=a><b>", Ok(" class=a><b>")),
+            Call::Place(17),
+            Call::Read("<i", Ok(())),
+            Call::Read(" class=a><b>", Ok(())),
+            Call::End(Ok(())),
+        ],
+        "|<script>|tag;|</script>|tag;|<i class=a>|tag;|<b>|tag;||end;",
+    );
+    // Where what it read of comes from, in the same order.
+    let mut origins = Origins::new(rt.alloc());
+    for &(origin, count) in &[
+        (Origin::Source(0), 8),
+        (Origin::Source(8), 9),
+        (Origin::PutIn { text: 0, at: 0 }, 2),
+        (Origin::Source(17), 12),
+    ] {
+        origins.record(origin, count).expect(&rt, "memory");
     }
-    assert_eq!(rt; at, 17);
-    reader.read("<i", &mut handler).expect(&rt, "memory");
-    origins
-        .record(Origin::PutIn { text: 0, at: 0 }, 2)
-        .expect(&rt, "memory");
-    reader
-        .read(" class=a><b>", &mut handler)
-        .expect(&rt, "memory");
-    origins.record(Origin::Source(at), 12).expect(&rt, "memory");
-    reader.end(&mut handler).expect(&rt, "memory");
-    assert_eq!(rt;
-        handler.kept.as_str(),
-        "|<script>|tag;|</script>|tag;|<i class=a>|tag;|<b>|tag;||end;"
-    );
     // The tag `<i class=a>` begins in the text that was put in, and its last byte is one of the source.
-    assert_eq!(rt;
-        origins.origin_of(17),
-        Some(Origin::PutIn { text: 0, at: 0 })
-    );
-    assert_eq!(rt; origins.origin_of(27), Some(Origin::Source(25)));
-    assert_eq!(rt; origins.origin_of(28), Some(Origin::Source(26)));
+    for &(place, origin) in &[
+        (17, Origin::PutIn { text: 0, at: 0 }),
+        (27, Origin::Source(25)),
+        (28, Origin::Source(26)),
+    ] {
+        assert_eq!(rt; origins.origin_of(place), Some(origin), "at {place}");
+    }
 }

@@ -1,12 +1,11 @@
 //! Pages that arrive in pieces: cut anywhere, with a text put in, with a state that is set, and without memory.
+use crate::calls::{Call, check_calls, failing_call};
 use crate::placed::{Cuts, stand_so};
 use html5entities::standard_references;
-use html5ever::tokenizer::{NamedReferences, TokenizerOpts};
+use html5ever::tokenizer::NamedReferences;
 use html5ever_interface::interface::token::{SinkFault, Token};
-use html5ever_interface::states::{RawKind, State};
-use html5places::{PlaceError, PlaceReader, PlacedHandler, Places};
+use html5places::{PlaceError, PlacedHandler, Places};
 use std::alloc::{Allocator, Global};
-use std::process::Abort;
 use testing_alloc::Refusing;
 
 // What stands in the places of a page's tokens, each after the run before it.
@@ -68,186 +67,138 @@ const PAGES: [(&str, &str); 20] = [
     ("<b c c>", "|>|error;|<b c c>|tag;||end;"),
 ];
 
-// Reads a text as it is cut, and its end.
-fn read_pieces<A: Allocator + Copy>(
-    alloc: A,
-    references: &NamedReferences<A>,
-    pieces: &[&str],
-    handler: &mut Cuts<'_, A>,
-) -> Result<(), PlaceError> {
-    let mut reader = PlaceReader::new(alloc, references, TokenizerOpts::default());
-    for piece in pieces {
-        reader.read(piece, handler)?;
-    }
-    reader.end(handler)
-}
-
-fn check_pieces(
-    rt: &impl Abort,
-    alloc: Global,
-    references: &NamedReferences,
-    source: &str,
-    pieces: &[&str],
-    wanted: &str,
-) {
-    let mut handler = Cuts::new(alloc, source);
-    let read = read_pieces(alloc, references, pieces, &mut handler);
-    assert!(rt; read.is_ok(), "of {pieces:?}");
-    assert_eq!(rt; handler.kept.as_str(), wanted, "of {pieces:?}");
-}
-
 #[test]
 fn two_pieces_tell_what_the_page_does(rt: HostRuntime) {
-    let alloc = rt.alloc();
-    let references = standard_references(alloc).expect(&rt, "memory");
-    for (source, wanted) in PAGES {
-        assert!(rt; stand_so(&rt, alloc, source, wanted), "of {source}");
-        for at in 0..source.len() {
-            if let (Some(first), Some(second)) = (source.get(..at), source.get(at..)) {
-                check_pieces(&rt, alloc, &references, source, &[first, second], wanted);
+    for &(source, wanted) in &PAGES {
+        assert!(rt; stand_so(&rt, rt.alloc(), source, wanted), "of {source}");
+        for at in 0..=source.len() {
+            if let Some((first, second)) = source.split_at_checked(at) {
+                let calls = [
+                    Call::Read(first, Ok(())),
+                    Call::Read(second, Ok(())),
+                    Call::End(Ok(())),
+                ];
+                check_calls(&rt, rt.alloc(), source, &calls, wanted);
             }
         }
-        check_pieces(&rt, alloc, &references, source, &[source, ""], wanted);
     }
 }
 
 #[test]
 fn single_characters_tell_what_the_page_does(rt: HostRuntime) {
-    let alloc = rt.alloc();
-    let references = standard_references(alloc).expect(&rt, "memory");
-    for (source, wanted) in PAGES {
-        let mut pieces = Vec::new(alloc);
+    for &(source, wanted) in &PAGES {
+        let mut calls = Vec::new(rt.alloc());
         for (at, c) in source.char_indices() {
             let piece = source.get(at..at + c.len_utf8()).unwrap_or("none");
-            pieces.push(piece).expect(&rt, "memory");
+            calls.push(Call::Read(piece, Ok(()))).expect(&rt, "memory");
         }
-        check_pieces(&rt, alloc, &references, source, &pieces, wanted);
+        calls.push(Call::End(Ok(()))).expect(&rt, "memory");
+        check_calls(&rt, rt.alloc(), source, &calls, wanted);
     }
-}
-
-// Reads what is left up to the next token, with that. What is left then.
-fn read_on<'t>(
-    rt: &impl Abort,
-    reader: &mut PlaceReader<'_>,
-    text: &'t str,
-    handler: &mut Cuts<'_>,
-) -> &'t str {
-    let count = reader.read_to_token(text, handler).expect(rt, "memory");
-    text.get(count..).unwrap_or("none")
 }
 
 #[test]
 fn a_reader_stops_after_each_token(rt: HostRuntime) {
-    let alloc = rt.alloc();
-    let references = standard_references(alloc).expect(&rt, "memory");
-    let mut reader = PlaceReader::new(alloc, &references, TokenizerOpts::default());
-    let mut handler = Cuts::new(alloc, "a<b>\u{E9}</b ><!-- -->1 < 2");
-    let mut rest = handler.source;
-    // The error of `1 < 2` is no token.
-    let rows = [
-        ("\u{E9}</b ><!-- -->1 < 2", 4),
-        ("<!-- -->1 < 2", 11),
-        ("1 < 2", 19),
-        ("", 24),
-        ("", 24),
-    ];
-    for (left, place) in rows {
-        rest = read_on(&rt, &mut reader, rest, &mut handler);
-        assert_eq!(rt; rest, left);
-        assert_eq!(rt; reader.place(), place);
-    }
-    assert_eq!(rt;
-        handler.kept.as_str(),
-        "a|<b>|tag;\u{E9}|</b >|tag;|<!-- -->|comment;| |error;"
+    check_calls(
+        &rt,
+        rt.alloc(),
+        "a<b>\u{E9}</b ><!-- -->1 < 2",
+        &[
+            Call::ReadToToken(
+                "a<b>\u{E9}</b ><!-- -->1 < 2",
+                Ok("\u{E9}</b ><!-- -->1 < 2"),
+            ),
+            Call::Place(4),
+            Call::ReadToToken("\u{E9}</b ><!-- -->1 < 2", Ok("<!-- -->1 < 2")),
+            Call::Place(11),
+            Call::ReadToToken("<!-- -->1 < 2", Ok("1 < 2")),
+            Call::Place(19),
+            // The error of `1 < 2` is no token.
+            Call::ReadToToken("1 < 2", Ok("")),
+            Call::Place(24),
+            Call::ReadToToken("", Ok("")),
+            Call::Place(24),
+        ],
+        "a|<b>|tag;\u{E9}|</b >|tag;|<!-- -->|comment;| |error;",
     );
 }
 
 // As `document.write` puts a text in after a script.
 #[test]
 fn a_text_is_put_in_after_a_script(rt: HostRuntime) {
-    let alloc = rt.alloc();
-    let references = standard_references(alloc).expect(&rt, "memory");
-    let mut reader = PlaceReader::new(alloc, &references, TokenizerOpts::default());
-    let mut handler = Cuts::new(alloc, "<script>x</script><i class=a>b</p>");
-    let body = read_on(&rt, &mut reader, "<script>x</script>b</p>", &mut handler);
-    let rest = read_on(&rt, &mut reader, body, &mut handler);
-    assert_eq!(rt; rest, "b</p>");
-    assert_eq!(rt; reader.place(), 18);
-    reader
-        .read("<i class=a>", &mut handler)
-        .expect(&rt, "memory");
-    assert_eq!(rt; reader.place(), 29);
-    reader.read(rest, &mut handler).expect(&rt, "memory");
-    reader.end(&mut handler).expect(&rt, "memory");
-    assert_eq!(rt; reader.place(), 34);
-    assert_eq!(rt;
-        handler.kept.as_str(),
-        "|<script>|tag;x|</script>|tag;|<i class=a>|tag;b|</p>|tag;||end;"
+    check_calls(
+        &rt,
+        rt.alloc(),
+        "<script>x</script><i class=a>b</p>",
+        &[
+            Call::ReadToToken("<script>x</script>b</p>", Ok("x</script>b</p>")),
+            Call::ReadToToken("x</script>b</p>", Ok("b</p>")),
+            Call::Place(18),
+            Call::Read("<i class=a>", Ok(())),
+            Call::Place(29),
+            Call::Read("b</p>", Ok(())),
+            Call::End(Ok(())),
+            Call::Place(34),
+        ],
+        "|<script>|tag;x|</script>|tag;|<i class=a>|tag;b|</p>|tag;||end;",
     );
 }
 
 // A text that is put in may begin what the page goes on with.
 #[test]
 fn a_text_that_is_put_in_may_be_cut_anywhere(rt: HostRuntime) {
-    let alloc = rt.alloc();
-    let references = standard_references(alloc).expect(&rt, "memory");
-    let mut reader = PlaceReader::new(alloc, &references, TokenizerOpts::default());
-    let mut handler = Cuts::new(alloc, "<script></script><b class=a>c");
-    let body = read_on(
+    check_calls(
         &rt,
-        &mut reader,
-        "<script></script> class=a>c",
-        &mut handler,
-    );
-    let rest = read_on(&rt, &mut reader, body, &mut handler);
-    reader.read("<b", &mut handler).expect(&rt, "memory");
-    assert!(rt; !reader.nothing_open());
-    reader.read(rest, &mut handler).expect(&rt, "memory");
-    reader.end(&mut handler).expect(&rt, "memory");
-    assert_eq!(rt;
-        handler.kept.as_str(),
-        "|<script>|tag;|</script>|tag;|<b class=a>|tag;c||end;"
+        rt.alloc(),
+        "<script></script><b class=a>c",
+        &[
+            Call::ReadToToken("<script></script> class=a>c", Ok("</script> class=a>c")),
+            Call::ReadToToken("</script> class=a>c", Ok(" class=a>c")),
+            Call::Read("<b", Ok(())),
+            Call::NothingOpen(false),
+            Call::Read(" class=a>c", Ok(())),
+            Call::End(Ok(())),
+        ],
+        "|<script>|tag;|</script>|tag;|<b class=a>|tag;c||end;",
     );
 }
 
 #[test]
 fn a_state_is_set_after_a_start_tag(rt: HostRuntime) {
-    let alloc = rt.alloc();
-    let references = standard_references(alloc).expect(&rt, "memory");
-    let mut reader = PlaceReader::new(alloc, &references, TokenizerOpts::default());
-    let mut handler = Cuts::new(alloc, "a<x><b></y></x><b>");
-    let rest = read_on(&rt, &mut reader, handler.source, &mut handler);
-    assert!(rt; reader.nothing_open());
-    if reader.nothing_open() {
-        reader.set_state(State::RawData(RawKind::Rawtext));
-    }
-    assert_eq!(rt; reader.place(), 4);
-    reader.read(rest, &mut handler).expect(&rt, "memory");
-    reader.end(&mut handler).expect(&rt, "memory");
-    assert_eq!(rt;
-        handler.kept.as_str(),
-        "a|<x>|tag;<b></y>|</x>|tag;|<b>|tag;||end;"
+    check_calls(
+        &rt,
+        rt.alloc(),
+        "a<x><b></y></x><b>",
+        &[
+            Call::ReadToToken("a<x><b></y></x><b>", Ok("<b></y></x><b>")),
+            Call::NothingOpen(true),
+            Call::SetRawtext,
+            Call::Place(4),
+            Call::Read("<b></y></x><b>", Ok(())),
+            Call::End(Ok(())),
+        ],
+        "a|<x>|tag;<b></y>|</x>|tag;|<b>|tag;||end;",
     );
 }
 
 #[test]
 fn nothing_is_read_after_the_end(rt: HostRuntime) {
-    let alloc = rt.alloc();
-    let references = standard_references(alloc).expect(&rt, "memory");
-    let mut reader = PlaceReader::new(alloc, &references, TokenizerOpts::default());
-    let mut handler = Cuts::new(alloc, "<b>");
-    assert!(rt; !reader.is_over());
-    reader.read("<b>", &mut handler).expect(&rt, "memory");
-    reader.end(&mut handler).expect(&rt, "memory");
-    assert!(rt; reader.is_over());
-    assert!(rt; !reader.nothing_open());
-    assert_eq!(rt; reader.read("<b>", &mut handler), Err(PlaceError::Failed));
-    assert_eq!(rt;
-        reader.read_to_token("<b>", &mut handler),
-        Err(PlaceError::Failed)
+    check_calls(
+        &rt,
+        rt.alloc(),
+        "<b>",
+        &[
+            Call::IsOver(false),
+            Call::Read("<b>", Ok(())),
+            Call::End(Ok(())),
+            Call::IsOver(true),
+            Call::NothingOpen(false),
+            Call::Read("<b>", Err(PlaceError::Failed)),
+            Call::ReadToToken("<b>", Err(PlaceError::Failed)),
+            Call::End(Err(PlaceError::Failed)),
+        ],
+        "|<b>|tag;||end;",
     );
-    assert_eq!(rt; reader.end(&mut handler), Err(PlaceError::Failed));
-    assert_eq!(rt; handler.kept.as_str(), "|<b>|tag;||end;");
 }
 
 const PAGE: &str =
@@ -258,6 +209,12 @@ const WANTED: &str =
 
 #[test]
 fn a_refused_growth_leaves_a_beginning(rt: HostRuntime) {
+    let calls = [
+        Call::Read(&PAGE[..10], Ok(())),
+        Call::Read(&PAGE[10..40], Ok(())),
+        Call::Read(&PAGE[40..], Ok(())),
+        Call::End(Ok(())),
+    ];
     let mut finished = false;
     for admitted in 0..1000 {
         let heap = Refusing::<Global>::new(rt.alloc(), admitted);
@@ -265,19 +222,12 @@ fn a_refused_growth_leaves_a_beginning(rt: HostRuntime) {
             continue;
         };
         let mut handler = Cuts::new(&heap, PAGE);
-        let pieces = [&PAGE[..10], &PAGE[10..40], &PAGE[40..]];
-        let read = read_pieces(&heap, &references, &pieces, &mut handler);
-        assert!(rt;
-            WANTED.starts_with(handler.kept.as_str()),
-            "after {admitted} requests"
-        );
-        assert_eq!(rt;
-            read.is_ok(),
-            !heap.has_refused(),
-            "after {admitted} requests"
-        );
-        if read.is_ok() {
-            assert_eq!(rt; handler.kept.as_str(), WANTED);
+        let is_read = failing_call(&heap, &references, &mut handler, &calls).is_none();
+        let kept = handler.kept.as_str();
+        assert!(rt; WANTED.starts_with(kept), "after {admitted} requests");
+        assert_eq!(rt; is_read, !heap.has_refused(), "after {admitted} requests");
+        if is_read {
+            assert_eq!(rt; kept, WANTED);
             finished = true;
             break;
         }
@@ -315,36 +265,47 @@ impl<A: Allocator> PlacedHandler<Token<A>> for Few {
 
 #[test]
 fn a_handler_may_refuse_a_token(rt: HostRuntime) {
-    let alloc = rt.alloc();
-    let references = standard_references(alloc).expect(&rt, "memory");
-    let mut reader = PlaceReader::new(alloc, &references, TokenizerOpts::default());
+    let references = standard_references(rt.alloc()).expect(&rt, "memory");
+    let calls = [
+        Call::Read("a<b>c</b>d", Ok(())),
+        Call::Read("<i>", Err(PlaceError::Handler)),
+        Call::IsOver(true),
+        Call::Read("", Err(PlaceError::Failed)),
+        Call::End(Err(PlaceError::Failed)),
+    ];
     let mut handler = Few { left: 2 };
-    assert_eq!(rt; reader.read("a<b>c</b>d", &mut handler), Ok(()));
-    assert_eq!(rt; reader.read("<i>", &mut handler), Err(PlaceError::Handler));
-    assert!(rt; reader.is_over());
-    assert_eq!(rt; reader.read("", &mut handler), Err(PlaceError::Failed));
-    assert_eq!(rt; reader.end(&mut handler), Err(PlaceError::Failed));
+    let failing = failing_call(rt.alloc(), &references, &mut handler, &calls);
+    assert_eq!(rt; failing, None);
 }
 
-// The handler asks for none.
+// Which of the calls a reader answers otherwise on a heap that refuses the request after so many, and whether it
+// refused one. The handler asks for none.
+fn failing_of_few(alloc: Global, admitted: u64, calls: &[Call<'_>]) -> (Option<usize>, bool) {
+    let heap = Refusing::<Global>::new(alloc, admitted);
+    let Ok(references) = NamedReferences::check(&heap, Vec::new(&heap)) else {
+        return (None, true);
+    };
+    let failing = failing_call(&heap, &references, &mut Few { left: 100 }, calls);
+    (failing, heap.has_refused())
+}
+
 #[test]
 fn want_of_memory_is_said_as_such(rt: HostRuntime) {
+    let calls = [
+        Call::Read(PAGE, Err(PlaceError::Memory)),
+        Call::End(Err(PlaceError::Failed)),
+    ];
     let mut finished = false;
     for admitted in 0..1000 {
-        let heap = Refusing::<Global>::new(rt.alloc(), admitted);
-        let Ok(references) = NamedReferences::check(&heap, Vec::new(&heap)) else {
-            continue;
-        };
-        let mut reader = PlaceReader::new(&heap, &references, TokenizerOpts::default());
-        let mut handler = Few { left: 100 };
-        let read = reader.read(PAGE, &mut handler);
-        if read.is_ok() {
-            assert!(rt; !heap.has_refused(), "after {admitted} requests");
+        let (failing, has_refused) = failing_of_few(rt.alloc(), admitted, &calls);
+        if !has_refused {
             finished = true;
             break;
         }
-        assert_eq!(rt; read, Err(PlaceError::Memory), "after {admitted} requests");
-        assert_eq!(rt; reader.end(&mut handler), Err(PlaceError::Failed));
+        assert_eq!(rt; failing, None, "after {admitted} requests");
     }
     assert!(rt; finished);
+    // Where none is refused, the page is read.
+    let (failing, _) = failing_of_few(rt.alloc(), u64::MAX, &[Call::Read(PAGE, Ok(()))]);
+    assert_eq!(rt; failing, None);
 }

@@ -77,9 +77,16 @@ pub fn stand_so<A: Allocator + Copy>(rt: &impl Abort, alloc: A, source: &str, cu
     read.is_ok() && handler.kept.as_str() == cuts
 }
 
+// That what stands in the places of each text's tokens is what the row says.
+fn check_rows(rt: &impl Abort, alloc: Global, rows: &[(&str, &str)]) {
+    for (source, cuts) in rows {
+        assert!(rt; stand_so(rt, alloc, source, cuts), "of {source}");
+    }
+}
+
 #[test]
 fn tokens_stand_where_they_are_written(rt: HostRuntime) {
-    let rows = [
+    let rows = &[
         ("a<b>c", "a|<b>|tag;c||end;"),
         ("<a b='<c>'></a >", "|<a b='<c>'>|tag;|</a >|tag;||end;"),
         (
@@ -98,14 +105,12 @@ fn tokens_stand_where_they_are_written(rt: HostRuntime) {
         ),
         ("\u{FEFF}<b>", "\u{FEFF}|<b>|tag;||end;"),
     ];
-    for (source, cuts) in rows {
-        assert!(rt; stand_so(&rt, rt.alloc(), source, cuts), "of {source}");
-    }
+    check_rows(&rt, rt.alloc(), rows);
 }
 
 #[test]
 fn errors_stand_at_their_characters(rt: HostRuntime) {
-    let rows = [
+    let rows = &[
         ("1 < 2<b>", "| |error;1 < 2|<b>|tag;||end;"),
         ("<<b>", "|<|error;<|<b>|tag;||end;"),
         ("a\0b", "|\0|error;a|\0|null;b||end;"),
@@ -113,27 +118,23 @@ fn errors_stand_at_their_characters(rt: HostRuntime) {
         ("<b =c>", "|=|error;|<b =c>|tag;||end;"),
         ("<b c d=1 c>", "|>|error;|<b c d=1 c>|tag;||end;"),
     ];
-    for (source, cuts) in rows {
-        assert!(rt; stand_so(&rt, rt.alloc(), source, cuts), "of {source}");
-    }
+    check_rows(&rt, rt.alloc(), rows);
 }
 
 #[test]
 fn references_stand_in_runs(rt: HostRuntime) {
-    let rows = [
+    let rows = &[
         ("&amp;<b>", "&amp;|<b>|tag;||end;"),
         ("&ampx<b>", "|x|error;&ampx|<b>|tag;||end;"),
         ("&amp<b>", "|<|error;&amp|<b>|tag;||end;"),
         ("&#x26;&foo;<b>", "|;|error;&#x26;&foo;|<b>|tag;||end;"),
     ];
-    for (source, cuts) in rows {
-        assert!(rt; stand_so(&rt, rt.alloc(), source, cuts), "of {source}");
-    }
+    check_rows(&rt, rt.alloc(), rows);
 }
 
 #[test]
 fn the_end_stands_after_the_text(rt: HostRuntime) {
-    let rows = [
+    let rows = &[
         ("", "||end;"),
         ("a<p cla", "||error;a<p cla||end;"),
         ("<!--x", "||error;|<!--x|comment;||end;"),
@@ -141,7 +142,5 @@ fn the_end_stands_after_the_text(rt: HostRuntime) {
         ("a<", "||error;a<||end;"),
         ("&am", "&am||end;"),
     ];
-    for (source, cuts) in rows {
-        assert!(rt; stand_so(&rt, rt.alloc(), source, cuts), "of {source}");
-    }
+    check_rows(&rt, rt.alloc(), rows);
 }

@@ -8,6 +8,8 @@ mod pages;
 #[cfg(test)]
 mod raw_texts;
 #[cfg(test)]
+mod reading;
+#[cfg(test)]
 mod refusals;
 #[cfg(test)]
 mod written;

@@ -1,13 +1,9 @@
 //! Whole pages that are written token by token, with raw text and plain text, and read again.
-ghost use Rattle.std.specs.Prelude.{◌≡◌, true};
-ghost use Rattle.html5ever_interface.specs.States.{is_text_state};
-
+use crate::reading::{are_same, read};
 use html5entities::standard_references;
-use html5ever::TokenizerError;
 use html5ever::tokenizer::collect::Collector;
-use html5ever::tokenizer::{NamedReferences, TokenizerOpts, read_whole};
 use html5ever_interface::interface::token::{Tag, TagKind, Token};
-use html5ever_interface::states::{RawKind, State};
+use html5ever_interface::states::RawKind;
 use html5serialize::{Escapes, PageOptions, PageWriter, Place};
 use markup5ever::interface::LocalName;
 use std::alloc::{AllocError, Allocator, Global};
@@ -23,38 +19,6 @@ fn start<A: Allocator + Copy>(alloc: A, name: &str) -> Result<Token<A>, AllocErr
         self_closing: false,
         had_duplicate_attributes: false,
     }))
-}
-
-// The state in which the text after the start tag is read.
-fn state_of(place: Place) -> State
-    ensures { is_text_state result ≡ true }
-{
-    match place {
-        Place::Data => State::Data,
-        Place::RawText(kind) => State::RawData(kind),
-        Place::PlainText => State::Plaintext,
-    }
-}
-
-// The tokens of what stands after a start tag of this name.
-fn read(
-    alloc: Global,
-    references: &NamedReferences,
-    place: Place,
-    name: &str,
-    text: &str,
-) -> Result<Collector<Global>, TokenizerError> {
-    let sink = Collector::new(alloc, false);
-    let opts = TokenizerOpts {
-        exact_errors: false,
-        discard_bom: false,
-        initial_state: Some(state_of(place)),
-        last_start_tag_name: Some(String::from_str(alloc, name)?),
-    };
-    let whole = String::from_str(alloc, text)?;
-    let (sink, read) = read_whole(alloc, sink, opts, references, whole);
-    read?;
-    Ok(sink)
 }
 
 // What this writer of a page writes for a start tag of that name and these tokens after it.
@@ -87,25 +51,6 @@ fn texts(rt: &impl Abort, alloc: Global, tokens: &Collector<Global>) -> String {
     told
 }
 
-// Whether a token is no error, and no text: an error stands between two runs of one text.
-fn is_markup(token: &Token) -> bool {
-    !matches!(token, Token::ParseError(_) | Token::CharacterTokens(_))
-}
-
-// Whether these are the same tokens but for errors and texts.
-fn are_same(tokens: &[(Token, u64)], others: &[(Token, u64)]) -> bool {
-    let mut rest = others.iter().filter(|entry| is_markup(&entry.0));
-    for (token, _) in tokens {
-        if is_markup(token) {
-            match rest.next() {
-                Some((other, _)) if other == token => {}
-                _ => return false,
-            }
-        }
-    }
-    rest.next().is_none()
-}
-
 // That a start tag of that name and this text after it are written so by this writer of a page, and that this
 // is read as the same tokens.
 fn check_page(
@@ -131,193 +76,220 @@ fn check_page(
     );
 }
 
-// The same, without scripting.
-fn check(rt: &impl Abort, alloc: Global, name: &str, place: Place, text: &str, wanted: &str) {
-    check_page(
-        rt,
-        alloc,
-        PageWriter::new(PageOptions::default()),
-        name,
-        place,
-        text,
-        wanted,
+// The same of each row: a name, a text, and what is written.
+fn check_rows(
+    rt: &impl Abort,
+    alloc: Global,
+    options: PageOptions,
+    place: Place,
+    rows: &[(&str, &str, &str)],
+) {
+    let page = PageWriter::new(options);
+    for (name, text, wanted) in rows {
+        check_page(rt, alloc, page, name, place, text, wanted);
+    }
+}
+
+const SCRIPTING: PageOptions = PageOptions {
+    scripting: true,
+    escapes: Escapes::Numbers,
+};
+
+const NAMES: PageOptions = PageOptions {
+    scripting: false,
+    escapes: Escapes::Names,
+};
+
+#[test]
+fn pages_with_rcdata(rt: HostRuntime) {
+    check_rows(
+        &rt,
+        rt.alloc(),
+        PageOptions::default(),
+        Place::RawText(RawKind::Rcdata),
+        &[
+            (
+                "title",
+                "a&lt;b<i></title>c&lt;<b>",
+                "<title>a&#60;b&#60;i&#62;</title>c&#60;<b>",
+            ),
+            (
+                "textarea",
+                "\na&amp;\0\u{feff}</TEXTAREA x=1 />\n&gt;",
+                "<textarea>\na&#38;\u{fffd}&#65279;</textarea x=\"1\"/>\n&#62;",
+            ),
+            (
+                "title",
+                "</title</titlex&#13;</tit",
+                "<title>&#60;/title&#60;/titlex&#13;&#60;/tit",
+            ),
+            ("title", "a</title b", "<title>a"),
+        ],
     );
 }
 
 #[test]
-fn pages_with_rcdata(rt: HostRuntime) {
-    for (name, text, wanted) in [
-        (
-            "title",
-            "a&lt;b<i></title>c&lt;<b>",
-            "<title>a&#60;b&#60;i&#62;</title>c&#60;<b>",
-        ),
-        (
-            "textarea",
-            "\na&amp;\0\u{feff}</TEXTAREA x=1 />\n&gt;",
-            "<textarea>\na&#38;\u{fffd}&#65279;</textarea x=\"1\"/>\n&#62;",
-        ),
-        (
-            "title",
-            "</title</titlex&#13;</tit",
-            "<title>&#60;/title&#60;/titlex&#13;&#60;/tit",
-        ),
-        ("title", "a</title b", "<title>a"),
-    ] {
-        check(
-            &rt,
-            rt.alloc(),
-            name,
-            Place::RawText(RawKind::Rcdata),
-            text,
-            wanted,
-        );
-    }
+fn pages_with_rawtext(rt: HostRuntime) {
+    check_rows(
+        &rt,
+        rt.alloc(),
+        PageOptions::default(),
+        Place::RawText(RawKind::Rawtext),
+        &[
+            (
+                "style",
+                "a<b>&amp;\"</style >&amp;</b>",
+                "<style>a<b>&amp;\"</style>&#38;</b>",
+            ),
+            (
+                "noframes",
+                "<!--</noframe></noframes><!--a--!>",
+                "<noframes><!--</noframe></noframes><!--a-->",
+            ),
+            (
+                "xmp",
+                "\r\n\u{feff}\0</XMP\n>",
+                "<xmp>\n\u{feff}\u{fffd}</xmp>",
+            ),
+            ("iframe", "<</iframe>", "<iframe><</iframe>"),
+            ("noembed", "</noembed", "<noembed></noembed"),
+            ("style", "", "<style>"),
+        ],
+    );
 }
 
-#[test]
-fn pages_with_rawtext(rt: HostRuntime) {
-    for (name, text, wanted) in [
-        (
-            "style",
-            "a<b>&amp;\"</style >&amp;</b>",
-            "<style>a<b>&amp;\"</style>&#38;</b>",
-        ),
-        (
-            "noframes",
-            "<!--</noframe></noframes><!--a--!>",
-            "<noframes><!--</noframe></noframes><!--a-->",
-        ),
-        (
-            "xmp",
-            "\r\n\u{feff}\0</XMP\n>",
-            "<xmp>\n\u{feff}\u{fffd}</xmp>",
-        ),
-        ("iframe", "<</iframe>", "<iframe><</iframe>"),
-        ("noembed", "</noembed", "<noembed></noembed"),
-        ("style", "", "<style>"),
-    ] {
-        check(
-            &rt,
-            rt.alloc(),
-            name,
-            Place::RawText(RawKind::Rawtext),
-            text,
-            wanted,
-        );
-    }
-}
+const SCRIPTS: [(&str, &str, &str); 8] = [
+    (
+        "script",
+        "<!--<script></script>--></script>&lt;",
+        "<script><!--<script></script>--></script>&#60;",
+    ),
+    (
+        "script",
+        "<!--<SCRIPT >\0</script x>--<!-->a</script/>b",
+        "<script><!--<SCRIPT >\u{fffd}</script x>--<!-->a</script/>b",
+    ),
+    (
+        "script",
+        "<!--<script></script></script c='d'><p>",
+        "<script><!--<script></script></script c=\"d\"><p>",
+    ),
+    (
+        "script",
+        "<script><!-</script><script>",
+        "<script><script><!-</script><script>",
+    ),
+    (
+        "script",
+        "if (a && b < c)\u{2028}",
+        "<script>if (a && b < c)\u{2028}",
+    ),
+    (
+        "script",
+        "<!--<script></script",
+        "<script><!--<script></script",
+    ),
+    ("script", "<!--<scr</script a=\"", "<script><!--<scr"),
+    ("script", "a</scri", "<script>a</scri"),
+];
 
 #[test]
 fn pages_with_scripts(rt: HostRuntime) {
-    for (text, wanted) in [
-        (
-            "<!--<script></script>--></script>&lt;",
-            "<script><!--<script></script>--></script>&#60;",
-        ),
-        (
-            "<!--<SCRIPT >\0</script x>--<!-->a</script/>b",
-            "<script><!--<SCRIPT >\u{fffd}</script x>--<!-->a</script/>b",
-        ),
-        (
-            "<!--<script></script></script c='d'><p>",
-            "<script><!--<script></script></script c=\"d\"><p>",
-        ),
-        (
-            "<script><!-</script><script>",
-            "<script><script><!-</script><script>",
-        ),
-        ("if (a && b < c)\u{2028}", "<script>if (a && b < c)\u{2028}"),
-        ("<!--<script></script", "<script><!--<script></script"),
-        ("<!--<scr</script a=\"", "<script><!--<scr"),
-        ("a</scri", "<script>a</scri"),
-    ] {
-        check(
-            &rt,
-            rt.alloc(),
-            "script",
-            Place::RawText(RawKind::ScriptData),
-            text,
-            wanted,
-        );
-    }
+    check_rows(
+        &rt,
+        rt.alloc(),
+        PageOptions::default(),
+        Place::RawText(RawKind::ScriptData),
+        &SCRIPTS,
+    );
 }
 
 #[test]
 fn pages_with_plain_text(rt: HostRuntime) {
-    for (text, wanted) in [
-        (
-            "a</plaintext>&amp;\0<b>\r",
-            "<plaintext>a</plaintext>&amp;\u{fffd}<b>\n",
-        ),
-        ("\n\u{feff}\"", "<plaintext>\n\u{feff}\""),
-        ("", "<plaintext>"),
-    ] {
-        check(&rt, rt.alloc(), "plaintext", Place::PlainText, text, wanted);
-    }
+    check_rows(
+        &rt,
+        rt.alloc(),
+        PageOptions::default(),
+        Place::PlainText,
+        &[
+            (
+                "plaintext",
+                "a</plaintext>&amp;\0<b>\r",
+                "<plaintext>a</plaintext>&amp;\u{fffd}<b>\n",
+            ),
+            ("plaintext", "\n\u{feff}\"", "<plaintext>\n\u{feff}\""),
+            ("plaintext", "", "<plaintext>"),
+        ],
+    );
 }
 
 #[test]
 fn pages_in_data(rt: HostRuntime) {
-    for (name, text, wanted) in [
-        ("p", "&lt;\0</p>", "<p>&#60;\0</p>"),
-        (
-            "p",
-            "<a b='& < > \" \u{a0} &#13;&lt;&lt;' c='\"'>",
-            "<p><a b=\"&#38; &#60; &#62; &#34; \u{a0} &#13;&#60;&#60;\" c=\"&#34;\">",
-        ),
-        ("noscript", "<b>&", "<noscript><b>&#38;"),
-        (
-            "noscript",
-            "<p>x</P></noscript>y",
-            "<noscript><p>x</p></noscript>y",
-        ),
-        ("noscript", "</noscript>", "<noscript></noscript>"),
-        ("noscript", "", "<noscript>"),
-        ("scripts", "<b>", "<scripts><b>"),
-    ] {
-        check(&rt, rt.alloc(), name, Place::Data, text, wanted);
-    }
+    check_rows(
+        &rt,
+        rt.alloc(),
+        PageOptions::default(),
+        Place::Data,
+        &[
+            ("p", "&lt;\0</p>", "<p>&#60;\0</p>"),
+            (
+                "p",
+                "<a b='& < > \" \u{a0} &#13;&lt;&lt;' c='\"'>",
+                "<p><a b=\"&#38; &#60; &#62; &#34; \u{a0} &#13;&#60;&#60;\" c=\"&#34;\">",
+            ),
+            ("noscript", "<b>&", "<noscript><b>&#38;"),
+            (
+                "noscript",
+                "<p>x</P></noscript>y",
+                "<noscript><p>x</p></noscript>y",
+            ),
+            ("noscript", "</noscript>", "<noscript></noscript>"),
+            ("noscript", "", "<noscript>"),
+            ("scripts", "<b>", "<scripts><b>"),
+        ],
+    );
 }
 
 #[test]
 fn pages_with_scripting(rt: HostRuntime) {
-    let page = PageWriter::new(PageOptions {
-        scripting: true,
-        escapes: Escapes::Numbers,
-    });
-    for (text, wanted) in [
-        (
-            "<p>x</P></noscript>y&lt;<b>",
-            "<noscript><p>x</P></noscript>y&#60;<b>",
-        ),
-        (
-            "&lt;</noscripts></NOSCRIPT/>",
-            "<noscript>&lt;</noscripts></noscript/>",
-        ),
-        ("</noscript>", "<noscript></noscript>"),
-        ("<p>&amp;", "<noscript><p>&amp;"),
-        ("", "<noscript>"),
-    ] {
-        let place = Place::RawText(RawKind::Rawtext);
-        check_page(&rt, rt.alloc(), page, "noscript", place, text, wanted);
-    }
-    for (name, text, wanted) in [
-        ("noscripts", "<b>&", "<noscripts><b>&#38;"),
-        ("p", "</noscript>&", "<p></noscript>&#38;"),
-    ] {
-        check_page(&rt, rt.alloc(), page, name, Place::Data, text, wanted);
-    }
+    check_rows(
+        &rt,
+        rt.alloc(),
+        SCRIPTING,
+        Place::RawText(RawKind::Rawtext),
+        &[
+            (
+                "noscript",
+                "<p>x</P></noscript>y&lt;<b>",
+                "<noscript><p>x</P></noscript>y&#60;<b>",
+            ),
+            (
+                "noscript",
+                "&lt;</noscripts></NOSCRIPT/>",
+                "<noscript>&lt;</noscripts></noscript/>",
+            ),
+            ("noscript", "</noscript>", "<noscript></noscript>"),
+            ("noscript", "<p>&amp;", "<noscript><p>&amp;"),
+            ("noscript", "", "<noscript>"),
+        ],
+    );
+    check_rows(
+        &rt,
+        rt.alloc(),
+        SCRIPTING,
+        Place::Data,
+        &[
+            ("noscripts", "<b>&", "<noscripts><b>&#38;"),
+            ("p", "</noscript>&", "<p></noscript>&#38;"),
+        ],
+    );
 }
 
 // The same texts with names: in Data and in RCDATA, and in no other raw text.
 #[test]
 fn pages_with_names(rt: HostRuntime) {
-    let page = PageWriter::new(PageOptions {
-        scripting: false,
-        escapes: Escapes::Names,
-    });
-    for (name, place, text, wanted) in [
+    let page = PageWriter::new(NAMES);
+    for &(name, place, text, wanted) in &[
         (
             "p",
             Place::Data,
@@ -350,11 +322,8 @@ fn pages_with_names(rt: HostRuntime) {
 // Values with names: there `"` has one, too, and end tags have values.
 #[test]
 fn values_with_names(rt: HostRuntime) {
-    let page = PageWriter::new(PageOptions {
-        scripting: false,
-        escapes: Escapes::Names,
-    });
-    for (name, place, text, wanted) in [
+    let page = PageWriter::new(NAMES);
+    for &(name, place, text, wanted) in &[
         (
             "p",
             Place::Data,
@@ -390,25 +359,35 @@ fn values_with_names(rt: HostRuntime) {
     }
 }
 
+// A tag of this name, without attributes.
+fn tag(alloc: Global, kind: TagKind, name: &str) -> Result<Token, AllocError> {
+    let mut token = start(alloc, name)?;
+    if let Token::TagToken(tag) = &mut token {
+        tag.kind = kind;
+    }
+    Ok(token)
+}
+
 // An end tag opens nothing, and nothing ends plain text.
 #[test]
 fn places_after_tags(rt: HostRuntime) {
     let mut page = PageWriter::new(PageOptions::default());
     let mut out = String::new(rt.alloc());
-    let mut script = start(rt.alloc(), "script").expect(&rt, "memory");
-    page.push(&mut out, &script).expect(&rt, "memory");
-    assert!(rt; page.place() == Place::RawText(RawKind::ScriptData));
-    if let Token::TagToken(tag) = &mut script {
-        tag.kind = TagKind::EndTag;
+    for &(kind, name, place) in &[
+        (
+            TagKind::StartTag,
+            "script",
+            Place::RawText(RawKind::ScriptData),
+        ),
+        (TagKind::EndTag, "script", Place::Data),
+        (TagKind::EndTag, "script", Place::Data),
+        (TagKind::StartTag, "plaintext", Place::PlainText),
+        (TagKind::EndTag, "script", Place::PlainText),
+    ] {
+        let tag = tag(rt.alloc(), kind, name).expect(&rt, "memory");
+        page.push(&mut out, &tag).expect(&rt, "memory");
+        assert!(rt; page.place() == place, "{name}");
     }
-    page.push(&mut out, &script).expect(&rt, "memory");
-    assert!(rt; page.place() == Place::Data);
-    page.push(&mut out, &script).expect(&rt, "memory");
-    assert!(rt; page.place() == Place::Data);
-    let plaintext = start(rt.alloc(), "plaintext").expect(&rt, "memory");
-    page.push(&mut out, &plaintext).expect(&rt, "memory");
-    page.push(&mut out, &script).expect(&rt, "memory");
-    assert!(rt; page.place() == Place::PlainText);
     assert!(rt;
         out.as_str() == "<script></script></script><plaintext></script>",
         "{out:?}"

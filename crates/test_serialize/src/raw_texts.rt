@@ -1,22 +1,15 @@
 //! Raw text that is written, and why some can't be.
+use crate::reading::read;
 use html5entities::standard_references;
-use html5ever::TokenizerError;
-use html5ever::tokenizer::collect::Collector;
-use html5ever::tokenizer::{NamedReferences, TokenizerOpts, read_whole};
 use html5ever_interface::interface::token::{Tag, TagKind, Token};
-use html5ever_interface::states::{RawKind, ScriptEscapeKind, State};
-use html5serialize::{RawTextError, push_element, push_raw_text, raw_text_refusal};
+use html5ever_interface::states::{RawKind, ScriptEscapeKind};
+use html5serialize::{Place, RawTextError, push_element, push_raw_text, raw_text_refusal};
 use markup5ever::interface::LocalName;
-use std::alloc::{AllocError, Allocator, Global};
+use std::alloc::{AllocError, Global};
+use std::process::Abort;
 
 // The kinds of raw text that can be written.
-fn kinds(alloc: Global) -> Result<Vec<RawKind>, AllocError> {
-    let mut kinds = Vec::new(alloc);
-    kinds.push(RawKind::Rcdata)?;
-    kinds.push(RawKind::Rawtext)?;
-    kinds.push(RawKind::ScriptData)?;
-    Ok(kinds)
-}
+const KINDS: [RawKind; 3] = [RawKind::Rcdata, RawKind::Rawtext, RawKind::ScriptData];
 
 // What is written for a text, with this after it.
 fn written(alloc: Global, kind: RawKind, text: &str, after: &str) -> Result<String, AllocError> {
@@ -24,25 +17,6 @@ fn written(alloc: Global, kind: RawKind, text: &str, after: &str) -> Result<Stri
     push_raw_text(&mut out, kind, text)?;
     out.push_str(after)?;
     Ok(out)
-}
-
-// The tokens of a text that stands in a `style` of this kind.
-fn read(
-    alloc: Global,
-    references: &NamedReferences,
-    kind: RawKind,
-    text: String,
-) -> Result<Collector<Global>, TokenizerError> {
-    let sink = Collector::new(alloc, false);
-    let opts = TokenizerOpts {
-        exact_errors: false,
-        discard_bom: false,
-        initial_state: Some(State::RawData(kind)),
-        last_start_tag_name: Some(String::from_str(alloc, "style")?),
-    };
-    let (sink, read) = read_whole(alloc, sink, opts, references, text);
-    read?;
-    Ok(sink)
 }
 
 // Whether these are a text, an end tag of `style` and the end, but for errors, and however the text is cut.
@@ -68,117 +42,127 @@ fn tells(alloc: Global, tokens: &[(Token, u64)], text: &str) -> Result<bool, All
     Ok(ends == 1 && told.as_str() == text)
 }
 
+// Whether a raw text that stands in a `style` of this kind is read again as it.
+fn is_read_again(rt: &impl Abort, alloc: Global, kind: RawKind, text: &str) -> bool {
+    let references = standard_references(alloc).expect(rt, "memory");
+    let whole = written(alloc, kind, text, "</style>").expect(rt, "memory");
+    let place = Place::RawText(kind);
+    let tokens = read(alloc, &references, place, "style", whole.as_str()).expect(rt, "a reading");
+    tells(alloc, tokens.entries(), text).expect(rt, "memory")
+}
+
+// A kind, a text, and what is written for it.
+const WRITTEN: [(RawKind, &str, &str); 12] = [
+    (
+        RawKind::Rcdata,
+        "a<&</style>\r",
+        "a&#60;&#38;&#60;/style&#62;&#13;",
+    ),
+    (RawKind::Rcdata, "\u{feff}<!--\"", "&#65279;&#60;!--&#34;"),
+    (RawKind::Rcdata, "", ""),
+    (RawKind::Rawtext, "a<b>&amp;</i>", "a<b>&amp;</i>"),
+    (
+        RawKind::Rawtext,
+        "<!--</stylex></style",
+        "<!--</stylex></style",
+    ),
+    (
+        RawKind::Rawtext,
+        "</sty<\u{e9}\n\u{feff}",
+        "</sty<\u{e9}\n\u{feff}",
+    ),
+    (RawKind::Rawtext, "", ""),
+    (
+        RawKind::ScriptData,
+        "if (a<b && c>d) {}<!-",
+        "if (a<b && c>d) {}<!-",
+    ),
+    (RawKind::ScriptData, "<script>-->", "<script>-->"),
+    (
+        RawKind::ScriptData,
+        "<!--\na<b></b><scripts >--<!->-->c<!--->",
+        "<!--\na<b></b><scripts >--<!->-->c<!--->",
+    ),
+    (RawKind::ScriptData, "<!-- <script", "<!-- <script"),
+    (RawKind::ScriptData, "<!--</script >--", "<!--</script >--"),
+];
+
 #[test]
 fn writes_raw_texts(rt: HostRuntime) {
-    for (kind, text, wanted) in [
-        (
-            RawKind::Rcdata,
-            "a<&</style>\r",
-            "a&#60;&#38;&#60;/style&#62;&#13;",
-        ),
-        (RawKind::Rcdata, "\u{feff}<!--\"", "&#65279;&#60;!--&#34;"),
-        (RawKind::Rcdata, "", ""),
-        (RawKind::Rawtext, "a<b>&amp;</i>", "a<b>&amp;</i>"),
-        (
-            RawKind::Rawtext,
-            "<!--</stylex></style",
-            "<!--</stylex></style",
-        ),
-        (
-            RawKind::Rawtext,
-            "</sty<\u{e9}\n\u{feff}",
-            "</sty<\u{e9}\n\u{feff}",
-        ),
-        (RawKind::Rawtext, "", ""),
-        (
-            RawKind::ScriptData,
-            "if (a<b && c>d) {}<!-",
-            "if (a<b && c>d) {}<!-",
-        ),
-        (RawKind::ScriptData, "<script>-->", "<script>-->"),
-        (
-            RawKind::ScriptData,
-            "<!--\na<b></b><scripts >--<!->-->c<!--->",
-            "<!--\na<b></b><scripts >--<!->-->c<!--->",
-        ),
-        (RawKind::ScriptData, "<!-- <script", "<!-- <script"),
-        (RawKind::ScriptData, "<!--</script >--", "<!--</script >--"),
-    ] {
+    for &(kind, text, wanted) in &WRITTEN {
         assert!(rt; raw_text_refusal(kind, "style", text) == None, "{text:?}");
         let out = written(rt.alloc(), kind, text, "").expect(&rt, "memory");
         assert!(rt; out.as_str() == wanted, "{text:?}: {out:?}");
-        let whole = written(rt.alloc(), kind, text, "</style>").expect(&rt, "memory");
-        let references = standard_references(rt.alloc()).expect(&rt, "memory");
-        let tokens = read(rt.alloc(), &references, kind, whole).expect(&rt, "a reading");
-        let told = tells(rt.alloc(), tokens.entries(), text).expect(&rt, "memory");
-        assert!(rt; told, "{text:?}");
+        assert!(rt; is_read_again(&rt, rt.alloc(), kind, text), "{text:?}");
     }
 }
 
 #[test]
 fn refuses_names_of_raw_text(rt: HostRuntime) {
-    let kinds = kinds(rt.alloc()).expect(&rt, "memory");
-    for kind in kinds.iter() {
-        for name in ["", "A", "styLe", "x-y", "h1", "a ", "\u{e9}"] {
+    for &kind in &KINDS {
+        for &name in &["", "A", "styLe", "x-y", "h1", "a ", "\u{e9}"] {
             assert!(rt;
-                raw_text_refusal(*kind, name, "\0") == Some(RawTextError::Name),
+                raw_text_refusal(kind, name, "\0") == Some(RawTextError::Name),
                 "{name:?}"
             );
         }
-        for name in ["a", "z", "textarea"] {
-            assert!(rt; raw_text_refusal(*kind, name, "") == None, "{name:?}");
+        for &name in &["a", "z", "textarea"] {
+            assert!(rt; raw_text_refusal(kind, name, "") == None, "{name:?}");
         }
     }
 }
 
+// A kind, a text, and why it can't be written in a `style`.
+const REFUSALS: [(RawKind, &str, Option<RawTextError>); 20] = [
+    (RawKind::Rcdata, "\0", Some(RawTextError::Character)),
+    (
+        RawKind::Rawtext,
+        "a\0</style>",
+        Some(RawTextError::Character),
+    ),
+    (RawKind::Rawtext, "a\r", Some(RawTextError::Character)),
+    (RawKind::ScriptData, "\r<!--", Some(RawTextError::Character)),
+    (RawKind::Rawtext, "a</STYLE >", Some(RawTextError::EndTag)),
+    (RawKind::Rawtext, "</style/", Some(RawTextError::EndTag)),
+    (
+        RawKind::Rawtext,
+        "</sty</style\n",
+        Some(RawTextError::EndTag),
+    ),
+    (
+        RawKind::ScriptData,
+        "</style\u{c}<!--",
+        Some(RawTextError::EndTag),
+    ),
+    (RawKind::ScriptData, "<</style>", Some(RawTextError::EndTag)),
+    (
+        RawKind::ScriptData,
+        "<<!--<<SCRIPT>",
+        Some(RawTextError::Mark),
+    ),
+    (
+        RawKind::ScriptData,
+        "<script/<!--",
+        Some(RawTextError::Mark),
+    ),
+    (RawKind::ScriptData, "<!--<scripts><script", None),
+    (RawKind::ScriptData, "</script><!--", None),
+    (
+        RawKind::ScriptDataEscaped(ScriptEscapeKind::Escaped),
+        "",
+        Some(RawTextError::Escaped),
+    ),
+    (RawKind::Rawtext, "</style", None),
+    (RawKind::Rawtext, "</style=>", None),
+    (RawKind::ScriptData, "</ style>", None),
+    (RawKind::ScriptData, "</styl", None),
+    (RawKind::ScriptData, "</", None),
+    (RawKind::Rawtext, "<!-->", None),
+];
+
 #[test]
 fn refuses_raw_texts(rt: HostRuntime) {
-    for (kind, text, wanted) in [
-        (RawKind::Rcdata, "\0", Some(RawTextError::Character)),
-        (
-            RawKind::Rawtext,
-            "a\0</style>",
-            Some(RawTextError::Character),
-        ),
-        (RawKind::Rawtext, "a\r", Some(RawTextError::Character)),
-        (RawKind::ScriptData, "\r<!--", Some(RawTextError::Character)),
-        (RawKind::Rawtext, "a</STYLE >", Some(RawTextError::EndTag)),
-        (RawKind::Rawtext, "</style/", Some(RawTextError::EndTag)),
-        (
-            RawKind::Rawtext,
-            "</sty</style\n",
-            Some(RawTextError::EndTag),
-        ),
-        (
-            RawKind::ScriptData,
-            "</style\u{c}<!--",
-            Some(RawTextError::EndTag),
-        ),
-        (RawKind::ScriptData, "<</style>", Some(RawTextError::EndTag)),
-        (
-            RawKind::ScriptData,
-            "<<!--<<SCRIPT>",
-            Some(RawTextError::Mark),
-        ),
-        (
-            RawKind::ScriptData,
-            "<script/<!--",
-            Some(RawTextError::Mark),
-        ),
-        (RawKind::ScriptData, "<!--<scripts><script", None),
-        (RawKind::ScriptData, "</script><!--", None),
-        (
-            RawKind::ScriptDataEscaped(ScriptEscapeKind::Escaped),
-            "",
-            Some(RawTextError::Escaped),
-        ),
-        (RawKind::Rawtext, "</style", None),
-        (RawKind::Rawtext, "</style=>", None),
-        (RawKind::ScriptData, "</ style>", None),
-        (RawKind::ScriptData, "</styl", None),
-        (RawKind::ScriptData, "</", None),
-        (RawKind::Rawtext, "<!-->", None),
-    ] {
+    for &(kind, text, wanted) in &REFUSALS {
         assert!(rt; raw_text_refusal(kind, "style", text) == wanted, "{text:?}");
     }
 }
@@ -186,8 +170,7 @@ fn refuses_raw_texts(rt: HostRuntime) {
 // Why each kind is as it is: where the text stands all the same, it is not read again.
 #[test]
 fn refused_raw_texts_are_not_read_again(rt: HostRuntime) {
-    let references = standard_references(rt.alloc()).expect(&rt, "memory");
-    for (kind, text) in [
+    for &(kind, text) in &[
         (RawKind::Rcdata, "\0"),
         (RawKind::Rawtext, "\0"),
         (RawKind::Rawtext, "\r"),
@@ -196,10 +179,7 @@ fn refused_raw_texts_are_not_read_again(rt: HostRuntime) {
         (RawKind::ScriptData, "<!--<script>"),
     ] {
         assert!(rt; raw_text_refusal(kind, "style", text) != None, "{text:?}");
-        let whole = written(rt.alloc(), kind, text, "</style>").expect(&rt, "memory");
-        let tokens = read(rt.alloc(), &references, kind, whole).expect(&rt, "a reading");
-        let told = tells(rt.alloc(), tokens.entries(), text).expect(&rt, "memory");
-        assert!(rt; !told, "{text:?}");
+        assert!(rt; !is_read_again(&rt, rt.alloc(), kind, text), "{text:?}");
     }
 }
 
@@ -219,7 +199,7 @@ fn element(alloc: Global, name: &str, kind: RawKind, text: &str) -> Result<Strin
 
 #[test]
 fn writes_elements(rt: HostRuntime) {
-    for (name, kind, text, wanted) in [
+    for &(name, kind, text, wanted) in &[
         ("style", RawKind::Rawtext, "a<b", "<style>a<b</style>"),
         (
             "title",

@@ -3,6 +3,7 @@ use html5ever_interface::interface::token::{Doctype, Tag, TagKind, Token};
 use html5serialize::{SerializeError, token_refusal};
 use markup5ever::interface::{Attribute, LocalName, Namespace, Prefix, QualName};
 use std::alloc::{AllocError, Allocator, Global};
+use std::process::Abort;
 
 fn text<A: Allocator + Copy>(alloc: A, text: &str) -> Result<String<A>, AllocError> {
     String::from_str(alloc, text)
@@ -51,6 +52,18 @@ fn tag_with(
     tag(alloc, name, attribute(alloc, None, attribute_name, value)?)
 }
 
+// Why a start tag of this name with an attribute of this name and value, after one called `x`, can't be written.
+fn tag_refusal(
+    rt: &impl Abort,
+    alloc: Global,
+    name: &str,
+    attribute_name: &str,
+    value: &str,
+) -> Option<SerializeError> {
+    let token = tag_with(alloc, name, attribute_name, value).expect(rt, "memory");
+    token_refusal(&token)
+}
+
 // A text, or none.
 fn optional(alloc: Global, of: Option<&str>) -> Result<Option<String>, AllocError> {
     match of {
@@ -84,144 +97,167 @@ fn refuses_texts(rt: HostRuntime) {
 
 #[test]
 fn refuses_tags(rt: HostRuntime) {
-    for name in [
+    for &name in &[
         "", "A", "1", "a b", "a/", "a>", "aB", "a\0", "a\r", "\u{e9}",
     ] {
-        let token = tag_with(rt.alloc(), name, "y", "").expect(&rt, "memory");
-        assert!(rt;
-            token_refusal(&token) == Some(SerializeError::TagName),
-            "{name:?}"
-        );
+        let refusal = tag_refusal(&rt, rt.alloc(), name, "y", "");
+        assert!(rt; refusal == Some(SerializeError::TagName), "{name:?}");
     }
     let wanted = Some(SerializeError::AttributeName { attribute: 1 });
-    for name in ["", "A", "a b", "a/", "a>", "a=", "==", "a\0", "a\r", "\t"] {
-        let token = tag_with(rt.alloc(), "a", name, "").expect(&rt, "memory");
-        assert!(rt; token_refusal(&token) == wanted, "{name:?}");
+    for &name in &["", "A", "a b", "a/", "a>", "a=", "==", "a\0", "a\r", "\t"] {
+        let refusal = tag_refusal(&rt, rt.alloc(), "a", name, "");
+        assert!(rt; refusal == wanted, "{name:?}");
     }
-    for name in ["y", "=", "=y", "\"'<", "\u{e9}"] {
-        let token = tag_with(rt.alloc(), "a", name, "\"&<>\r").expect(&rt, "memory");
-        assert!(rt; token_refusal(&token) == None, "{name:?}");
+    for &name in &["y", "=", "=y", "\"'<", "\u{e9}"] {
+        let refusal = tag_refusal(&rt, rt.alloc(), "a", name, "\"&<>\r");
+        assert!(rt; refusal == None, "{name:?}");
     }
-    let token = tag_with(rt.alloc(), "a", "x", "").expect(&rt, "memory");
-    assert!(rt; token_refusal(&token) == Some(SerializeError::Repeated { attribute: 1 }));
-    let token = tag_with(rt.alloc(), "a", "y", "a\0").expect(&rt, "memory");
-    let wanted = SerializeError::NullInValue {
-        attribute: 1,
-        at: 1,
-    };
-    assert!(rt; token_refusal(&token) == Some(wanted));
+    for &(name, value, wanted) in &[
+        ("x", "", SerializeError::Repeated { attribute: 1 }),
+        (
+            "y",
+            "a\0",
+            SerializeError::NullInValue {
+                attribute: 1,
+                at: 1,
+            },
+        ),
+    ] {
+        let refusal = tag_refusal(&rt, rt.alloc(), "a", name, value);
+        assert!(rt; refusal == Some(wanted), "{name:?}");
+    }
+}
+
+#[test]
+fn refuses_an_attribute_with_a_prefix(rt: HostRuntime) {
     let second = attribute(rt.alloc(), Some("xlink"), "href", "").expect(&rt, "memory");
     let token = tag(rt.alloc(), "a", second).expect(&rt, "memory");
     assert!(rt; token_refusal(&token) == Some(SerializeError::QualifiedName { attribute: 1 }));
 }
 
+// Why a comment of this text can't be written.
+fn comment_refusal(rt: &impl Abort, alloc: Global, content: &str) -> Option<SerializeError> {
+    let token = Token::CommentToken(text(alloc, content).expect(rt, "memory"));
+    token_refusal(&token)
+}
+
 #[test]
-fn refuses_comments_and_instructions(rt: HostRuntime) {
-    for content in [
+fn refuses_comments(rt: HostRuntime) {
+    for &content in &[
         ">", "->", "->a", "a-->", "-->", "--!>", "a--!>b", "\0", "\r",
     ] {
-        let token = Token::CommentToken(text(rt.alloc(), content).expect(&rt, "memory"));
-        assert!(rt;
-            token_refusal(&token) == Some(SerializeError::CommentText),
-            "{content:?}"
-        );
+        let refusal = comment_refusal(&rt, rt.alloc(), content);
+        assert!(rt; refusal == Some(SerializeError::CommentText), "{content:?}");
     }
-    for content in [
+    for &content in &[
         "", "-", "--", "a>", "a->", "--a>", "-- >", "--!", "<!--", "\u{e9}>",
     ] {
-        let token = Token::CommentToken(text(rt.alloc(), content).expect(&rt, "memory"));
-        assert!(rt; token_refusal(&token) == None, "{content:?}");
+        let refusal = comment_refusal(&rt, rt.alloc(), content);
+        assert!(rt; refusal == None, "{content:?}");
     }
-    for content in [">", "a>b", "\0", "\r"] {
+}
+
+#[test]
+fn refuses_instructions(rt: HostRuntime) {
+    for &content in &[">", "a>b", "\0", "\r"] {
         let content = text(rt.alloc(), content).expect(&rt, "memory");
         let token = Token::ProcessingInstructionToken(content);
         assert!(rt; token_refusal(&token) == Some(SerializeError::InstructionContent));
     }
 }
 
+// A name, a public and a system identifier, whether quirks are forced, and why the doctype can't be written.
+const DOCTYPES: [(
+    Option<&str>,
+    Option<&str>,
+    Option<&str>,
+    bool,
+    Option<SerializeError>,
+); 13] = [
+    (
+        None,
+        None,
+        None,
+        false,
+        Some(SerializeError::NamelessDoctype),
+    ),
+    (
+        None,
+        Some(""),
+        None,
+        true,
+        Some(SerializeError::NamelessDoctype),
+    ),
+    (
+        None,
+        None,
+        Some(""),
+        true,
+        Some(SerializeError::NamelessDoctype),
+    ),
+    (None, None, None, true, None),
+    (
+        Some(""),
+        None,
+        None,
+        false,
+        Some(SerializeError::DoctypeName),
+    ),
+    (
+        Some("A"),
+        None,
+        None,
+        false,
+        Some(SerializeError::DoctypeName),
+    ),
+    (
+        Some("a b"),
+        None,
+        None,
+        false,
+        Some(SerializeError::DoctypeName),
+    ),
+    (
+        Some("a>"),
+        None,
+        None,
+        true,
+        Some(SerializeError::DoctypeName),
+    ),
+    (Some("a/\"'"), Some("\""), Some("'"), true, None),
+    (
+        Some("a"),
+        Some("\"'"),
+        None,
+        false,
+        Some(SerializeError::PublicIdentifier),
+    ),
+    (
+        Some("a"),
+        Some(">"),
+        None,
+        false,
+        Some(SerializeError::PublicIdentifier),
+    ),
+    (
+        Some("a"),
+        Some(""),
+        Some("'\""),
+        false,
+        Some(SerializeError::SystemIdentifier),
+    ),
+    (
+        Some("a"),
+        Some(""),
+        Some("\0"),
+        false,
+        Some(SerializeError::SystemIdentifier),
+    ),
+];
+
 #[test]
 fn refuses_doctypes(rt: HostRuntime) {
-    for (name, public, system, quirks, wanted) in [
-        (
-            None,
-            None,
-            None,
-            false,
-            Some(SerializeError::NamelessDoctype),
-        ),
-        (
-            None,
-            Some(""),
-            None,
-            true,
-            Some(SerializeError::NamelessDoctype),
-        ),
-        (
-            None,
-            None,
-            Some(""),
-            true,
-            Some(SerializeError::NamelessDoctype),
-        ),
-        (None, None, None, true, None),
-        (
-            Some(""),
-            None,
-            None,
-            false,
-            Some(SerializeError::DoctypeName),
-        ),
-        (
-            Some("A"),
-            None,
-            None,
-            false,
-            Some(SerializeError::DoctypeName),
-        ),
-        (
-            Some("a b"),
-            None,
-            None,
-            false,
-            Some(SerializeError::DoctypeName),
-        ),
-        (
-            Some("a>"),
-            None,
-            None,
-            true,
-            Some(SerializeError::DoctypeName),
-        ),
-        (Some("a/\"'"), Some("\""), Some("'"), true, None),
-        (
-            Some("a"),
-            Some("\"'"),
-            None,
-            false,
-            Some(SerializeError::PublicIdentifier),
-        ),
-        (
-            Some("a"),
-            Some(">"),
-            None,
-            false,
-            Some(SerializeError::PublicIdentifier),
-        ),
-        (
-            Some("a"),
-            Some(""),
-            Some("'\""),
-            false,
-            Some(SerializeError::SystemIdentifier),
-        ),
-        (
-            Some("a"),
-            Some(""),
-            Some("\0"),
-            false,
-            Some(SerializeError::SystemIdentifier),
-        ),
-    ] {
+    for &(name, public, system, quirks, wanted) in &DOCTYPES {
         let token = doctype(rt.alloc(), name, public, system, quirks).expect(&rt, "memory");
         assert!(rt; token_refusal(&token) == wanted, "{token:?}");
     }
