@@ -3,6 +3,7 @@ ghost use Rattle.std.specs.Prelude.{◌≡◌, ◌+◌, ◌<◌, ◌≤◌, ◌+
 ghost use Rattle.std.specs.Str.{IsValidUpTo};
 ghost use Rattle.utf8_pieces.specs.Pieces.{IsNeverUtf8, IsTextThenCut, place_after};
 
+use simdutf8::compat::from_utf8;
 use std::alloc::{AllocError, Allocator};
 
 // How many bytes at the front are text, where those after them may begin a character. Else the place
@@ -12,7 +13,7 @@ pub(crate) fn text_len(bytes: &[u8]) -> Result<usize, usize>
     ensures valid { IfErr result (IsValidUpTo bytes.now) }
     ensures refused { IfErr result (λ _. IsNeverUtf8 bytes.now) }
 {
-    match std::str::from_utf8(bytes) {
+    match from_utf8(bytes) {
         Ok(text) => Ok(text.len()),
         Err(error) => match error.error_len() {
             None => Ok(error.valid_up_to()),
@@ -27,7 +28,7 @@ pub(crate) fn whole_len(bytes: &[u8]) -> usize
     ensures text { IsUtf8 (take result bytes.now) }
     ensures longest { result < length bytes.now → IsValidUpTo bytes.now result }
 {
-    match std::str::from_utf8(bytes) {
+    match from_utf8(bytes) {
         Ok(text) => text.len(),
         Err(error) => error.valid_up_to(),
     }
