@@ -1,6 +1,5 @@
 -- The front of a plain name.
-use Rattle.std.proofs.Common.{◌≡◌, ℕ, true, List, length, take}
-use Rattle.std.specs.Prelude.{All, slice_index}
+use Rattle.std.proofs.Common.{◌≡◌, ℕ, true, List, take}
 use Rattle.std.specs.List.{AllPass}
 use Rattle.std.specs.Str.{IsUtf8}
 use Rattle.std.proofs.lemmas.List.Elements.{All-weaker}

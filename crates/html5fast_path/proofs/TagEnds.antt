@@ -1,6 +1,7 @@
 -- A `>` that ends a tag without an error.
-use Rattle.std.proofs.Common.{◌≡◌, Bool, true, false, [], refl, ◌∙◌, sym, length}
-use Rattle.std.specs.Prelude.{◌++◌, ◌∷◌, ◌&&◌, not, if◌then◌else◌}
+use Rattle.std.proofs.Common.{◌≡◌, ℕ, Bool, arith, true, false, [], refl, ◌∙◌, sym, length}
+use Rattle.std.proofs.lemmas.Bool.Decides.{nat_tests}
+use Rattle.std.specs.Prelude.{◌++◌, ◌∷◌, ◌&&◌, nat_eq, not, if◌then◌else◌}
 use Rattle.html5ever_interface.specs.declared.interface.token.TagKind.{TagKind}
 use Rattle.html5ever_interface.specs.declared.interface.token.TagKind.TheVariants.{StartTag, EndTag}
 use Rattle.html5reading.specs.Machine.{closing_step}
@@ -27,6 +28,10 @@ start-faultless tag self_closing start = rw (kind-kept tag ∙ start) refl
 none-last : (tag : OpenTag) → length tag.last_name ≡ 0 → with_last_attribute tag ≡ tag
 unfolding with_last_attribute
 none-last tag none = rw none refl
+
+-- a count of which it is false that it isn't zero is zero
+pub none-left : (count : ℕ) → not (nat_eq count 0) ≡ false → count ≡ 0
+none-left count none = grind (arith, nat_tests)
 
 -- nor has an end tag without attributes that doesn't close itself
 pub end-faultless : (tag : OpenTag) (self_closing : Bool) → tag.kind ≡ EndTag → self_closing ≡ false → length tag.attributes ≡ 0 → length tag.last_name ≡ 0

@@ -19,9 +19,8 @@ use html5ever_interface::interface::token::TagKind;
 use html5ever_interface::states::State;
 use html5partial::characters::is_letter;
 use html5partial::opened::Opened;
-use html5partial::runs::{attribute_name_ends, push_names, tag_name_ends};
+use html5partial::runs::{attribute_name_ends, push_front, tag_name_ends};
 use markup5ever::small_char_set::SmallCharSet;
-use markup5ever::text::push_text;
 use std::alloc::{AllocError, Allocator};
 
 // Whether a byte is a digit or a dash that is not in the set.
@@ -94,24 +93,6 @@ fn name_len(ends: SmallCharSet, is_plain: bool, text: &str) -> usize
     front_len(ends, is_plain, text)
 }
 
-// Appends the front of a name.
-#[inline(always)]
-fn push_front<A: Allocator>(
-    name: &mut String<A>,
-    front: &str,
-    is_plain: bool,
-) -> Result<(), AllocError>
-    requires { is_plain ≡ true → AllPass stays_in_names front.now }
-    ensures { OnOk result (string_bytes name.new
-        ≡ string_bytes name.old ++ flat_map name_bytes (chars front.now)) }
-{
-    if !is_plain {
-        return push_names(name, front);
-    }
-    push_text(name, front)?;
-    Ok(())
-}
-
 // Begins a tag with the front of its name.
 #[inline(always)]
 fn begin_tag<A: Allocator + Copy>(
@@ -127,7 +108,7 @@ fn begin_tag<A: Allocator + Copy>(
 {
     at.state = State::TagName;
     at.tag.begin(kind);
-    push_front(&mut at.tag.name, front, is_plain)
+    at.tag.indexed.push_front(front, is_plain)
 }
 
 // Begins an attribute with the front of its name. Where the one before it repeats a name, nothing changes.

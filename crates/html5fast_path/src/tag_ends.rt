@@ -36,10 +36,10 @@ fn self_closing_at<A: Allocator>(at: &Opened<A>) -> Option<bool>
 fn is_faultless<A: Allocator>(tag: &CurrentTag<A>, self_closing: bool) -> bool
     ensures { result ≡ true → end_tag_errors (with_last_attribute (open_tag tag.now)) self_closing ≡ [] }
 {
-    let TagKind::EndTag = tag.kind else {
+    let TagKind::EndTag = tag.indexed.kind() else {
         return true;
     };
-    if self_closing || !tag.attrs.is_empty() {
+    if self_closing || tag.indexed.has_attributes() {
         return false;
     }
     tag.attr_name.is_empty()
@@ -50,7 +50,7 @@ fn is_faultless<A: Allocator>(tag: &CurrentTag<A>, self_closing: bool) -> bool
 #[inline(always)]
 pub fn end_tag<A: Allocator + Copy>(at: &mut Opened<A>, alloc: A) -> Result<bool, AllocError>
     ensures ends { IfOk result (λ ended. ended ≡ true
-        → EndsQuietly (opened_of at.old) (told_tag (open_tag at.new.tag) at.new.tag.self_closing)) }
+        → EndsQuietly (opened_of at.old) (told_tag (open_tag at.new.tag) at.new.tag.indexed.self_closing)) }
     ensures ended { IfOk result (λ ended. ended ≡ true → opened_of at.new ≡ Between Data) }
     ensures unchanged { IfOk result (λ ended. ended ≡ false → at.new ≡ at.old) }
     ensures last { last_name_of at.new ≡ last_name_of at.old }
@@ -65,6 +65,6 @@ pub fn end_tag<A: Allocator + Copy>(at: &mut Opened<A>, alloc: A) -> Result<bool
         return Ok(false);
     }
     at.state = State::Data;
-    at.tag.self_closing = self_closing;
+    at.tag.indexed.set_self_closing(self_closing);
     Ok(true)
 }

@@ -94,18 +94,21 @@ fn emit_tag<S: TokenSink<Token<A>>, A: Allocator + Copy>(
     position.note_tag(&token)?;
     let reply = teller.emit_lent(&mut token);
     position.reuse(token);
-    match reply? {
-        TokenSinkResult::Continue => Ok(TokenizerResult::Done),
-        TokenSinkResult::Plaintext => {
+    match reply {
+        Ok(TokenSinkResult::Continue) => Ok(TokenizerResult::Done),
+        Ok(TokenSinkResult::Plaintext) => {
             position.set_plaintext();
             Ok(TokenizerResult::Done)
         }
-        TokenSinkResult::Script(handle) => Ok(TokenizerResult::Script(handle)),
-        TokenSinkResult::EncodingIndicator(text) => Ok(TokenizerResult::EncodingIndicator(text)),
-        TokenSinkResult::RawData(kind) => {
+        Ok(TokenSinkResult::Script(handle)) => Ok(TokenizerResult::Script(handle)),
+        Ok(TokenSinkResult::EncodingIndicator(text)) => Ok(TokenizerResult::EncodingIndicator(
+            text,
+        )),
+        Ok(TokenSinkResult::RawData(kind)) => {
             position.set_raw_data(kind);
             Ok(TokenizerResult::Done)
         }
+        Err(error) => Err(error),
     }
 }
 

@@ -10,7 +10,7 @@ use Rattle.std.specs.String.{string_cmp}
 use Rattle.html5reading.specs.Tag.{has_attribute}
 use Rattle.markup5ever.specs.Names.{AttributeOf, attribute_of}
 use Rattle.markup5ever.specs.declared.interface.Attribute.{Attribute}
-use Rattle.html5partial.specs.AttributeList.{AddsName, HasNames}
+use Rattle.html5partial.specs.IndexedTag.{AddsName, HasNames}
 
 pub cond-or : (a b : Bool) → cond a true b ≡ (a || b)
 cond-or true b = refl

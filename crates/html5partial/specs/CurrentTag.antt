@@ -20,10 +20,10 @@ use Rattle.html5partial.specs.declared.opened.Opened.{Opened}
 -- the tag that was begun
 abbrev pub open_tag : {Z : Type 0} → CurrentTag Z → OpenTag
 open_tag tag = record {
-  kind = tag.kind;
-  name = string_bytes tag.name;
-  attributes = tag.attrs;
-  had_duplicate_attributes = tag.had_duplicate_attributes;
+  kind = tag.indexed.kind;
+  name = tag.indexed.name;
+  attributes = tag.indexed.attributes;
+  had_duplicate_attributes = tag.indexed.had_duplicate_attributes;
   last_name = string_bytes tag.attr_name;
   last_value = string_bytes tag.attr_value;
 }

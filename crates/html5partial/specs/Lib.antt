@@ -1,4 +1,4 @@
-pub mod AttributeList
+pub mod IndexedTag
 pub mod CurrentTag
 pub mod Steps
 pub mod Runs

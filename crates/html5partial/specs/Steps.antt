@@ -41,7 +41,7 @@ Leads (Err Failed) now later = ⊥
 abbrev pub next_of : {Z : Type 0} → Progress → Opened Z → Next
 next_of Continues at = Opens (opened_of at)
 next_of BeginsReference at = Opens (begun_reference (opened_of at))
-next_of EndsTag at = Closes (told_tag (open_tag at.tag) at.tag.self_closing) (opened_of at)
+next_of EndsTag at = Closes (told_tag (open_tag at.tag) at.tag.indexed.self_closing) (opened_of at)
 
 -- "Character reference state": a reference begins only where one can stand
 abbrev pub BeginsWhereItCan : Progress → Open → Type 0

@@ -8,23 +8,18 @@ ghost use Rattle.html5reading.specs.Tag.{has_last, repeats_attribute, told_tag, 
 ghost use Rattle.html5partial.specs.CurrentTag.{open_tag};
 ghost use Rattle.html5ever_interface.specs.Token.{tag_of};
 
-use crate::attribute_list::AttributeList;
 use crate::characters::{name_character, shown};
+use crate::indexed_tag::IndexedTag;
 use crate::spares::Spares;
 use html5ever_interface::interface::token::{Tag, TagKind};
-use markup5ever::interface::LocalName;
 use std::alloc::{AllocError, Allocator, Global};
 use std::mem;
 
 /// The tag that is open. Its last attribute is still being read; without a name there is none.
 #[derive(Drop)]
 pub struct CurrentTag<A: Allocator = Global> {
-    pub kind: TagKind,
-    pub name: String<A>,
-    /// Whether the tag closes itself, which is known at its end.
-    pub self_closing: bool,
-    pub attrs: AttributeList<A>,
-    pub had_duplicate_attributes: bool,
+    /// The tag up to its last attribute.
+    pub indexed: IndexedTag<A>,
     pub attr_name: String<A>,
     pub attr_value: String<A>,
     /// Memory for the attributes to come.
@@ -37,11 +32,7 @@ impl<A: Allocator + Copy> CurrentTag<A> {
         ensures { open_tag result ≡ begun kind }
     {
         CurrentTag {
-            kind,
-            name: String::new(alloc),
-            self_closing: false,
-            attrs: AttributeList::new(alloc),
-            had_duplicate_attributes: false,
+            indexed: IndexedTag::new(alloc, kind),
             attr_name: String::new(alloc),
             attr_value: String::new(alloc),
             spares: Spares::new(alloc),
@@ -53,44 +44,27 @@ impl<A: Allocator + Copy> CurrentTag<A> {
     pub fn begin(&mut self, kind: TagKind)
         ensures { open_tag self.new ≡ begun kind }
     {
-        self.kind = kind;
-        self.name.clear();
-        self.attrs.clear();
-        self.had_duplicate_attributes = false;
+        self.indexed.begin(kind);
         self.attr_name.clear();
         self.attr_value.clear();
     }
 
     /// Ends the tag after its last attribute, and answers the tag. What stays here says nothing until
     /// the next tag begins.
+    #[inline(always)]
     pub fn end(&mut self, alloc: A) -> Tag<A>
-        ensures { tag_of result ≡ told_tag (open_tag self.old) self.old.self_closing }
+        ensures { tag_of result ≡ told_tag (open_tag self.old) self.old.indexed.self_closing }
     {
-        Tag {
-            kind: self.kind,
-            name: LocalName(mem::replace(&mut self.name, String::new(alloc))),
-            self_closing: self.self_closing,
-            attrs: self.attrs.take(alloc),
-            had_duplicate_attributes: self.had_duplicate_attributes,
-        }
+        self.indexed.take(alloc)
     }
 
     /// Takes the memory of a tag for the next ones. Nothing else of it is kept.
     #[inline(always)]
     pub fn reuse(&mut self, tag: Tag<A>)
-        ensures name { string_bytes self.new.name ≡ [] }
-        ensures attributes { self.new.attrs ≡ [] }
+        ensures name { self.new.indexed.name ≡ [] }
+        ensures attributes { self.new.indexed.attributes ≡ [] }
     {
-        let Tag {
-            kind: _,
-            name: LocalName(name),
-            attrs,
-            self_closing: _,
-            had_duplicate_attributes: _,
-        } = tag;
-        self.attrs.reuse(attrs, &mut self.spares);
-        self.name = name;
-        self.name.clear();
+        self.indexed.reuse(tag, &mut self.spares);
     }
 
     /// Ends the last attribute, if there is one. Where the tag already has its name, nothing changes.
@@ -118,14 +92,14 @@ impl<A: Allocator + Copy> CurrentTag<A> {
             → open_tag self.new ≡ with_last_attribute (open_tag self.old)) }
         ensures unchanged { IfOk result (λ kept. kept ≡ false → self.new ≡ self.old) }
     {
-        if self.attrs.has(&self.attr_name) {
+        if self.indexed.has_attribute(&self.attr_name) {
             return Ok(false);
         }
         let next_name = self.spares.take(alloc)?;
         let next_value = self.spares.take(alloc)?;
         let name = mem::replace(&mut self.attr_name, next_name);
         let value = mem::replace(&mut self.attr_value, next_value);
-        self.attrs.push(alloc, name, value)?;
+        self.indexed.push_attribute(alloc, name, value)?;
         Ok(true)
     }
 
@@ -139,7 +113,7 @@ impl<A: Allocator + Copy> CurrentTag<A> {
         if self.keep_attribute(alloc)? {
             return Ok(false);
         }
-        self.had_duplicate_attributes = true;
+        self.indexed.note_duplicate();
         self.attr_name.clear();
         self.attr_value.clear();
         Ok(true)

@@ -5,7 +5,6 @@
 //! Internal to `html5ever`, which callers use.
 #![tactic(auto)]
 
-pub mod attribute_list;
 pub mod cdata;
 pub mod char_ref;
 pub mod characters;
@@ -16,6 +15,7 @@ pub mod doctype_keyword;
 pub mod doctypes;
 pub mod error;
 pub mod found;
+pub mod indexed_tag;
 pub mod keyword;
 pub mod letters;
 pub mod message;

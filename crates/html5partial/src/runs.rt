@@ -1,7 +1,7 @@
 //! Runs: characters that are read at once. For each state that reads runs, which
 //! characters end one, and where a run within a tag goes. A run between tags is sent as one text, and
 //! goes on over line feeds.
-ghost use Rattle.std.specs.Prelude.{◌≡◌, ℕ, [], false, ◌↔◌, ◌++◌, Contains, OnOk, IfSome, is_some, string_bytes, flat_map};
+ghost use Rattle.std.specs.Prelude.{◌≡◌, ℕ, [], false, ◌↔◌, ◌++◌, true, Contains, OnOk, IfSome, is_some, string_bytes, flat_map};
 ghost use Rattle.std.specs.Str.{chars};
 ghost use Rattle.html5reading.specs.Cdata.{open_cdata};
 ghost use Rattle.html5reading.specs.Characters.{name_bytes};
@@ -13,7 +13,7 @@ ghost use Rattle.html5reading.specs.Start.Place.{InName, InAttributeName};
 ghost use Rattle.html5ever_interface.specs.declared.interface.token.TagKind.TheVariants.{StartTag};
 ghost use Rattle.html5partial.specs.CurrentTag.{opened_of, last_name_of};
 ghost use Rattle.html5partial.specs.Runs.{IsRunAt, other_value_ends, other_run_ends, run_ends, stays_in_names, opened_after_run};
-ghost use Rattle.std.specs.List.{list_all};
+ghost use Rattle.std.specs.List.{AllPass, list_all};
 ghost use Rattle.markup5ever.specs.SmallCharSet.{IsMember};
 
 use crate::comments::{ends_in, is_comment_state};
@@ -156,6 +156,24 @@ pub fn push_names<A: Allocator>(name: &mut String<A>, run: &str) -> Result<(), A
     Ok(())
 }
 
+/// Appends the front of a name.
+#[inline(always)]
+pub fn push_front<A: Allocator>(
+    name: &mut String<A>,
+    front: &str,
+    is_plain: bool,
+) -> Result<(), AllocError>
+    requires { is_plain ≡ true → AllPass stays_in_names front.now }
+    ensures { OnOk result (string_bytes name.new
+        ≡ string_bytes name.old ++ flat_map name_bytes (chars front.now)) }
+{
+    if !is_plain {
+        return push_names(name, front);
+    }
+    push_text(name, front)?;
+    Ok(())
+}
+
 /// Appends a run to the open name or value, or to the text of a comment, an instruction or a section.
 #[inline(always)]
 pub fn push_run<A: Allocator>(at: &mut Opened<A>, run: &str) -> Result<(), AllocError>
@@ -167,7 +185,7 @@ pub fn push_run<A: Allocator>(at: &mut Opened<A>, run: &str) -> Result<(), Alloc
     ensures held { held_len (opened_of at.new) ≡ 0 }
 {
     match at.state {
-        State::TagName => push_names(&mut at.tag.name, run)?,
+        State::TagName => at.tag.indexed.push_names(run)?,
         State::AttributeName => push_names(&mut at.tag.attr_name, run)?,
         State::AttributeValue(_) => push_text(&mut at.tag.attr_value, run)?,
         State::BogusComment => at.comment.push_str(run)?,

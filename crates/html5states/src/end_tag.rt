@@ -27,16 +27,16 @@ fn is_end_tag(kind: TagKind) -> bool
 
 // Whether the tag is an end tag with attributes.
 fn has_wrong_attributes<A: Allocator>(tag: &CurrentTag<A>) -> bool
-    ensures { result ≡ is_end_tag tag.now.kind && not (nat_eq (length (open_tag tag.now).attributes) 0) }
+    ensures { result ≡ is_end_tag tag.now.indexed.kind && not (nat_eq (length (open_tag tag.now).attributes) 0) }
 {
-    is_end_tag(tag.kind) && !tag.attrs.is_empty()
+    is_end_tag(tag.indexed.kind()) && tag.indexed.has_attributes()
 }
 
 // Whether the tag is an end tag that closes itself.
 fn has_wrong_solidus<A: Allocator>(tag: &CurrentTag<A>, self_closing: bool) -> bool
-    ensures { result ≡ is_end_tag tag.now.kind && self_closing }
+    ensures { result ≡ is_end_tag tag.now.indexed.kind && self_closing }
 {
-    is_end_tag(tag.kind) && self_closing
+    is_end_tag(tag.indexed.kind()) && self_closing
 }
 
 impl<S: TokenSink<Token<A>>, A: Allocator + Copy> Teller<'_, S, A> {
@@ -78,7 +78,7 @@ impl<S: TokenSink<Token<A>>, A: Allocator + Copy> Teller<'_, S, A> {
     {
         at.state = State::Data;
         self.finish_tag(&mut at.tag, self_closing)?;
-        at.tag.self_closing = self_closing;
+        at.tag.indexed.set_self_closing(self_closing);
         Ok(Progress::EndsTag)
     }
 }

@@ -269,7 +269,7 @@ impl<S: TokenSink<Token<A>>, A: Allocator + Copy> Teller<'_, S, A> {
     {
         at.state = State::TagName;
         at.tag.begin(TagKind::EndTag);
-        at.tag.name = name;
+        at.tag.indexed.set_name(name);
         self.tag_name_state(at, c)
     }
 

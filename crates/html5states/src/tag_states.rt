@@ -38,7 +38,7 @@ impl<S: TokenSink<Token<A>>, A: Allocator + Copy> Teller<'_, S, A> {
             '/' => at.state = State::SelfClosingStartTag,
             '>' => return self.end_tag(at, false),
             _ => {
-                push_name(&mut at.tag.name, c)?;
+                at.tag.indexed.push_name(c)?;
                 self.emit_unexpected_where(c == '\0', c, State::TagName)?;
             }
         }

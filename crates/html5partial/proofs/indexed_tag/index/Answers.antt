@@ -1,7 +1,7 @@
 use Rattle.std.proofs.Common.{arith, refl}
 use Rattle.html5reading.specs.Tag.{has_attribute}
 use Rattle.html5partial.proofs.AttributeNames.{names-more}
-use Rattle.html5partial.proofs.attribute_list.index.Goals as goal
+use Rattle.html5partial.proofs.indexed_tag.index.Goals as goal
 
 pub loop-attribute-init : goal.loop-attribute-init
 unfolding has_attribute

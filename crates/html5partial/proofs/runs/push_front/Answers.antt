@@ -2,7 +2,7 @@ use Rattle.std.proofs.Common.{◌++◌, string_bytes, sym, ap, ◌∙◌}
 use Rattle.std.proofs.lemmas.List.Sums.{list_all-from_AllPass}
 use Rattle.html5partial.specs.Runs.{stays_in_names}
 use Rattle.html5partial.proofs.PlainNames.{plain-run}
-use Rattle.html5fast_path.proofs.names.push_front.Goals as goal
+use Rattle.html5partial.proofs.runs.push_front.Goals as goal
 
 pub returns : goal.returns
 returns g c =

@@ -1,6 +1,6 @@
 use Rattle.std.proofs.Common.{◌≡◌, rules, string_bytes}
 use Rattle.html5partial.proofs.AttributeNames.{adds-name}
-use Rattle.html5partial.proofs.attribute_list.add_name.Goals as goal
+use Rattle.html5partial.proofs.indexed_tag.add_name.Goals as goal
 
 pub returns : goal.returns
 returns g c =
