@@ -48,6 +48,14 @@ fn emit_waiting_run<S: TokenSink<Token<A>>, A: Allocator + Copy>(
     told
 }
 
+// Whether a text begins with a `<` or an `&`. A run seldom does, in plain text or within quotes, and then this is read as a
+// character.
+#[inline(always)]
+fn begins_in_markup(text: &str) -> bool {
+    let bytes = text.as_bytes();
+    bytes.len() > 1 && matches!(bytes[0], b'<' | b'&')
+}
+
 // Reads the run with which the queue's text begins, if it begins with one. The run leaves the queue
 // even after a refusal.
 #[inline(always)]
@@ -66,6 +74,9 @@ fn read_waiting_run<S: TokenSink<Token<A>>, A: Allocator + Copy>(
         ≤ held_len position.old.opened + length queue.old.text }
     ensures empty { queue.old.text ≡ [] → IsOk result }
 {
+    if begins_in_markup(queue.front_text()) {
+        return Ok(());
+    }
     let bytes = position.run_len(rules, queue.front_text());
     if bytes == 0 {
         return Ok(());

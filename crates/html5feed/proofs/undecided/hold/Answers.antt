@@ -1,4 +1,4 @@
-use Rattle.std.proofs.Common.{◌-◌, take, length, sym, ◌∙◌}
+use Rattle.std.proofs.Common.{◌-◌, take, length, sym}
 use Rattle.html5feed.proofs.AfterSemicolon.{undecided-after}
 use Rattle.html5feed.proofs.undecided.hold.Goals as goal
 

@@ -1,4 +1,4 @@
-use Rattle.std.proofs.Common.{◌-◌, take, length, arith}
+use Rattle.std.proofs.Common.{arith}
 use Rattle.std.proofs.lemmas.Str.Pattern.{ends_char}
 use Rattle.html5feed.proofs.undecided.is_ended_name.Goals as goal
 
