@@ -52,7 +52,7 @@ impl<A: Allocator> PlacedHandler<Token<A>> for Codes<A> {
 }
 
 // Whether these are the codes that a text tells.
-fn tells<A: Allocator + Copy>(rt: &impl Abort, alloc: A, source: &str, codes: &str) -> bool {
+fn tells(rt: &impl Abort, alloc: Global, source: &str, codes: &str) -> bool {
     let references = standard_references(alloc).expect(rt, "memory");
     let mut handler = Codes {
         kept: String::new(alloc),
@@ -62,9 +62,24 @@ fn tells<A: Allocator + Copy>(rt: &impl Abort, alloc: A, source: &str, codes: &s
     read.is_ok() && handler.kept.as_str().trim_end() == codes
 }
 
+// That each text tells the codes of its row.
+fn check_rows(rt: &impl Abort, alloc: Global, rows: &[(&str, &str)]) {
+    for (source, codes) in rows {
+        assert!(rt; tells(rt, alloc, source, codes), "of {source}");
+    }
+}
+
+// The same of doctypes, whose rows say what stands after such a keyword.
+fn check_doctypes(rt: &impl Abort, alloc: Global, keyword: &str, rows: &[(&str, &str)]) {
+    for (rest, codes) in rows {
+        let source = format!(in alloc; "<!DOCTYPE html {keyword}{rest}").expect(rt, "memory");
+        assert!(rt; tells(rt, alloc, &source, codes), "of {source}");
+    }
+}
+
 #[test]
 fn tags_tell_codes(rt: HostRuntime) {
-    let rows = [
+    let rows = &[
         ("<a b c=d e='f' g=\"h\"></a>", ""),
         ("1 < 2", "invalid-first-character-of-tag-name"),
         ("</>", "missing-end-tag-name"),
@@ -80,14 +95,12 @@ fn tags_tell_codes(rt: HostRuntime) {
         ("</p x>", "end-tag-with-attributes"),
         ("</p/>", "end-tag-with-trailing-solidus"),
     ];
-    for (source, codes) in rows {
-        assert!(rt; tells(&rt, rt.alloc(), source, codes), "of {source}");
-    }
+    check_rows(&rt, rt.alloc(), rows);
 }
 
 #[test]
 fn codes_are_told_in_order(rt: HostRuntime) {
-    let rows = [
+    let rows = &[
         (
             "<p a=\"b\"c\"d>",
             "missing-whitespace-between-attributes unexpected-character-in-attribute-name",
@@ -106,14 +119,12 @@ fn codes_are_told_in_order(rt: HostRuntime) {
         ),
         ("</><a", "missing-end-tag-name eof-in-tag"),
     ];
-    for (source, codes) in rows {
-        assert!(rt; tells(&rt, rt.alloc(), source, codes), "of {source}");
-    }
+    check_rows(&rt, rt.alloc(), rows);
 }
 
 #[test]
 fn comments_tell_codes(rt: HostRuntime) {
-    let rows = [
+    let rows = &[
         ("<!--a-->", ""),
         ("<!-->", "abrupt-closing-of-empty-comment"),
         ("<!--->", "abrupt-closing-of-empty-comment"),
@@ -123,14 +134,12 @@ fn comments_tell_codes(rt: HostRuntime) {
         // The standard has a code of its own for it.
         ("<![CDATA[x]]>", "incorrectly-opened-comment"),
     ];
-    for (source, codes) in rows {
-        assert!(rt; tells(&rt, rt.alloc(), source, codes), "of {source}");
-    }
+    check_rows(&rt, rt.alloc(), rows);
 }
 
 #[test]
 fn names_of_doctypes_tell_codes(rt: HostRuntime) {
-    let rows = [
+    let rows = &[
         ("<!DOCTYPE html PUBLIC \"x\" 'y'>", ""),
         ("<!DOCTYPE>", "missing-doctype-name"),
         ("<!DOCTYPEhtml>", "missing-whitespace-before-doctype-name"),
@@ -139,14 +148,12 @@ fn names_of_doctypes_tell_codes(rt: HostRuntime) {
             "invalid-character-sequence-after-doctype-name",
         ),
     ];
-    for (source, codes) in rows {
-        assert!(rt; tells(&rt, rt.alloc(), source, codes), "of {source}");
-    }
+    check_rows(&rt, rt.alloc(), rows);
 }
 
 #[test]
 fn public_identifiers_tell_codes(rt: HostRuntime) {
-    let rows = [
+    let rows = &[
         ("\"x\">", "missing-whitespace-after-doctype-public-keyword"),
         (">", "missing-doctype-public-identifier"),
         ("  >", "missing-doctype-public-identifier"),
@@ -160,15 +167,12 @@ fn public_identifiers_tell_codes(rt: HostRuntime) {
         (" 'x'y>", "missing-quote-before-doctype-system-identifier"),
         (" 'x' y>", "missing-quote-before-doctype-system-identifier"),
     ];
-    for (rest, codes) in rows {
-        let source = format!(in rt.alloc(); "<!DOCTYPE html PUBLIC{rest}").expect(&rt, "memory");
-        assert!(rt; tells(&rt, rt.alloc(), &source, codes), "of {source}");
-    }
+    check_doctypes(&rt, rt.alloc(), "PUBLIC", rows);
 }
 
 #[test]
 fn system_identifiers_tell_codes(rt: HostRuntime) {
-    let rows = [
+    let rows = &[
         ("\"x\">", "missing-whitespace-after-doctype-system-keyword"),
         (">", "missing-doctype-system-identifier"),
         (" x>", "missing-quote-before-doctype-system-identifier"),
@@ -178,15 +182,12 @@ fn system_identifiers_tell_codes(rt: HostRuntime) {
             "unexpected-character-after-doctype-system-identifier",
         ),
     ];
-    for (rest, codes) in rows {
-        let source = format!(in rt.alloc(); "<!DOCTYPE html SYSTEM{rest}").expect(&rt, "memory");
-        assert!(rt; tells(&rt, rt.alloc(), &source, codes), "of {source}");
-    }
+    check_doctypes(&rt, rt.alloc(), "SYSTEM", rows);
 }
 
 #[test]
 fn ends_tell_codes(rt: HostRuntime) {
-    let rows = [
+    let rows = &[
         ("a", ""),
         ("a<", "eof-before-tag-name"),
         ("</", "eof-before-tag-name"),
@@ -214,14 +215,12 @@ fn ends_tell_codes(rt: HostRuntime) {
         // The standard tells the question mark alone.
         ("<?a", "none"),
     ];
-    for (source, codes) in rows {
-        assert!(rt; tells(&rt, rt.alloc(), source, codes), "of {source}");
-    }
+    check_rows(&rt, rt.alloc(), rows);
 }
 
 #[test]
 fn references_tell_codes(rt: HostRuntime) {
-    let rows = [
+    let rows = &[
         ("&amp;", ""),
         ("&ampx", "missing-semicolon-after-character-reference"),
         ("&foo;", "unknown-named-character-reference"),
@@ -233,14 +232,12 @@ fn references_tell_codes(rt: HostRuntime) {
         // The standard says why.
         ("&#0;", "none"),
     ];
-    for (source, codes) in rows {
-        assert!(rt; tells(&rt, rt.alloc(), source, codes), "of {source}");
-    }
+    check_rows(&rt, rt.alloc(), rows);
 }
 
 #[test]
 fn nulls_tell_their_code(rt: HostRuntime) {
-    let sources = [
+    let sources = &[
         "a\0",
         "<a\0>",
         "<a \0>",
@@ -272,7 +269,7 @@ fn nulls_tell_their_code(rt: HostRuntime) {
         "<script><!--<script>--\0</script>--></script>",
         "<plaintext>\0",
     ];
-    for source in sources {
+    for &source in sources {
         let codes = match source {
             "</?\0>" => "invalid-first-character-of-tag-name unexpected-null-character",
             _ => "unexpected-null-character",
@@ -290,15 +287,15 @@ fn code_or<A: Allocator>(token: &Token<A>, before: &'static str) -> &'static str
 }
 
 // The last error of a text in foreign content.
-fn last_in_foreign<A: Allocator + Copy>(rt: &impl Abort, alloc: A, source: &str) -> &'static str {
+fn last_in_foreign(rt: &impl Abort, alloc: Global, source: &str) -> &'static str {
     let references = standard_references(alloc).expect(rt, "memory");
     let text = String::from_str(alloc, source).expect(rt, "memory");
     let sink = Collector::new(alloc, true);
     let (sink, read) = read_whole(alloc, sink, TokenizerOpts::default(), &references, text);
-    let mut last = "";
     if read.is_err() {
-        return last;
+        return "not read";
     }
+    let mut last = "";
     for (token, _) in sink.entries() {
         last = code_or(token, last);
     }
@@ -307,20 +304,22 @@ fn last_in_foreign<A: Allocator + Copy>(rt: &impl Abort, alloc: A, source: &str)
 
 #[test]
 fn cdata_tells_its_code(rt: HostRuntime) {
-    assert_eq!(rt; last_in_foreign(&rt, rt.alloc(), "<![CDATA[a]]>"), "");
-    assert_eq!(rt;
-        last_in_foreign(&rt, rt.alloc(), "<![CDATA[a"),
-        "eof-in-cdata"
-    );
-    assert_eq!(rt;
-        last_in_foreign(&rt, rt.alloc(), "<![CDATA[a]"),
-        "eof-in-cdata"
-    );
+    for &(source, code) in &[
+        ("<![CDATA[a]]>", ""),
+        ("<![CDATA[a", "eof-in-cdata"),
+        ("<![CDATA[a]", "eof-in-cdata"),
+    ] {
+        assert_eq!(rt;
+            last_in_foreign(&rt, rt.alloc(), source),
+            code,
+            "of {source}"
+        );
+    }
 }
 
 #[test]
 fn other_texts_have_no_code(rt: HostRuntime) {
-    let texts = [
+    let texts = &[
         "",
         "Saw ",
         "Saw a",
@@ -330,7 +329,7 @@ fn other_texts_have_no_code(rt: HostRuntime) {
         "Bad character",
         "Unexpected EOF",
     ];
-    for text in texts {
+    for &text in texts {
         assert!(rt; error_code(text).is_none(), "of {text}");
     }
 }

@@ -39,7 +39,7 @@ fn attributes_of_old_and_other_kinds_are_known(rt: HostRuntime) {
 
 #[test]
 fn other_attributes_are_unknown(rt: HostRuntime) {
-    let names = [
+    let names = &[
         "",
         "i",
         "key",
@@ -66,14 +66,14 @@ fn other_attributes_are_unknown(rt: HostRuntime) {
         "div",
         "cl\u{430}ss",
     ];
-    for name in names {
+    for &name in names {
         assert!(rt; !is_known_attribute(name), "{name}");
     }
 }
 
 #[test]
 fn attributes_are_meant(rt: HostRuntime) {
-    let rows = [
+    let rows = &[
         // two neighbours are swapped
         ("scr", "src"),
         ("rsc", "src"),
@@ -109,14 +109,14 @@ fn attributes_are_meant(rt: HostRuntime) {
         // the first that is near
         ("method1", "method"),
     ];
-    for (name, meant) in rows {
+    for &(name, meant) in rows {
         assert_eq!(rt; meant_attribute(name).unwrap_or("none"), meant, "of {name}");
     }
 }
 
 #[test]
 fn no_attribute_is_meant(rt: HostRuntime) {
-    let names = [
+    let names = &[
         // known
         "src",
         "class",
@@ -149,7 +149,7 @@ fn no_attribute_is_meant(rt: HostRuntime) {
         "ngclick",
         "CLASS",
     ];
-    for name in names {
+    for &name in names {
         assert!(rt; meant_attribute(name).is_none(), "{name}");
     }
 }

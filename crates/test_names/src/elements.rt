@@ -26,7 +26,7 @@ fn obsolete_elements_are_known(rt: HostRuntime) {
 
 #[test]
 fn other_elements_are_unknown(rt: HostRuntime) {
-    let names = [
+    let names = &[
         "",
         "h",
         "h0",
@@ -52,14 +52,14 @@ fn other_elements_are_unknown(rt: HostRuntime) {
         "nav ",
         "\u{430}side",
     ];
-    for name in names {
+    for &name in names {
         assert!(rt; !is_known_element(name), "{name}");
     }
 }
 
 #[test]
 fn elements_are_meant(rt: HostRuntime) {
-    let rows = [
+    let rows = &[
         // two neighbours are swapped
         ("dvi", "div"),
         ("idv", "div"),
@@ -98,14 +98,14 @@ fn elements_are_meant(rt: HostRuntime) {
         ("mete", "meta"),
         ("heade", "head"),
     ];
-    for (name, meant) in rows {
+    for &(name, meant) in rows {
         assert_eq!(rt; meant_element(name).unwrap_or("none"), meant, "of {name}");
     }
 }
 
 #[test]
 fn no_element_is_meant(rt: HostRuntime) {
-    let names = [
+    let names = &[
         // known
         "div",
         "font",
@@ -139,7 +139,7 @@ fn no_element_is_meant(rt: HostRuntime) {
         "foo",
         "DIV",
     ];
-    for name in names {
+    for &name in names {
         assert!(rt; meant_element(name).is_none(), "{name}");
     }
 }
