@@ -64,7 +64,7 @@ fn text_read<S: Source>(
 }
 
 fn check_page(rt: &impl Abort, alloc: Global, page: &[u8], said: &str, wanted: &str) {
-    for size in [1, 2, 3, 700, 1024, 5000] {
+    for &size in &[1, 2, 3, 700, 1024, 5000] {
         let (text, read) = text_read(rt, alloc, &mut PieceSource::new(page, size), said);
         assert!(rt; read.is_ok());
         assert_eq!(rt; text.as_str(), wanted, "{page:?}");
@@ -73,34 +73,23 @@ fn check_page(rt: &impl Abort, alloc: Global, page: &[u8], said: &str, wanted: &
 
 #[test]
 fn texts_of_pages(rt: HostRuntime) {
-    let alloc = rt.alloc();
-    check_page(&rt, alloc, b"", "", "");
-    check_page(&rt, alloc, b"caf\xe9", "", "caf\u{e9}");
-    check_page(&rt, alloc, b"caf\xc3\xa9", "", "caf\u{e9}");
-    check_page(&rt, alloc, b"caf\xe9", "windows-1251", "caf\u{439}");
-    check_page(&rt, alloc, b"<meta charset=latin1>caf\xe9", "", "caf\u{e9}");
-    check_page(
-        &rt,
-        alloc,
-        b"caf\xe9<meta charset=windows-1251>",
-        "",
-        "caf\u{439}",
-    );
-    check_page(&rt, alloc, b"\xff\xfe<\0p\0>\0\xe9\0", "koi8-r", "\u{e9}");
-    check_page(
-        &rt,
-        alloc,
-        b"\xef\xbb\xbfcaf\xc3\xa9\xff",
-        "koi8-r",
-        "caf\u{e9}\u{fffd}",
-    );
-    check_page(
-        &rt,
-        alloc,
-        b"\x93\xfa<p>\x96{",
-        "shift_jis",
-        "\u{65e5}\u{672c}",
-    );
+    for &(page, said, wanted) in &[
+        (b"".as_slice(), "", ""),
+        (b"caf\xe9", "", "caf\u{e9}"),
+        (b"caf\xc3\xa9", "", "caf\u{e9}"),
+        (b"caf\xe9", "windows-1251", "caf\u{439}"),
+        (b"<meta charset=latin1>caf\xe9", "", "caf\u{e9}"),
+        (b"caf\xe9<meta charset=windows-1251>", "", "caf\u{439}"),
+        (b"\xff\xfe<\0p\0>\0\xe9\0", "koi8-r", "\u{e9}"),
+        (
+            b"\xef\xbb\xbfcaf\xc3\xa9\xff",
+            "koi8-r",
+            "caf\u{e9}\u{fffd}",
+        ),
+        (b"\x93\xfa<p>\x96{", "shift_jis", "\u{65e5}\u{672c}"),
+    ] {
+        check_page(&rt, rt.alloc(), page, said, wanted);
+    }
 }
 
 // A page of so many letters, a hint, and a byte.
@@ -115,7 +104,7 @@ fn long_page(rt: &impl Abort, alloc: Global, letters: usize) -> Vec<u8> {
 #[test]
 fn a_late_hint(rt: HostRuntime) {
     let alloc = rt.alloc();
-    for (letters, end) in [(998, "a\u{439}"), (65509, "a\u{439}"), (65510, "a\u{fffd}")] {
+    for &(letters, end) in &[(998, "a\u{439}"), (65509, "a\u{439}"), (65510, "a\u{fffd}")] {
         let page = long_page(&rt, alloc, letters);
         let (text, read) = text_read(&rt, alloc, &mut PieceSource::new(&page, 100), "");
         assert!(rt; read.is_ok());
@@ -123,15 +112,23 @@ fn a_late_hint(rt: HostRuntime) {
     }
 }
 
-// A read that fails among the first bytes, or after them.
+// A read that fails among the first bytes, or after them. No text is handed on until a byte beyond plain ASCII, here
+// the last one, ends the search for a hint.
 #[test]
 fn a_failed_read(rt: HostRuntime) {
     let alloc = rt.alloc();
     let page = long_page(&rt, alloc, 1100);
-    for (reads, count) in [(0, 0), (5, 0), (1023, 0), (1050, 1050)] {
+    for &(reads, count) in &[
+        (0, 0),
+        (5, 0),
+        (1023, 0),
+        (1050, 0),
+        (1127, 0),
+        (1128, 1100),
+    ] {
         let (text, read) = text_read(&rt, alloc, &mut FailingSource::new(&page, reads), "");
         assert!(rt; read == Err(StreamError::Read));
-        assert_eq!(rt; text.len() <= count, true);
+        assert_eq!(rt; text.len(), count, "after {reads}");
     }
 }
 

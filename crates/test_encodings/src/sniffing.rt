@@ -2,6 +2,8 @@
 use html5encodings::{Encoding, SingleByte};
 use html5sniffing::sniff;
 use markup5ever::data::NamedReferences;
+use std::alloc::{AllocError, Allocator, Global};
+use std::process::Abort;
 use testing_alloc::Refusing;
 
 // What is said of a page, or its fallback.
@@ -164,13 +166,34 @@ pub fn named(label: &str) -> Option<Encoding> {
     Encoding::for_label(label)
 }
 
+// What a page's first bytes tell of its encoding, or `None` where there was no memory for the table.
+fn sniffed<A: Allocator + Copy>(
+    alloc: A,
+    page: &[u8],
+    said: Option<Encoding>,
+    fallback: Option<Encoding>,
+) -> Option<Result<Encoding, AllocError>> {
+    let references: NamedReferences<A> = NamedReferences::check(alloc, Vec::new(alloc)).ok()?;
+    Some(sniff(alloc, &references, page, said, fallback))
+}
+
+// The name of a page's encoding.
+fn name_of(
+    rt: &impl Abort,
+    alloc: Global,
+    page: &[u8],
+    said: Option<Encoding>,
+    fallback: Option<Encoding>,
+) -> &'static str {
+    let encoding = sniffed(alloc, page, said, fallback).expect(rt, "a table");
+    encoding.expect(rt, "memory").name()
+}
+
 #[test]
 fn encodings_of_pages(rt: HostRuntime) {
-    let alloc = rt.alloc();
-    let references = NamedReferences::check(alloc, Vec::new(alloc)).expect(&rt, "a table");
-    for (page, said, fallback, name) in PAGES {
-        let encoding = sniff(alloc, &references, page, said, fallback);
-        assert_eq!(rt; encoding.expect(&rt, "memory").name(), name, "{page:?}");
+    for &(page, said, fallback, name) in &PAGES {
+        let encoding = name_of(&rt, rt.alloc(), page, said, fallback);
+        assert_eq!(rt; encoding, name, "{page:?}");
     }
 }
 
@@ -178,12 +201,10 @@ fn encodings_of_pages(rt: HostRuntime) {
 #[test]
 fn a_cut_character(rt: HostRuntime) {
     let alloc = rt.alloc();
-    let references = NamedReferences::check(alloc, Vec::new(alloc)).expect(&rt, "a table");
-    for (count, name) in [(1023, "UTF-8"), (1022, "windows-1252")] {
+    for &(count, name) in &[(1023, "UTF-8"), (1022, "windows-1252")] {
         let mut front = vec![in alloc; b'a'; count].expect(&rt, "memory");
         front.push(0xC3).expect(&rt, "memory");
-        let encoding = sniff(alloc, &references, &front, None, None);
-        assert_eq!(rt; encoding.expect(&rt, "memory").name(), name);
+        assert_eq!(rt; name_of(&rt, alloc, &front, None, None), name);
     }
 }
 
@@ -192,18 +213,14 @@ fn a_refused_growth_is_an_error(rt: HostRuntime) {
     let mut refused = 0u64;
     for admitted in 0..1000u64 {
         let heap = Refusing::new(rt.alloc(), admitted);
-        let references: NamedReferences<&Refusing<std::alloc::Global>> =
-            match NamedReferences::check(&heap, Vec::new(&heap)) {
-                Ok(references) => references,
-                Err(_) => continue,
-            };
-        match sniff(&heap, &references, b"<p a=b><meta charset=gbk>", None, None) {
-            Ok(encoding) => {
+        match sniffed(&heap, b"<p a=b><meta charset=gbk>", None, None) {
+            None => {}
+            Some(Ok(encoding)) => {
                 assert_eq!(rt; encoding.name(), "GBK");
                 assert!(rt; !heap.has_refused());
                 break;
             }
-            Err(_) => refused = refused.wrapping_add(1),
+            Some(Err(_)) => refused = refused.wrapping_add(1),
         }
     }
     assert!(rt; 3 <= refused);

@@ -99,6 +99,15 @@ fn a_source_that_fails(rt: HostRuntime) {
     }
 }
 
+// Reads once, and appends what was read. No error comes but of a refused growth.
+fn read_more<S: Source>(rt: &impl Abort, source: &mut S, text: &mut Vec<u8>) {
+    let mut room = [0; 16];
+    match source.read(&mut room) {
+        Ok(count) => text.extend_from_slice(&room[..count]).expect(rt, "memory"),
+        Err(error) => assert!(rt; error.kind() == ErrorKind::OutOfMemory),
+    }
+}
+
 // Each refused growth loses nothing: a read after it goes on.
 #[test]
 fn a_refused_read_is_tried_again(rt: HostRuntime) {
@@ -112,12 +121,8 @@ fn a_refused_read_is_tried_again(rt: HostRuntime) {
             Encoding::EucJp,
         );
         let mut text = Vec::new(rt.alloc());
-        let mut room = [0; 16];
         for _reads in 0..20 {
-            match source.read(&mut room) {
-                Ok(count) => text.extend_from_slice(&room[..count]).expect(&rt, "memory"),
-                Err(error) => assert!(rt; error.kind() == ErrorKind::OutOfMemory),
-            }
+            read_more(&rt, &mut source, &mut text);
         }
         assert_eq!(rt; text.as_slice(), "ab\u{3042}c".as_bytes());
         if !heap.has_refused() {

@@ -19,8 +19,8 @@ fn readers_and_writers_come_back(rt: HostRuntime) {
 
 // Decodes pieces on a heap that may refuse a request. Answers whether it did.
 fn is_refused(rt: &impl Abort, heap: &Refusing<Global>) -> bool {
-    let pieces: [&[u8]; 3] = [b"ab\xc3", b"\xa9cd\xe2", b"\x82\xac"];
-    let text: Result<String<&Refusing<Global>>, DecodeError> = decode_all(heap, &pieces);
+    let pieces: &[&[u8]] = &[b"ab\xc3", b"\xa9cd\xe2", b"\x82\xac"];
+    let text: Result<String<&Refusing<Global>>, DecodeError> = decode_all(heap, pieces);
     match text {
         Ok(text) => {
             assert_eq!(rt; text.as_str(), "ab\u{e9}cd\u{20ac}");

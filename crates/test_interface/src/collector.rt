@@ -1,5 +1,6 @@
-use crate::made::{tokens_of, told};
+use crate::made::{token_of, tokens_of, told};
 use html5ever_interface::collect::Collector;
+use html5ever_interface::interface::token::Token;
 use std::alloc::Allocator;
 use std::process::Abort;
 use testing_alloc::Refusing;
@@ -18,22 +19,35 @@ const TOKENS: [(&str, &str); 10] = [
     ("end", ""),
 ];
 
+// Sends a token to a sink, and the same token to a second one where the first took it. The two stay alike. Answers
+// whether it was taken.
+fn is_taken<A: Allocator + Copy>(
+    rt: &impl Abort,
+    sink: &mut Collector<A>,
+    second: &mut Collector<A>,
+    token: Token<A>,
+    same: Token<A>,
+) -> bool {
+    let taken = told(sink, token, 10);
+    if taken {
+        assert!(rt; told(second, same, 10));
+    }
+    assert!(rt; sink.entries() == second.entries());
+    taken
+}
+
 // Sends tokens to a sink on a heap that may refuse a request, and those that it took to a second sink on
-// an ample heap. The two stay alike. Answers how many were refused, or `None` where the tokens
-// themselves could not be made.
+// an ample heap. Answers how many were refused, or `None` where the tokens themselves could not be made.
 fn refusals<A: Allocator + Copy>(rt: &impl Abort, heap: A, ample: A) -> Option<u64> {
     let tokens = tokens_of(heap, &TOKENS).ok()?;
-    let same_tokens = tokens_of(ample, &TOKENS).expect(rt, "memory");
     let mut sink = Collector::new(heap, false);
     let mut second = Collector::new(ample, false);
     let mut refused = 0u64;
-    for (token, same) in tokens.into_iter().zip(same_tokens) {
-        if told(&mut sink, token, 10) {
-            assert!(rt; told(&mut second, same, 10));
-        } else {
+    for (token, &(kind, text)) in tokens.into_iter().zip(&TOKENS) {
+        let same = token_of(ample, kind, text).expect(rt, "memory");
+        if !is_taken(rt, &mut sink, &mut second, token, same) {
             refused = refused.wrapping_add(1);
         }
-        assert!(rt; sink.entries() == second.entries());
     }
     Some(refused)
 }

@@ -29,78 +29,96 @@ const NO_TOKEN: &str = "the sink could not take a token";
 
 const NO_UTF8: &str = "the bytes from place 7 on are no UTF-8";
 
+// Rows that name a constant are constants of their own.
+const TOKENIZER: [(TokenizerError, &str); 3] = [
+    (TokenizerError::Memory, "out of memory"),
+    (TokenizerError::Sink, NO_TOKEN),
+    (TokenizerError::Failed, "an earlier call failed"),
+];
+
+const SINK: [(SinkFault, &str); 1] = [(SinkFault, NO_TOKEN)];
+
+const DECODER: [(DecodeError, &str); 2] = [
+    (DecodeError::NotUtf8 { valid_up_to: 7 }, NO_UTF8),
+    (DecodeError::Memory, "out of memory"),
+];
+
+const STREAM: [(StreamError, &str); 3] = [
+    (StreamError::Read, "a read failed"),
+    (StreamError::Sink, NO_TOKEN),
+    (StreamError::TooLong, "the source does not end"),
+];
+
+const SESSION: [(SessionError, &str); 6] = [
+    (SessionError::Memory, "out of memory"),
+    (SessionError::NotUtf8 { valid_up_to: 7 }, NO_UTF8),
+    (SessionError::Cut, "the bytes end within a character"),
+    (SessionError::Waiting, "text waits to be fed"),
+    (SessionError::ItemOpen, "a tag or another item is open"),
+    (SessionError::Over, "the session is over"),
+];
+
 #[test]
 fn of_the_tokenizer(rt: HostRuntime) -> Result<(), Fail> {
-    let tokenizer = [
-        (TokenizerError::Memory, "out of memory"),
-        (TokenizerError::Sink, NO_TOKEN),
-        (TokenizerError::Failed, "an earlier call failed"),
-    ];
-    check_texts(&rt, rt.alloc(), &tokenizer)?;
-    check_texts(&rt, rt.alloc(), &[(SinkFault, NO_TOKEN)])?;
-    let text = [
-        (TextFault::Memory, "no memory for a copy of the text"),
-        (TextFault::Sink, "the sink could not take the text"),
-    ];
-    check_texts(&rt, rt.alloc(), &text)
+    check_texts(&rt, rt.alloc(), &TOKENIZER)?;
+    check_texts(&rt, rt.alloc(), &SINK)?;
+    check_texts(
+        &rt,
+        rt.alloc(),
+        &[
+            (TextFault::Memory, "no memory for a copy of the text"),
+            (TextFault::Sink, "the sink could not take the text"),
+        ],
+    )
 }
 
 #[test]
 fn of_bytes_that_come_in(rt: HostRuntime) -> Result<(), Fail> {
-    let devices = [
-        (Fault::NotUtf8, "input is not UTF-8"),
-        (Fault::Memory, "out of memory"),
-        (Fault::Device, "read or write failed"),
-    ];
-    check_texts(&rt, rt.alloc(), &devices)?;
-    let decoder = [
-        (DecodeError::NotUtf8 { valid_up_to: 7 }, NO_UTF8),
-        (DecodeError::Memory, "out of memory"),
-    ];
-    check_texts(&rt, rt.alloc(), &decoder)?;
-    let stream = [
-        (StreamError::Read, "a read failed"),
-        (StreamError::Sink, NO_TOKEN),
-        (StreamError::TooLong, "the source does not end"),
-    ];
-    check_texts(&rt, rt.alloc(), &stream)?;
-    let session = [
-        (SessionError::Memory, "out of memory"),
-        (SessionError::NotUtf8 { valid_up_to: 7 }, NO_UTF8),
-        (SessionError::Cut, "the bytes end within a character"),
-        (SessionError::Waiting, "text waits to be fed"),
-        (SessionError::ItemOpen, "a tag or another item is open"),
-        (SessionError::Over, "the session is over"),
-    ];
-    check_texts(&rt, rt.alloc(), &session)
+    check_texts(
+        &rt,
+        rt.alloc(),
+        &[
+            (Fault::NotUtf8, "input is not UTF-8"),
+            (Fault::Memory, "out of memory"),
+            (Fault::Device, "read or write failed"),
+        ],
+    )?;
+    check_texts(&rt, rt.alloc(), &DECODER)?;
+    check_texts(&rt, rt.alloc(), &STREAM)?;
+    check_texts(&rt, rt.alloc(), &SESSION)
 }
 
 #[test]
 fn of_what_is_written(rt: HostRuntime) -> Result<(), Fail> {
-    let in_value = WriteError::NullInValue {
-        attribute: 1,
-        at: 4,
-    };
-    let write = [
-        (
-            WriteError::NullInText { at: 3 },
-            "a NUL at byte 3 of the text",
-        ),
-        (WriteError::TagName, "a name that no tag is read with"),
-        (
-            WriteError::AttributeName { attribute: 2 },
-            "attribute 2 has a name that none is read with",
-        ),
-        (in_value, "a NUL at byte 4 of the value of attribute 1"),
-        (
-            WriteError::Repeated { attribute: 5 },
-            "attribute 5 repeats a name",
-        ),
-        (
-            WriteError::CommentText,
-            "a text that no comment is read with",
-        ),
-        (WriteError::Memory, "out of memory"),
-    ];
-    check_texts(&rt, rt.alloc(), &write)
+    check_texts(
+        &rt,
+        rt.alloc(),
+        &[
+            (
+                WriteError::NullInText { at: 3 },
+                "a NUL at byte 3 of the text",
+            ),
+            (WriteError::TagName, "a name that no tag is read with"),
+            (
+                WriteError::AttributeName { attribute: 2 },
+                "attribute 2 has a name that none is read with",
+            ),
+            (
+                WriteError::NullInValue {
+                    attribute: 1,
+                    at: 4,
+                },
+                "a NUL at byte 4 of the value of attribute 1",
+            ),
+            (
+                WriteError::Repeated { attribute: 5 },
+                "attribute 5 repeats a name",
+            ),
+            (
+                WriteError::CommentText,
+                "a text that no comment is read with",
+            ),
+            (WriteError::Memory, "out of memory"),
+        ],
+    )
 }

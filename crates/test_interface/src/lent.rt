@@ -6,22 +6,29 @@ use html5ever_interface::interface::sink::TokenSink;
 use html5ever_interface::interface::token::{TagKind, Token};
 use html5ever_interface::options::TokenizerOpts;
 use markup5ever::data::NamedReferences;
+use std::alloc::Allocator;
+use std::process::Abort;
 use testing_alloc::Refusing;
 use token_printer::print_sink::PrintSink;
+
+// Whether a text is read, and its tokens are printed.
+fn is_printed<A: Allocator + Copy>(rt: &impl Abort, heap: A, text: String<A>) -> bool {
+    let references = NamedReferences::check(heap, Vec::new(heap)).expect(rt, "a table");
+    let sink = PrintSink::new(heap, false);
+    let (_, read) = read_whole(heap, sink, TokenizerOpts::default(), &references, text);
+    read.is_ok()
+}
 
 // There are 128 tags and 128 attributes, and fewer requests than half of either.
 #[test]
 fn tags_that_are_left_ask_for_no_memory_each(rt: HostRuntime) {
     let heap = Refusing::new(rt.alloc(), 60);
-    let references = NamedReferences::check(&heap, Vec::new(&heap)).expect(&rt, "a table");
     let mut text = String::new(&heap);
     for _ in 0..64 {
         text.push_str("<p class=\"a\" id=b>x</p>")
             .expect(&rt, "memory");
     }
-    let sink = PrintSink::new(&heap, false);
-    let (_, read) = read_whole(&heap, sink, TokenizerOpts::default(), &references, text);
-    assert!(rt; read.is_ok());
+    assert!(rt; is_printed(&rt, &heap, text));
     assert!(rt; !heap.has_refused());
 }
 

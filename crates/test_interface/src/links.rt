@@ -3,7 +3,8 @@ use html5ever_interface::interface::sink::TokenSink;
 use html5ever_interface::interface::token::{SinkFault, Tag, TagKind, TokenSinkResult};
 use html5ever_interface::states::RawKind;
 use html5sinks::tags::{TagHandler, TagsOnly, is_start_of};
-use std::alloc::Allocator;
+use std::alloc::{Allocator, Global};
+use std::process::Abort;
 
 // The example of html5sinks' own text, word for word.
 #[derive(Drop)]
@@ -29,45 +30,58 @@ impl<A: Allocator> TagHandler<Tag<A>> for Links {
     }
 }
 
+// What a sink replies to a tag.
+type Reply = Result<TokenSinkResult<(), String>, SinkFault>;
+
+// Whether a sink replies so to a tag.
+fn replies(
+    rt: &impl Abort,
+    alloc: Global,
+    sink: &mut TagsOnly<Links>,
+    tag: (TagKind, &str, u64),
+    reply: &Reply,
+) -> bool {
+    let (kind, name, line) = tag;
+    let tag = tag_of(alloc, kind, name).expect(rt, "memory");
+    sink.process_token(tag, line) == *reply
+}
+
 #[test]
 fn counts_links_and_reads_on_as_the_standard_does(rt: HostRuntime) {
-    let alloc = rt.alloc();
     let mut sink = TagsOnly::new(Links { count: 0 });
-    let tags = [
-        (TagKind::StartTag, "a", TokenSinkResult::Continue, 1),
-        (TagKind::EndTag, "a", TokenSinkResult::Continue, 1),
+    for (kind, name, reply, count) in &[
+        (TagKind::StartTag, "a", Ok(TokenSinkResult::Continue), 1),
+        (TagKind::EndTag, "a", Ok(TokenSinkResult::Continue), 1),
         (
             TagKind::StartTag,
             "title",
-            TokenSinkResult::RawData(RawKind::Rcdata),
+            Ok(TokenSinkResult::RawData(RawKind::Rcdata)),
             1,
         ),
-        (TagKind::EndTag, "title", TokenSinkResult::Continue, 1),
+        (TagKind::EndTag, "title", Ok(TokenSinkResult::Continue), 1),
         (
             TagKind::StartTag,
             "style",
-            TokenSinkResult::RawData(RawKind::Rawtext),
+            Ok(TokenSinkResult::RawData(RawKind::Rawtext)),
             1,
         ),
         (
             TagKind::StartTag,
             "script",
-            TokenSinkResult::RawData(RawKind::ScriptData),
+            Ok(TokenSinkResult::RawData(RawKind::ScriptData)),
             1,
         ),
-        (TagKind::StartTag, "a", TokenSinkResult::Continue, 2),
+        (TagKind::StartTag, "a", Ok(TokenSinkResult::Continue), 2),
         (
             TagKind::StartTag,
             "plaintext",
-            TokenSinkResult::Plaintext,
+            Ok(TokenSinkResult::Plaintext),
             2,
         ),
-    ];
-    for (kind, name, reply, count) in tags {
-        let tag = tag_of(alloc, kind, name).expect(&rt, "memory");
-        let answer = sink.process_token(tag, 7);
-        assert!(rt; answer == Ok(reply), "{name}");
-        assert_eq!(rt; sink.handler().count, count, "{name}");
+    ] {
+        let is_so = replies(&rt, rt.alloc(), &mut sink, (*kind, *name, 7), reply);
+        assert!(rt; is_so, "{name}");
+        assert_eq!(rt; sink.handler().count, *count, "{name}");
     }
     assert_eq!(rt; sink.into_inner().count, 2);
 }
@@ -82,11 +96,10 @@ fn a_text_counts_no_link(rt: HostRuntime) {
 
 #[test]
 fn a_refused_tag_leaves_the_handler(rt: HostRuntime) {
-    let alloc = rt.alloc();
     let mut sink = TagsOnly::new(Links { count: u64::MAX });
-    for (name, reply) in [("a", Err(SinkFault)), ("b", Ok(TokenSinkResult::Continue))] {
-        let tag = tag_of(alloc, TagKind::StartTag, name).expect(&rt, "memory");
-        assert!(rt; sink.process_token(tag, 1) == reply, "{name}");
+    for (name, reply) in &[("a", Err(SinkFault)), ("b", Ok(TokenSinkResult::Continue))] {
+        let tag = (TagKind::StartTag, *name, 1);
+        assert!(rt; replies(&rt, rt.alloc(), &mut sink, tag, reply), "{name}");
     }
     assert_eq!(rt; sink.handler().count, u64::MAX);
 }

@@ -50,21 +50,30 @@ fn is_printed<A: Allocator + Copy>(
     printed
 }
 
+// Prints the tokens on a heap that may refuse a request. Answers how many were refused, or `None` where the tokens
+// themselves could not be made.
+fn refusals(rt: &impl Abort, ample: Global, heap: &Refusing<Global>) -> Option<u64> {
+    let tokens = tokens_of(heap, &TOKENS).ok()?;
+    let mut sink: PrintSink<&Refusing<Global>> = PrintSink::new(heap, false);
+    let mut refused = 0u64;
+    for token in tokens {
+        if !is_printed(rt, ample, &mut sink, token) {
+            refused = refused.wrapping_add(1);
+            assert!(rt; heap.has_refused());
+        }
+    }
+    Some(refused)
+}
+
 #[test]
 fn a_refused_growth_leaves_no_part_of_a_line(rt: HostRuntime) {
     let mut refused = 0u64;
     for admitted in 0..1000u64 {
         let heap = Refusing::new(rt.alloc(), admitted);
-        let Ok(tokens) = tokens_of(&heap, &TOKENS) else {
+        let Some(count) = refusals(&rt, rt.alloc(), &heap) else {
             continue;
         };
-        let mut sink: PrintSink<&Refusing<Global>> = PrintSink::new(&heap, false);
-        for token in tokens {
-            if !is_printed(&rt, rt.alloc(), &mut sink, token) {
-                refused = refused.wrapping_add(1);
-                assert!(rt; heap.has_refused(), "after {admitted}");
-            }
-        }
+        refused = refused.wrapping_add(count);
         if !heap.has_refused() {
             break;
         }
@@ -89,28 +98,32 @@ fn push_escaped(alloc: Global, page: &mut String, c: char) -> Result<(), AllocEr
     }
 }
 
+// That a text is printed with what stands in quotes for its characters.
+fn check_printed(rt: &impl Abort, alloc: Global, text: &str) {
+    let mut page = String::from_str(alloc, "text \"").expect(rt, "memory");
+    for c in text.chars() {
+        push_escaped(alloc, &mut page, c).expect(rt, "memory");
+    }
+    let mut sink = PrintSink::new(alloc, false);
+    let token = text_of(alloc, text).expect(rt, "memory");
+    assert!(rt; told(&mut sink, token, 1));
+    assert_eq!(rt; sink.output(), page.as_bytes());
+}
+
 // Each character up to 255, at each place of the first blocks of a text, with others before and after it.
 #[test]
 fn a_character_is_escaped_at_each_place(rt: HostRuntime) {
-    for (other, after) in [
+    for &(other, after) in &[
         ("a", "a tail of more than one block"),
         ("\u{80}é", "!\"#[\\]~"),
     ] {
         let mut before = String::new(rt.alloc());
         for _ in 0..40u8 {
             for code in 0..=255u8 {
-                let c = char::from(code);
                 let mut text = before.clone().expect(&rt, "memory");
-                text.push(c).expect(&rt, "memory");
+                text.push(char::from(code)).expect(&rt, "memory");
                 text.push_str(after).expect(&rt, "memory");
-                let mut page = String::from_str(rt.alloc(), "text \"").expect(&rt, "memory");
-                for it in text.chars() {
-                    push_escaped(rt.alloc(), &mut page, it).expect(&rt, "memory");
-                }
-                let mut sink = PrintSink::new(rt.alloc(), false);
-                let token = text_of(rt.alloc(), &text).expect(&rt, "memory");
-                assert!(rt; told(&mut sink, token, 1));
-                assert_eq!(rt; sink.output(), page.as_bytes());
+                check_printed(&rt, rt.alloc(), &text);
             }
             before.push_str(other).expect(&rt, "memory");
         }

@@ -1,6 +1,7 @@
 //! An allocator for tests: one request is refused, and no other.
 use std::alloc::{AllocError, Allocator, Global};
 use std::collections::VecDeque;
+use std::process::Abort;
 use testing_alloc::Refusing;
 
 // A queue of three texts, the last of which grows by one `addition` after another.
@@ -19,24 +20,44 @@ fn queue_of_texts<A: Allocator + Copy>(
     Ok(texts)
 }
 
+// Whether a heap refuses a request.
+fn refuses(heap: &Refusing<Global>) -> bool {
+    let mut bytes: Vec<u8, &Refusing<Global>> = Vec::new(heap);
+    bytes.push(7).is_err()
+}
+
 #[test]
 fn refuses_the_chosen_request_alone(rt: HostRuntime) {
     for admitted in 0..3u64 {
         let heap = Refusing::new(rt.alloc(), admitted);
         for request in 0..6u64 {
-            let mut bytes: Vec<u8, &Refusing<Global>> = Vec::new(&heap);
             assert_eq!(rt;
                 heap.has_refused(),
                 request > admitted,
                 "before {request} of {admitted}"
             );
             assert_eq!(rt;
-                bytes.push(7).is_err(),
+                refuses(&heap),
                 request == admitted,
                 "at {request} of {admitted}"
             );
         }
     }
+}
+
+// Appends eight bytes. Answers whether that was refused, which leaves the text as it was.
+fn is_refused(
+    rt: &impl Abort,
+    heap: &Refusing<Global>,
+    text: &mut String<&Refusing<Global>>,
+) -> bool {
+    let before = text.len();
+    if text.push_str("eight by").is_ok() {
+        return false;
+    }
+    assert!(rt; heap.has_refused());
+    assert_eq!(rt; text.len(), before);
+    true
 }
 
 #[test]
@@ -46,11 +67,8 @@ fn a_refused_growth_is_one_request(rt: HostRuntime) {
         let mut text: String<&Refusing<Global>> = String::new(&heap);
         let mut refusals = 0u64;
         for _ in 0..40 {
-            let before = text.len();
-            if text.push_str("eight by").is_err() {
+            if is_refused(&rt, &heap, &mut text) {
                 refusals = refusals.wrapping_add(1);
-                assert!(rt; heap.has_refused());
-                assert_eq!(rt; text.len(), before);
             }
         }
         assert_eq!(rt; refusals, 1);
@@ -60,7 +78,7 @@ fn a_refused_growth_is_one_request(rt: HostRuntime) {
 
 #[test]
 fn a_sweep_meets_each_request(rt: HostRuntime) {
-    let additions = [
+    let additions = &[
         "a sentence of some length, ",
         "and one more, ",
         "and the last one of the three",
@@ -68,7 +86,7 @@ fn a_sweep_meets_each_request(rt: HostRuntime) {
     let mut sweeps = 0u64;
     for admitted in 0..1000u64 {
         let heap = Refusing::new(rt.alloc(), admitted);
-        let made = queue_of_texts(&heap, &additions);
+        let made = queue_of_texts(&heap, additions);
         assert_eq!(rt; made.is_err(), heap.has_refused(), "after {admitted}");
         drop(made);
         if !heap.has_refused() {

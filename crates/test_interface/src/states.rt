@@ -2,7 +2,7 @@ use html5ever_interface::states::{AttrValueKind, DoctypeIdKind, RawKind, ScriptE
 
 #[test]
 fn states_have_their_names(rt: HostRuntime) {
-    let names = [
+    let names = &[
         (State::Data, "Data"),
         (State::RawData(RawKind::Rcdata), "RawData(Rcdata)"),
         (
@@ -41,26 +41,25 @@ fn states_have_their_names(rt: HostRuntime) {
         (State::CdataSectionEnd, "CdataSectionEnd"),
         (State::ProcessingInstruction, "ProcessingInstruction"),
     ];
-    for (state, name) in names {
+    for &(state, name) in names {
         assert_eq!(rt; state.name(), name);
     }
 }
 
 #[test]
 fn four_kinds_of_states_read_text(rt: HostRuntime) {
-    let escaped = RawKind::ScriptDataEscaped(ScriptEscapeKind::Escaped);
-    for state in [
+    for &state in &[
         State::Data,
         State::Plaintext,
         State::RawData(RawKind::Rawtext),
-        State::RawData(escaped),
+        State::RawData(RawKind::ScriptDataEscaped(ScriptEscapeKind::Escaped)),
         State::CdataSection,
     ] {
         assert!(rt; state.is_text(), "{}", state.name());
     }
-    for state in [
+    for &state in &[
         State::TagOpen,
-        State::RawLessThanSign(escaped),
+        State::RawLessThanSign(RawKind::ScriptDataEscaped(ScriptEscapeKind::Escaped)),
         State::ScriptDataEscapedDash(ScriptEscapeKind::Escaped),
         State::CdataSectionBracket,
     ] {

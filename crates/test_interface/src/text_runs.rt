@@ -17,6 +17,13 @@ impl<A: Allocator> LastRun<A> {
     fn is(&self, text: &str) -> bool {
         self.last.as_str() == text
     }
+
+    // The run's text, then what ended it.
+    fn keep(&mut self, run: &str, mark: &str) -> Result<(), AllocError> {
+        self.last.clear();
+        self.last.push_str(run)?;
+        self.last.push_str(mark)
+    }
 }
 
 fn mark_of<A: Allocator>(token: &Token<A>) -> &'static str {
@@ -49,12 +56,7 @@ impl<A: Allocator> TokenHandler<Token<A>> for LastRun<A> {
         if is_end_tag(&token) {
             return Err(SinkFault);
         }
-        self.last.clear();
-        match self.last.push_str(run) {
-            Ok(()) => {}
-            Err(AllocError) => return Err(SinkFault),
-        }
-        match self.last.push_str(mark_of(&token)) {
+        match self.keep(run, mark_of(&token)) {
             Ok(()) => Ok(()),
             Err(AllocError) => Err(SinkFault),
         }
@@ -66,7 +68,7 @@ fn hands_whole_runs_on(rt: HostRuntime) {
     let alloc = rt.alloc();
     let last = String::new(alloc);
     let mut sink = TextRuns::new(alloc, LastRun { last });
-    let tokens = [
+    let tokens = &[
         ("text", "one ", ""),
         ("text", "", ""),
         ("text", "whole ", ""),
@@ -82,7 +84,7 @@ fn hands_whole_runs_on(rt: HostRuntime) {
         ("end", "", "last|end;"),
     ];
     let mut row = 0u64;
-    for (kind, text, last) in tokens {
+    for &(kind, text, last) in tokens {
         let token = token_of(alloc, kind, text).expect(&rt, "memory");
         let kept_on = told(&mut sink, token, 1);
         assert_eq!(rt; kept_on, kind != "end tag", "at row {row}");

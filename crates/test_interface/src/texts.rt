@@ -11,7 +11,7 @@ use token_printer::print_sink::PrintSink;
 fn a_text_where_it_lies_is_printed_as_its_token(rt: HostRuntime) {
     let mut by_tokens = PrintSink::new(rt.alloc(), false);
     let mut by_texts = PrintSink::new(rt.alloc(), false);
-    for text in ["", "a", "\"é", "b\n"] {
+    for &text in &["", "a", "\"é", "b\n"] {
         let token = text_of(rt.alloc(), text).expect(&rt, "memory");
         assert!(rt; told(&mut by_tokens, token, 3));
         assert!(rt; by_texts.process_text(rt.alloc(), text, 3).is_ok());
@@ -23,7 +23,7 @@ fn a_text_where_it_lies_is_printed_as_its_token(rt: HostRuntime) {
 // The copy of a text is the first request, and the room for an entry the second.
 #[test]
 fn a_copy_that_finds_no_memory_is_no_fault_of_the_sink(rt: HostRuntime) {
-    for (admitted, answer) in [
+    for &(admitted, answer) in &[
         (0u64, Err(TextFault::Memory)),
         (1, Err(TextFault::Sink)),
         (2, Ok(())),

@@ -6,8 +6,8 @@ use std::process::Abort;
 // A tag as it is listed: its kind, its name, and its attributes by name and value.
 type Listed<'a> = (TagKind, &'a str, &'a [(&'a str, &'a str)]);
 
-fn tag_of(alloc: Global, listed: Listed) -> Result<Tag, AllocError> {
-    let (kind, name, attributes) = listed;
+fn tag_of(alloc: Global, listed: &Listed) -> Result<Tag, AllocError> {
+    let (kind, name, attributes) = *listed;
     let mut tag = bare_tag(alloc, kind, name)?;
     for (name, value) in attributes {
         tag.attrs.push(attribute_of(alloc, None, name, value)?)?;
@@ -29,69 +29,68 @@ const TAG: Listed<'static> = (TagKind::StartTag, "a", &[("x", "1"), ("y", "2")])
 const TURNED: Listed<'static> = (TagKind::StartTag, "a", &[("y", "2"), ("x", "1")]);
 
 // Compares two tags in both orders.
-fn check_pair(rt: &impl Abort, alloc: Global, pair: (Listed, Listed), expected: bool) {
-    let tag = tag_of(alloc, pair.0).expect(rt, "memory");
-    let other = tag_of(alloc, pair.1).expect(rt, "memory");
+fn check_pair(rt: &impl Abort, alloc: Global, tag: &Listed, other: &Listed, expected: bool) {
+    let tag = tag_of(alloc, tag).expect(rt, "memory");
+    let other = tag_of(alloc, other).expect(rt, "memory");
     assert_eq!(rt; tag.equiv_modulo_attr_order(&other), expected);
     assert_eq!(rt; other.equiv_modulo_attr_order(&tag), expected);
 }
 
 #[test]
 fn the_flags_are_neglected(rt: HostRuntime) {
-    let tag = tag_of(rt.alloc(), TAG).expect(&rt, "memory");
-    let mut other = tag_of(rt.alloc(), TURNED).expect(&rt, "memory");
+    let tag = tag_of(rt.alloc(), &TAG).expect(&rt, "memory");
+    let mut other = tag_of(rt.alloc(), &TURNED).expect(&rt, "memory");
     other.self_closing = true;
     assert!(rt; tag.equiv_modulo_attr_order(&other));
     other.had_duplicate_attributes = true;
     assert!(rt; tag.equiv_modulo_attr_order(&other));
 }
 
+const EMPTY: Listed<'static> = (TagKind::StartTag, "a", &[]);
+
+const FIRST_TWICE: Listed<'static> = (
+    TagKind::StartTag,
+    "a",
+    &[("x", "1"), ("x", "1"), ("y", "2")],
+);
+
 #[test]
 fn the_order_of_attributes_is_neglected(rt: HostRuntime) {
-    let empty: Listed = (TagKind::StartTag, "a", &[]);
-    let repeated: Listed = (
-        TagKind::StartTag,
-        "a",
-        &[("x", "1"), ("x", "1"), ("y", "2")],
-    );
     let turned: Listed = (
         TagKind::StartTag,
         "a",
         &[("y", "2"), ("x", "1"), ("x", "1")],
     );
-    for pair in [(TAG, TURNED), (empty, empty), (repeated, turned)] {
-        check_pair(&rt, rt.alloc(), pair, true);
-    }
+    check_pair(&rt, rt.alloc(), &TAG, &TURNED, true);
+    check_pair(&rt, rt.alloc(), &EMPTY, &EMPTY, true);
+    check_pair(&rt, rt.alloc(), &FIRST_TWICE, &turned, true);
 }
+
+// What is not `TAG`.
+const OTHERS: [Listed<'static>; 4] = [
+    (TagKind::StartTag, "b", &[("x", "1"), ("y", "2")]),
+    (TagKind::EndTag, "a", &[("x", "1"), ("y", "2")]),
+    (
+        TagKind::StartTag,
+        "a",
+        &[("x", "1"), ("y", "2"), ("z", "3")],
+    ),
+    (TagKind::StartTag, "a", &[("x", "1"), ("y", "3")]),
+];
 
 #[test]
 fn all_else_of_a_tag_counts(rt: HostRuntime) {
-    let others: [Listed; 4] = [
-        (TagKind::StartTag, "b", &[("x", "1"), ("y", "2")]),
-        (TagKind::EndTag, "a", &[("x", "1"), ("y", "2")]),
-        (
-            TagKind::StartTag,
-            "a",
-            &[("x", "1"), ("y", "2"), ("z", "3")],
-        ),
-        (TagKind::StartTag, "a", &[("x", "1"), ("y", "3")]),
-    ];
-    for other in others {
-        check_pair(&rt, rt.alloc(), (TAG, other), false);
+    for other in &OTHERS {
+        check_pair(&rt, rt.alloc(), &TAG, other, false);
     }
 }
 
 #[test]
 fn each_attribute_counts_as_often_as_it_stands(rt: HostRuntime) {
-    let first_twice: Listed = (
-        TagKind::StartTag,
-        "a",
-        &[("x", "1"), ("x", "1"), ("y", "2")],
-    );
     let second_twice: Listed = (
         TagKind::StartTag,
         "a",
         &[("x", "1"), ("y", "2"), ("y", "2")],
     );
-    check_pair(&rt, rt.alloc(), (first_twice, second_twice), false);
+    check_pair(&rt, rt.alloc(), &FIRST_TWICE, &second_twice, false);
 }
