@@ -93,47 +93,47 @@ section≢data : (held : List ℕ) → open_cdata held ≢ Between Data
 section≢data [] = λ e. cc
 section≢data (c ∷ held) = λ e. cc
 
--- in Data what is open doesn't depend on the tag that was begun before
-pub data-any_tag : {Z : Type 0} (q : State) (at later : Opened Z) → open_of q at ≡ Between Data → open_of q later ≡ Between Data
-data-any_tag state.Data at later e = e
-data-any_tag state.Plaintext at later e = cc
-data-any_tag state.TagOpen at later e = cc
-data-any_tag state.EndTagOpen at later e = cc
-data-any_tag state.TagName at later e = cc
-data-any_tag state.BeforeAttributeName at later e = cc
-data-any_tag state.AttributeName at later e = cc
-data-any_tag state.AfterAttributeName at later e = cc
-data-any_tag state.BeforeAttributeValue at later e = cc
-data-any_tag (state.AttributeValue kind) at later e = cc
-data-any_tag state.AfterAttributeValueQuoted at later e = cc
-data-any_tag state.SelfClosingStartTag at later e = cc
-data-any_tag (state.RawData kind) at later e = cc
-data-any_tag (state.RawLessThanSign kind) at later e = cc
-data-any_tag (state.RawEndTagOpen kind) at later e = cc
-data-any_tag (state.RawEndTagName kind) at later e = cc
-data-any_tag (state.ScriptDataEscapeStart escape_kind.Escaped) at later e = cc
-data-any_tag (state.ScriptDataEscapeStart escape_kind.DoubleEscaped) at later e = cc
-data-any_tag state.ScriptDataEscapeStartDash at later e = cc
-data-any_tag (state.ScriptDataEscapedDash kind) at later e = cc
-data-any_tag (state.ScriptDataEscapedDashDash kind) at later e = cc
-data-any_tag state.ScriptDataDoubleEscapeEnd at later e = cc
-data-any_tag state.MarkupDeclarationOpen at later e = cc
-data-any_tag state.Comment at later e = cc
-data-any_tag state.BogusComment at later e = cc
-data-any_tag state.ProcessingInstruction at later e = cc
-data-any_tag state.Doctype at later e = cc
-data-any_tag state.BeforeDoctypeName at later e = cc
-data-any_tag state.DoctypeName at later e = cc
-data-any_tag state.AfterDoctypeName at later e = absurd (after_name≢data _ _ e)
-data-any_tag (state.AfterDoctypeKeyword kind) at later e = cc
-data-any_tag (state.BeforeDoctypeIdentifier kind) at later e = cc
-data-any_tag (state.DoctypeIdentifierDoubleQuoted kind) at later e = cc
-data-any_tag (state.DoctypeIdentifierSingleQuoted kind) at later e = cc
-data-any_tag (state.AfterDoctypeIdentifier kind) at later e = cc
-data-any_tag state.BetweenDoctypePublicAndSystemIdentifiers at later e = cc
-data-any_tag state.BogusDoctype at later e = cc
-data-any_tag state.CdataSection at later e = absurd (section≢data _ e)
-data-any_tag other at later e = cc
+-- only in the state Data nothing is open in Data
+pub data-state : {Z : Type 0} (q : State) (at : Opened Z) → open_of q at ≡ Between Data → q ≡ state.Data
+data-state state.Data at e = refl
+data-state state.Plaintext at e = cc
+data-state state.TagOpen at e = cc
+data-state state.EndTagOpen at e = cc
+data-state state.TagName at e = cc
+data-state state.BeforeAttributeName at e = cc
+data-state state.AttributeName at e = cc
+data-state state.AfterAttributeName at e = cc
+data-state state.BeforeAttributeValue at e = cc
+data-state (state.AttributeValue kind) at e = cc
+data-state state.AfterAttributeValueQuoted at e = cc
+data-state state.SelfClosingStartTag at e = cc
+data-state (state.RawData kind) at e = cc
+data-state (state.RawLessThanSign kind) at e = cc
+data-state (state.RawEndTagOpen kind) at e = cc
+data-state (state.RawEndTagName kind) at e = cc
+data-state (state.ScriptDataEscapeStart escape_kind.Escaped) at e = cc
+data-state (state.ScriptDataEscapeStart escape_kind.DoubleEscaped) at e = cc
+data-state state.ScriptDataEscapeStartDash at e = cc
+data-state (state.ScriptDataEscapedDash kind) at e = cc
+data-state (state.ScriptDataEscapedDashDash kind) at e = cc
+data-state state.ScriptDataDoubleEscapeEnd at e = cc
+data-state state.MarkupDeclarationOpen at e = cc
+data-state state.Comment at e = cc
+data-state state.BogusComment at e = cc
+data-state state.ProcessingInstruction at e = cc
+data-state state.Doctype at e = cc
+data-state state.BeforeDoctypeName at e = cc
+data-state state.DoctypeName at e = cc
+data-state state.AfterDoctypeName at e = absurd (after_name≢data _ _ e)
+data-state (state.AfterDoctypeKeyword kind) at e = cc
+data-state (state.BeforeDoctypeIdentifier kind) at e = cc
+data-state (state.DoctypeIdentifierDoubleQuoted kind) at e = cc
+data-state (state.DoctypeIdentifierSingleQuoted kind) at e = cc
+data-state (state.AfterDoctypeIdentifier kind) at e = cc
+data-state state.BetweenDoctypePublicAndSystemIdentifiers at e = cc
+data-state state.BogusDoctype at e = cc
+data-state state.CdataSection at e = absurd (section≢data _ e)
+data-state other at e = cc
 
 -- a refusal within what a state tells, where a tag may follow
 pub ended_stops : {X S H T : Type 0} (Z : Type 0) (means : Means X S H) (r : Result T TokenizerError) (e : TokenizerError) (now : Opened Z) (next : Next) (s u : S) (line : ℕ) (tokens : List Told)

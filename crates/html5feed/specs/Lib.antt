@@ -3,6 +3,5 @@ pub mod Refused
 pub mod Runs
 pub mod Starting
 pub mod Beginning
-pub mod LastNames
 pub mod Undecided
 pub mod Quiet

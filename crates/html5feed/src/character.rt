@@ -3,13 +3,13 @@
 
 ghost use Rattle.std.specs.Prelude.{◌≡◌, ◌≢◌, ◌≤◌, ◌+◌, ◌∷◌, [], false, IfOk, IfErr, OnOk, string_bytes};
 ghost use Rattle.html5ever_interface.specs.Sink.{on_line};
-ghost use Rattle.html5ever_interface.specs.Token.{Told, tag_of};
+ghost use Rattle.html5ever_interface.specs.Token.{Told};
 ghost use Rattle.html5reading.specs.NormalisedText.{input_after};
 ghost use Rattle.html5reading.specs.Reading.{messages_so_far, start_after, last_after, open_after_reply};
 ghost use Rattle.html5reading.specs.Start.{is_undecided_open, held_len};
 ghost use Rattle.html5reading.specs.Start.Mode.{Data};
 ghost use Rattle.html5reading.specs.Start.Open.{Between};
-ghost use Rattle.html5partial.specs.CurrentTag.{opened_of};
+ghost use Rattle.html5partial.specs.CurrentTag.{opened_of, last_name_of};
 ghost use Rattle.html5feed.specs.Feed.{reply_in, first_pause};
 ghost use Rattle.html5reading.specs.Machine.{step_at, messages_here, opened_here, last_here};
 ghost use Rattle.html5partial.specs.Steps.{Leads};
@@ -19,13 +19,16 @@ use crate::position::Position;
 use crate::rules::Rules;
 use crate::undecided::read_undecided;
 use html5ever_interface::interface::sink::TokenSink;
-use html5ever_interface::interface::token::{Tag, Token, TokenSinkResult};
+use html5ever_interface::interface::token::{TagKind, Token, TokenSinkResult};
+use html5ever_interface::states::State;
 use html5fast_path::tag_ends::end_tag;
 use html5partial::error::TokenizerError;
+use html5partial::indexed_tag::IndexedTag;
 use html5partial::opened::{Opened, Progress, Step};
 use html5states::teller::Teller;
+use markup5ever::text::push_text;
 use markup5ever::tokenizer_result::TokenizerResult;
-use std::alloc::Allocator;
+use std::alloc::{AllocError, Allocator};
 
 // Reads one character in the state that is open. The `>` of a tag without an error is read at once.
 #[tactic(auto, using(html5states::proofs::Tellings::tells_from_memory), unfolding(html5partial::specs::Steps::tokens_of, html5partial::specs::Steps::afterwards, html5ever_interface::specs::Sink::stepped))]
@@ -67,37 +70,55 @@ fn step<S: TokenSink<Token<A>>, A: Allocator + Copy>(
     step
 }
 
-// Sends the sink a tag, and goes on as it replies.
+// Sets the name of the last start tag. It stands apart, so that an end tag passes without a call.
+#[inline(never)]
+fn set_name<A: Allocator>(last_name: &mut String<A>, name: &str) -> Result<(), AllocError>
+    ensures { OnOk result (string_bytes last_name.new ≡ name.now) }
+{
+    last_name.clear();
+    push_text(last_name, name)
+}
+
+// Keeps the name of a start tag as that of the last one.
+#[tactic(auto, unfolding(html5reading::specs::Reading::last_after))]
+#[inline(always)]
+fn keep_tag_name<A: Allocator>(
+    last_name: &mut String<A>,
+    tag: &IndexedTag<A>,
+) -> Result<(), AllocError>
+    ensures { OnOk result (string_bytes last_name.new ≡ last_after (string_bytes last_name.old) tag.now) }
+{
+    match tag.kind() {
+        TagKind::EndTag => Ok(()),
+        TagKind::StartTag => set_name(last_name, tag.name()),
+    }
+}
+
+// Sends the sink the open tag, and goes on as it replies.
 #[tactic(auto, using(html5states::proofs::Tellings::tells_from_memory), unfolding(html5ever_interface::specs::Sink::stepped, crate::specs::Feed::first_pause))]
 #[inline(always)]
 fn emit_tag<S: TokenSink<Token<A>>, A: Allocator + Copy>(
     teller: &mut Teller<'_, S, A>,
-    position: &mut Position<A>,
-    tag: Tag<A>,
+    opened: &mut Opened<A>,
 ) -> Result<TokenizerResult<S::Handle, String<A>>, TokenizerError>
-    requires { position.old.opened ≡ Between Data }
-    ensures emits { Emits S.means S.faults result teller.old teller.new (Told.Tag (tag_of tag) ∷ []) }
-    ensures leads { Leads result position.new.opened
-        (open_after_reply (last_after position.old.last_start_tag (tag_of tag))
-        (S.means.reply (S.means.state teller.old.sink.now) (Told.Tag (tag_of tag)) teller.old.line)) }
+    requires { opened.old.state ≡ State.Data }
+    ensures emits { Emits S.means S.faults result teller.old teller.new (Told.Tag opened.old.tag.indexed ∷ []) }
+    ensures leads { Leads result (opened_of opened.new)
+        (open_after_reply (last_after (last_name_of opened.old) opened.old.tag.indexed)
+        (S.means.reply (S.means.state teller.old.sink.now) (Told.Tag opened.old.tag.indexed) teller.old.line)) }
     ensures last { OnOk result
-        (position.new.last_start_tag ≡ last_after position.old.last_start_tag (tag_of tag)) }
+        (last_name_of opened.new ≡ last_after (last_name_of opened.old) opened.old.tag.indexed) }
     ensures answer { IfOk result (λ answer. reply_in string_bytes answer
         ≡ first_pause S.means (S.means.state teller.old.sink.now)
-        (on_line teller.old.line (Told.Tag (tag_of tag) ∷ []))) }
-    ensures paused { IfOk result (λ answer. answer ≢ TokenizerResult.Done → position.new.opened ≡ Between Data) }
-    ensures input { position.new.input ≡ position.old.input }
-    ensures held { held_len position.new.opened ≡ 0 }
+        (on_line teller.old.line (Told.Tag opened.old.tag.indexed ∷ []))) }
+    ensures paused { IfOk result (λ answer. answer ≢ TokenizerResult.Done → opened_of opened.new ≡ Between Data) }
+    ensures held { held_len (opened_of opened.new) ≡ 0 }
 {
-    // The tag is moved once, into the token.
-    let mut token = Token::TagToken(tag);
-    position.note_tag(&token)?;
-    let reply = teller.emit_lent(&mut token);
-    position.reuse(token);
-    match reply {
+    keep_tag_name(&mut opened.last_start_tag, &opened.tag.indexed)?;
+    match teller.emit_open_tag(&mut opened.tag.indexed) {
         Ok(TokenSinkResult::Continue) => Ok(TokenizerResult::Done),
         Ok(TokenSinkResult::Plaintext) => {
-            position.set_plaintext();
+            opened.state = State::Plaintext;
             Ok(TokenizerResult::Done)
         }
         Ok(TokenSinkResult::Script(handle)) => Ok(TokenizerResult::Script(handle)),
@@ -105,7 +126,7 @@ fn emit_tag<S: TokenSink<Token<A>>, A: Allocator + Copy>(
             text,
         )),
         Ok(TokenSinkResult::RawData(kind)) => {
-            position.set_raw_data(kind);
+            opened.state = State::RawData(kind);
             Ok(TokenizerResult::Done)
         }
         Err(error) => Err(error),
@@ -153,10 +174,7 @@ fn read_opened<S: TokenSink<Token<A>>, A: Allocator + Copy>(
             position.begin_reference();
             Ok(TokenizerResult::Done)
         }
-        Progress::EndsTag => {
-            let tag = position.opened.tag.end(alloc);
-            emit_tag(&mut teller, position, tag)
-        }
+        Progress::EndsTag => emit_tag(&mut teller, &mut position.opened),
     }
 }
 

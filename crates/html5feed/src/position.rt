@@ -4,19 +4,16 @@
 ghost use Rattle.std.specs.Prelude.{◌≡◌, ◌^◌, ◌<◌, ◌+◌, true, false, Some, drop, IfErr, OnOk, option_map, string_bytes};
 ghost use Rattle.html5ever_interface.specs.Options.{options_of};
 ghost use Rattle.html5ever_interface.specs.Sink.{on_line};
-ghost use Rattle.html5ever_interface.specs.Token.{tag_of, told_by};
 ghost use Rattle.html5reading.specs.EndOfInput.{late_at_end_of, open_at_end_of, tokens_at_end};
-ghost use Rattle.html5reading.specs.Reading.{last_after};
 ghost use Rattle.html5reading.specs.Slice.{tokens_of_late};
-ghost use Rattle.html5reading.specs.Start.{start_of, initial_name, raw_of, nothing_open, is_undecided_open};
+ghost use Rattle.html5reading.specs.Start.{start_of, initial_name, nothing_open, is_undecided_open};
 ghost use Rattle.html5partial.specs.CharRef.{HasStand, begun_reference};
-ghost use Rattle.html5reading.specs.Start.Mode.{Data, Plain, RawText};
+ghost use Rattle.html5reading.specs.Start.Mode.{Plain};
 ghost use Rattle.html5reading.specs.Start.Open.{Between};
 ghost use Rattle.html5partial.specs.CurrentTag.{is_between, opened_of, last_name_of};
 ghost use Rattle.std.specs.Str.{chars};
 ghost use Rattle.html5states.specs.Telling.{Emits, Tells, IsRefusal, faults_of};
 ghost use Rattle.html5feed.specs.Beginning.{is_after_less_than};
-ghost use Rattle.html5feed.specs.LastNames.{last_after_token};
 ghost use Rattle.html5feed.specs.Starting.{CanStart, in_state};
 ghost use Rattle.html5feed.specs.Undecided.{rules_with};
 
@@ -26,9 +23,9 @@ use crate::input::Input;
 use crate::rules::Rules;
 use crate::undecided::decide_keyword;
 use html5ever_interface::interface::sink::TokenSink;
-use html5ever_interface::interface::token::{Doctype, Tag, TagKind, Token};
+use html5ever_interface::interface::token::{Doctype, TagKind, Token};
 use html5ever_interface::options::TokenizerOpts;
-use html5ever_interface::states::{RawKind, State};
+use html5ever_interface::states::State;
 use html5partial::char_ref::CharRef;
 use html5partial::current_tag::CurrentTag;
 use html5partial::error::TokenizerError;
@@ -36,8 +33,7 @@ use html5partial::keyword::holds_keyword;
 use html5partial::opened::Opened;
 use html5states::teller::Teller;
 use markup5ever::data::NamedReferences;
-use markup5ever::text::push_text;
-use std::alloc::{AllocError, Allocator, Global};
+use std::alloc::{Allocator, Global};
 use std::marker::Model;
 
 /// Where a tokenizer stands in its stream: how characters come in, and what is open.
@@ -207,44 +203,6 @@ impl<A: Allocator + Copy> Position<A> {
         self.in_reference = false;
     }
 
-    /// Reads raw text from here on, up to the end tag of the last start tag.
-    pub(crate) fn set_raw_data(&mut self, kind: RawKind)
-        ensures opened { self.new.opened ≡ Between (RawText (raw_of kind) self.old.last_start_tag) }
-        ensures last { self.new.last_start_tag ≡ self.old.last_start_tag }
-        ensures input { self.new.input ≡ self.old.input }
-    {
-        self.opened.state = State::RawData(kind);
-        self.in_reference = false;
-    }
-
-    /// Keeps the name of a start tag as that of the last one. The token is sent next.
-    #[inline(always)]
-    pub(crate) fn note_tag(&mut self, token: &Token<A>) -> Result<(), TokenizerError>
-        requires { self.old.opened ≡ Between Data }
-        ensures opened { self.new.opened ≡ Between Data }
-        ensures last { OnOk result
-            (self.new.last_start_tag ≡ last_after_token self.old.last_start_tag (told_by token.now)) }
-        ensures input { self.new.input ≡ self.old.input }
-        ensures memory { IfErr result (λ error. error ≡ TokenizerError.Memory) }
-    {
-        self.in_reference = false;
-        Ok(keep_name(&mut self.opened.last_start_tag, token)?)
-    }
-
-    /// Takes what a sink left of a tag that was sent, for its memory alone.
-    #[inline(always)]
-    pub(crate) fn reuse(&mut self, token: Token<A>)
-        requires { self.old.opened ≡ Between Data }
-        ensures opened { self.new.opened ≡ Between Data }
-        ensures last { self.new.last_start_tag ≡ self.old.last_start_tag }
-        ensures input { self.new.input ≡ self.old.input }
-    {
-        self.in_reference = false;
-        if let Token::TagToken(tag) = token {
-            self.opened.tag.reuse(tag);
-        }
-    }
-
     /// Begins a reference where the state is.
     pub(crate) fn begin_reference(&mut self)
         requires decided { is_undecided_open self.old.opened ≡ false }
@@ -286,37 +244,4 @@ fn is_after_less_than<A: Allocator>(opened: &Opened<A>) -> bool
     ensures { result ≡ is_after_less_than (opened_of opened.now) }
 {
     matches!(opened.state, State::TagOpen | State::RawLessThanSign(_))
-}
-
-// Sets the name of the last start tag. It stands apart, so that an end tag passes without a call.
-#[inline(never)]
-fn set_name<A: Allocator>(last_name: &mut String<A>, name: &str) -> Result<(), AllocError>
-    ensures { OnOk result (string_bytes last_name.new ≡ name.now) }
-{
-    last_name.clear();
-    push_text(last_name, name)
-}
-
-// Keeps the name of a start tag as that of the last one.
-#[tactic(auto, unfolding(html5reading::specs::Reading::last_after))]
-#[inline(always)]
-fn keep_tag_name<A: Allocator>(last_name: &mut String<A>, tag: &Tag<A>) -> Result<(), AllocError>
-    ensures { OnOk result (string_bytes last_name.new ≡ last_after (string_bytes last_name.old) (tag_of tag.now)) }
-{
-    match tag.kind {
-        TagKind::EndTag => Ok(()),
-        TagKind::StartTag => set_name(last_name, &tag.name.0),
-    }
-}
-
-// The same, where the token is a tag.
-#[inline(always)]
-fn keep_name<A: Allocator>(last_name: &mut String<A>, token: &Token<A>) -> Result<(), AllocError>
-    ensures { OnOk result
-        (string_bytes last_name.new ≡ last_after_token (string_bytes last_name.old) (told_by token.now)) }
-{
-    match token {
-        Token::TagToken(tag) => keep_tag_name(last_name, tag),
-        _ => Ok(()),
-    }
 }

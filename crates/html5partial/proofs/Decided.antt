@@ -180,12 +180,6 @@ unfolding with_reference
 keyword-out true held opened h = absurd (false≢true h)
 keyword-out false held opened h = (refl, h)
 
--- in Data none is
-pub beside-data : (is_in : Bool) (held : List ℕ) (opened : Open) → with_reference is_in held opened ≡ Between Data → opened ≡ Between Data
-unfolding with_reference
-beside-data true held opened e = cc
-beside-data false held opened e = e
-
 pub begun-stands : (is_in : Bool) (held : List ℕ) (opened : Open) → is_undecided_open (with_reference is_in held opened) ≡ false
     → HasStand (with_reference is_in held opened)
     → HasStand opened × (with_reference true [] opened ≡ begun_reference (with_reference is_in held opened))

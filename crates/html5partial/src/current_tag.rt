@@ -1,17 +1,16 @@
 //! The tag that is open, and what the standard does with it.
 #![tactic(auto, unfolding(html5reading::specs::Characters::name_bytes, html5reading::specs::Characters::value_bytes, html5reading::specs::Characters::shown, html5reading::specs::Characters::is_letter, html5reading::specs::Tag::with_last_attribute, html5reading::specs::Tag::duplicate_error, html5reading::specs::Tag::repeats_attribute))]
 
-ghost use Rattle.std.specs.Prelude.{◌≡◌, ◌&&◌, ◌++◌, [], true, false, not, IfOk, OnOk, string_bytes};
+ghost use Rattle.std.specs.Prelude.{◌≡◌, ◌&&◌, ◌++◌, true, false, not, IfOk, OnOk, string_bytes};
 ghost use Rattle.html5reading.specs.Characters.{name_bytes, value_bytes};
 ghost use Rattle.html5reading.specs.Start.{begun};
-ghost use Rattle.html5reading.specs.Tag.{has_last, repeats_attribute, told_tag, with_last_attribute};
+ghost use Rattle.html5reading.specs.Tag.{has_last, repeats_attribute, with_last_attribute};
 ghost use Rattle.html5partial.specs.CurrentTag.{open_tag};
-ghost use Rattle.html5ever_interface.specs.Token.{tag_of};
 
 use crate::characters::{name_character, shown};
 use crate::indexed_tag::IndexedTag;
 use crate::spares::Spares;
-use html5ever_interface::interface::token::{Tag, TagKind};
+use html5ever_interface::interface::token::TagKind;
 use std::alloc::{AllocError, Allocator, Global};
 use std::mem;
 
@@ -44,27 +43,9 @@ impl<A: Allocator + Copy> CurrentTag<A> {
     pub fn begin(&mut self, kind: TagKind)
         ensures { open_tag self.new ≡ begun kind }
     {
-        self.indexed.begin(kind);
+        self.indexed.begin(kind, &mut self.spares);
         self.attr_name.clear();
         self.attr_value.clear();
-    }
-
-    /// Ends the tag after its last attribute, and answers the tag. What stays here says nothing until
-    /// the next tag begins.
-    #[inline(always)]
-    pub fn end(&mut self, alloc: A) -> Tag<A>
-        ensures { tag_of result ≡ told_tag (open_tag self.old) self.old.indexed.self_closing }
-    {
-        self.indexed.take(alloc)
-    }
-
-    /// Takes the memory of a tag for the next ones. Nothing else of it is kept.
-    #[inline(always)]
-    pub fn reuse(&mut self, tag: Tag<A>)
-        ensures name { self.new.indexed.name ≡ [] }
-        ensures attributes { self.new.indexed.attributes ≡ [] }
-    {
-        self.indexed.reuse(tag, &mut self.spares);
     }
 
     /// Ends the last attribute, if there is one. Where the tag already has its name, nothing changes.

@@ -1,11 +1,11 @@
 //! The tag that is open up to its last attribute: its attributes stand in order, and are found by their names.
 #![tactic(auto, unfolding(html5reading::specs::Tag::has_attribute))]
 
-ghost use Rattle.std.specs.Prelude.{◌≡◌, ◌∷◌, [], ◌++◌, true, false, flat_map, length, map, nat_eq, not, OnOk, string_bytes};
+ghost use Rattle.std.specs.Prelude.{◌≡◌, ◌+◌, ◌∷◌, [], ◌++◌, true, false, flat_map, length, map, nat_eq, not, IfOk, OnErr, OnOk, string_bytes};
 ghost use Rattle.std.specs.List.{AllPass};
 ghost use Rattle.std.specs.Str.{chars};
-ghost use Rattle.html5ever_interface.specs.Token.{tag_of};
-ghost use Rattle.html5partial.specs.IndexedTag.{AddsName, HasNames, HasNamesAnd, Indexes};
+ghost use Rattle.html5ever_interface.specs.Token.{Told, is_tag, reply_of, tag_of, told_by};
+ghost use Rattle.html5partial.specs.IndexedTag.{AddsName, HasNames, HasNamesAnd, Indexes, tag_told};
 ghost use Rattle.html5partial.specs.Runs.{stays_in_names};
 ghost use Rattle.html5reading.specs.Characters.{name_bytes};
 ghost use Rattle.html5reading.specs.Start.{begun};
@@ -15,7 +15,8 @@ ghost use Rattle.markup5ever.specs.Names.{attribute_of};
 use crate::characters::name_character;
 use crate::runs::{push_front, push_names};
 use crate::spares::Spares;
-use html5ever_interface::interface::token::{Tag, TagKind};
+use html5ever_interface::interface::sink::TokenSink;
+use html5ever_interface::interface::token::{SinkFault, Tag, TagKind, Token, TokenSinkResult};
 use markup5ever::interface::{Attribute, LocalName, Namespace, QualName};
 use std::alloc::{AllocError, Allocator, Global};
 use std::collections::BTreeSet;
@@ -25,9 +26,10 @@ use std::mem;
 /// From more attributes than this on, a name is looked up in the set of names.
 const FEW: usize = 16;
 
-/// A tag as it will be sent, so that it is moved into its token whole. No attribute has a prefix or a namespace.
+/// A tag as the token that will be sent, so that it is sent from where it lies. No attribute has a prefix or a namespace.
 pub struct IndexedTag<A: Allocator = Global> {
-    tag: Tag<A>,
+    // A tag, always.
+    token: Token<A>,
     // Where there are many attributes, their names.
     names: BTreeSet<String<A>, A>,
     is_indexed: bool,
@@ -36,7 +38,7 @@ pub struct IndexedTag<A: Allocator = Global> {
 impl<A: Allocator> Drop for IndexedTag<A> {
     fn drop(self) {
         let IndexedTag {
-            tag: _,
+            token: _,
             names: _,
             is_indexed: _,
         } = self;
@@ -44,14 +46,16 @@ impl<A: Allocator> Drop for IndexedTag<A> {
 }
 
 impl<A: Allocator> Model for IndexedTag<A> {
-    ghost use Rattle.html5ever_interface.specs.Token.{TagOf, tag_of};
-    ghost use Rattle.html5partial.specs.IndexedTag.{Indexes};
+    ghost use Rattle.std.specs.Prelude.{◌≡◌, true};
+    ghost use Rattle.html5ever_interface.specs.Token.{TagOf, is_tag, told_by};
+    ghost use Rattle.html5partial.specs.IndexedTag.{Indexes, tag_told};
 
     ghost Value = { TagOf };
 
-    ghost view = { λ t. tag_of t.tag };
+    ghost view = { λ t. tag_told (told_by t.token) };
 
-    ghost invariant = { λ t. Indexes t.is_indexed t.names (tag_of t.tag).attributes };
+    ghost invariant = { λ t. (is_tag (told_by t.token) ≡ true)
+        × Indexes t.is_indexed t.names (tag_told (told_by t.token)).attributes };
 }
 
 // Whether one of the attributes has the name.
@@ -111,34 +115,64 @@ fn index_with<A: Allocator + Copy>(
 #[inline(always)]
 fn push_attribute<A: Allocator + Copy>(
     alloc: A,
-    attributes: &mut Vec<Attribute<A>, A>,
+    tag: &mut Tag<A>,
     name: String<A>,
     value: String<A>,
 ) -> Result<(), AllocError>
-    ensures { OnOk result (map attribute_of attributes.new.items
-        ≡ map attribute_of attributes.old.items ++ attribute (string_bytes name) (string_bytes value) ∷ []) }
+    ensures { OnOk result (tag_of tag.new ≡ record (tag_of tag.old) {
+      attributes = map attribute_of tag.old.attrs.items ++ attribute (string_bytes name) (string_bytes value) ∷ [];
+    }) }
 {
     let name = QualName::new(None, Namespace(String::new(alloc)), LocalName(name));
-    attributes.push(Attribute { name, value })?;
+    tag.attrs.push(Attribute { name, value })?;
     Ok(())
 }
 
-// Lets a tag go. One that has no memory, as most have, has nothing to let go.
-#[inline(always)]
-fn let_go<A: Allocator>(tag: Tag<A>) {
-    if tag.name.0.capacity() == 0 && tag.attrs.capacity() == 0 {
-        mem::forget(tag);
+// Appends an attribute, and answers whether the set is that of the names then.
+fn push_and_index<A: Allocator + Copy>(
+    alloc: A,
+    tag: &mut Tag<A>,
+    names: &mut BTreeSet<String<A>, A>,
+    is_indexed: bool,
+    name: String<A>,
+    value: String<A>,
+) -> Result<bool, AllocError>
+    requires { Indexes is_indexed names.old (map attribute_of tag.old.attrs.items) }
+    ensures appended { OnOk result (tag_of tag.new ≡ record (tag_of tag.old) {
+      attributes = map attribute_of tag.old.attrs.items ++ attribute (string_bytes name) (string_bytes value) ∷ [];
+    }) }
+    ensures indexed { IfOk result (λ indexed. Indexes indexed names.new (map attribute_of tag.new.attrs.items)) }
+{
+    if tag.attrs.len() < FEW {
+        push_attribute(alloc, tag, name, value)?;
+        return Ok(false);
     }
+    index_with(names, is_indexed, &tag.attrs, &name)?;
+    push_attribute(alloc, tag, name, value)?;
+    Ok(true)
 }
 
-// Leaves no attributes. Where there are none, as mostly, nothing is called.
+// Leaves no attributes, and keeps the memory of their texts. Where there are none, as mostly, nothing is called.
 #[inline(always)]
-fn clear<A: Allocator>(attributes: &mut Vec<Attribute<A>, A>)
+fn clear<A: Allocator>(attributes: &mut Vec<Attribute<A>, A>, spares: &mut Spares<A>)
     ensures { map attribute_of attributes.new.items ≡ [] }
 {
     if !attributes.is_empty() {
+        spares.keep_texts(attributes);
         attributes.clear();
     }
+}
+
+// The tag that a token is.
+#[inline(always)]
+fn tag_in<A: Allocator>(token: &Token<A>) -> &Tag<A>
+    requires { is_tag (told_by token.now) ≡ true }
+    ensures { tag_of result.now ≡ tag_told (told_by token.now) }
+{
+    let Token::TagToken(tag) = token else {
+        unreachable!()
+    };
+    tag
 }
 
 // A tag of which nothing was read.
@@ -155,13 +189,72 @@ fn begun_tag<A: Allocator + Copy>(alloc: A, kind: TagKind) -> Tag<A>
     }
 }
 
+// Appends a character to the name, a letter in lower case.
+fn push_name_to<A: Allocator>(tag: &mut Tag<A>, c: char) -> Result<(), AllocError>
+    ensures name { OnOk result (tag_of tag.new ≡ record (tag_of tag.old) {
+      name = string_bytes tag.old.name.0 ++ name_bytes c;
+    }) }
+    ensures attributes { tag.new.attrs ≡ tag.old.attrs }
+{
+    tag.name.0.push(name_character(c))
+}
+
+// Appends a run to the name, its letters in lower case.
+#[inline(always)]
+fn push_names_to<A: Allocator>(tag: &mut Tag<A>, run: &str) -> Result<(), AllocError>
+    ensures name { OnOk result (tag_of tag.new ≡ record (tag_of tag.old) {
+      name = string_bytes tag.old.name.0 ++ flat_map name_bytes (chars run.now);
+    }) }
+    ensures attributes { tag.new.attrs ≡ tag.old.attrs }
+{
+    push_names(&mut tag.name.0, run)
+}
+
+// Appends the front of a name, its letters in lower case.
+#[inline(always)]
+fn push_front_to<A: Allocator>(
+    tag: &mut Tag<A>,
+    front: &str,
+    is_plain: bool,
+) -> Result<(), AllocError>
+    requires { is_plain ≡ true → AllPass stays_in_names front.now }
+    ensures name { OnOk result (tag_of tag.new ≡ record (tag_of tag.old) {
+      name = string_bytes tag.old.name.0 ++ flat_map name_bytes (chars front.now);
+    }) }
+    ensures attributes { tag.new.attrs ≡ tag.old.attrs }
+{
+    push_front(&mut tag.name.0, front, is_plain)
+}
+
+// Begins a tag of which nothing was read yet, in the memory of the one before it.
+#[inline(always)]
+fn begin<A: Allocator>(tag: &mut Tag<A>, kind: TagKind, spares: &mut Spares<A>)
+    ensures { tag_of tag.new ≡ told_tag (begun kind) tag.old.self_closing }
+{
+    tag.kind = kind;
+    tag.name.0.clear();
+    clear(&mut tag.attrs, spares);
+    tag.had_duplicate_attributes = false;
+}
+
+// Leaves a tag where a sink took the token.
+#[inline(always)]
+fn keep_tag<A: Allocator + Copy>(alloc: A, token: &mut Token<A>)
+    ensures { is_tag (told_by token.new) ≡ true }
+{
+    if let Token::TagToken(_) = token {
+        return;
+    }
+    *token = Token::TagToken(begun_tag(alloc, TagKind::StartTag));
+}
+
 impl<A: Allocator + Copy> IndexedTag<A> {
     /// A tag of which nothing was read.
     pub fn new(alloc: A, kind: TagKind) -> IndexedTag<A>
         ensures { result ≡ told_tag (begun kind) false }
     {
         IndexedTag {
-            tag: begun_tag(alloc, kind),
+            token: Token::TagToken(begun_tag(alloc, kind)),
             names: BTreeSet::new(alloc),
             is_indexed: false,
         }
@@ -179,54 +272,50 @@ impl<A: Allocator + Copy> IndexedTag<A> {
         }) }
     {
         let is_indexed = mem::replace(&mut self.is_indexed, false);
-        if self.tag.attrs.len() < FEW {
-            return push_attribute(alloc, &mut self.tag.attrs, name, value);
-        }
-        index_with(&mut self.names, is_indexed, &self.tag.attrs, &name)?;
-        push_attribute(alloc, &mut self.tag.attrs, name, value)?;
-        self.is_indexed = true;
+        let Token::TagToken(tag) = &mut self.token else {
+            unreachable!()
+        };
+        self.is_indexed = push_and_index(alloc, tag, &mut self.names, is_indexed, name, value)?;
         Ok(())
     }
 
-    /// Takes the tag, as it is sent. What stays here says nothing until the next tag begins.
+    /// Sends a sink the tag from where it lies. What stays here says nothing until the next tag begins.
     #[inline(always)]
-    pub fn take(&mut self, alloc: A) -> Tag<A>
-        ensures { tag_of result ≡ self.old }
+    pub fn send<S: TokenSink<Token<A>>>(
+        &mut self,
+        alloc: A,
+        sink: &mut S,
+        line: u64,
+    ) -> Result<TokenSinkResult<S::Handle, String<A>>, SinkFault>
+        ensures steps { OnOk result (S.means.state sink.new ≡ S.means.step (S.means.state sink.old) (Told.Tag self.old) line) }
+        ensures replies { IfOk result (λ reply. reply_of string_bytes reply
+            ≡ S.means.reply (S.means.state sink.old) (Told.Tag self.old) line) }
+        ensures fault { OnErr result
+            (S.means.state sink.new ≡ S.means.faulted (S.means.state sink.old) (Told.Tag self.old) line) }
+        ensures no_fault { OnOk result (S.faults sink.new ≡ S.faults sink.old) }
+        ensures one_fault { OnErr result (S.faults sink.new ≡ S.faults sink.old + 1) }
     {
         self.is_indexed = false;
-        mem::replace(&mut self.tag, begun_tag(alloc, TagKind::StartTag))
+        let reply = sink.process_lent(&mut self.token, line);
+        keep_tag(alloc, &mut self.token);
+        reply
     }
 }
 
 impl<A: Allocator> IndexedTag<A> {
-    /// Begins a tag of which nothing was read yet. Buffers are kept.
+    /// Begins a tag of which nothing was read yet. Buffers are kept, and so is the memory of attributes that were sent.
     #[inline(always)]
-    pub fn begin(&mut self, kind: TagKind)
+    pub fn begin(&mut self, kind: TagKind, spares: &mut Spares<A>)
         ensures kind { self.new.kind ≡ kind }
         ensures name { self.new.name ≡ [] }
         ensures attributes { self.new.attributes ≡ [] }
         ensures no_duplicate { self.new.had_duplicate_attributes ≡ false }
     {
         self.is_indexed = false;
-        self.tag.kind = kind;
-        self.tag.name.0.clear();
-        clear(&mut self.tag.attrs);
-        self.tag.had_duplicate_attributes = false;
-    }
-
-    /// Takes the memory of a tag that was sent for the next ones. Nothing else of it is kept.
-    #[inline(always)]
-    pub fn reuse(&mut self, tag: Tag<A>, spares: &mut Spares<A>)
-        ensures name { self.new.name ≡ [] }
-        ensures attributes { self.new.attributes ≡ [] }
-    {
-        self.is_indexed = false;
-        let_go(mem::replace(&mut self.tag, tag));
-        self.tag.name.0.clear();
-        if !self.tag.attrs.is_empty() {
-            spares.keep_texts(&mut self.tag.attrs);
-        }
-        clear(&mut self.tag.attrs);
+        let Token::TagToken(tag) = &mut self.token else {
+            unreachable!()
+        };
+        begin(tag, kind, spares);
     }
 
     /// Whether it is a start tag or an end tag.
@@ -234,7 +323,15 @@ impl<A: Allocator> IndexedTag<A> {
     pub fn kind(&self) -> TagKind
         ensures { result ≡ self.now.kind }
     {
-        self.tag.kind
+        tag_in(&self.token).kind
+    }
+
+    /// The name so far.
+    #[inline(always)]
+    pub fn name(&self) -> &str
+        ensures { result.now ≡ self.now.name }
+    {
+        tag_in(&self.token).name.0.as_str()
     }
 
     /// Whether there is an attribute.
@@ -242,7 +339,7 @@ impl<A: Allocator> IndexedTag<A> {
     pub fn has_attributes(&self) -> bool
         ensures { result ≡ not (nat_eq (length self.now.attributes) 0) }
     {
-        !self.tag.attrs.is_empty()
+        !tag_in(&self.token).attrs.is_empty()
     }
 
     /// Whether an attribute has the name.
@@ -252,21 +349,27 @@ impl<A: Allocator> IndexedTag<A> {
         if self.is_indexed {
             return self.names.contains(name);
         }
-        is_among(&self.tag.attrs, name)
+        is_among(&tag_in(&self.token).attrs, name)
     }
 
     /// Sets the name.
     pub fn set_name(&mut self, name: String<A>)
         ensures { self.new ≡ record self.old { name = string_bytes name } }
     {
-        self.tag.name.0 = name;
+        let Token::TagToken(tag) = &mut self.token else {
+            unreachable!()
+        };
+        tag.name.0 = name;
     }
 
     /// Appends a character to the name, a letter in lower case.
     pub fn push_name(&mut self, c: char) -> Result<(), AllocError>
         ensures { OnOk result (self.new ≡ record self.old { name = self.old.name ++ name_bytes c }) }
     {
-        self.tag.name.0.push(name_character(c))
+        let Token::TagToken(tag) = &mut self.token else {
+            unreachable!()
+        };
+        push_name_to(tag, c)
     }
 
     /// Appends a run to the name, its letters in lower case.
@@ -276,7 +379,10 @@ impl<A: Allocator> IndexedTag<A> {
           name = self.old.name ++ flat_map name_bytes (chars run.now);
         }) }
     {
-        push_names(&mut self.tag.name.0, run)
+        let Token::TagToken(tag) = &mut self.token else {
+            unreachable!()
+        };
+        push_names_to(tag, run)
     }
 
     /// Appends the front of a name, its letters in lower case. A plain one has none in upper case, and no NUL.
@@ -287,7 +393,10 @@ impl<A: Allocator> IndexedTag<A> {
           name = self.old.name ++ flat_map name_bytes (chars front.now);
         }) }
     {
-        push_front(&mut self.tag.name.0, front, is_plain)
+        let Token::TagToken(tag) = &mut self.token else {
+            unreachable!()
+        };
+        push_front_to(tag, front, is_plain)
     }
 
     /// Sets whether the tag closes itself, which is known at its end.
@@ -295,13 +404,19 @@ impl<A: Allocator> IndexedTag<A> {
     pub fn set_self_closing(&mut self, self_closing: bool)
         ensures { self.new ≡ record self.old { self_closing = self_closing } }
     {
-        self.tag.self_closing = self_closing;
+        let Token::TagToken(tag) = &mut self.token else {
+            unreachable!()
+        };
+        tag.self_closing = self_closing;
     }
 
     /// Notes that an attribute was dropped, since another has its name.
     pub fn note_duplicate(&mut self)
         ensures { self.new ≡ record self.old { had_duplicate_attributes = true } }
     {
-        self.tag.had_duplicate_attributes = true;
+        let Token::TagToken(tag) = &mut self.token else {
+            unreachable!()
+        };
+        tag.had_duplicate_attributes = true;
     }
 }

@@ -346,17 +346,17 @@ module _ {Q S H Z : Type 0} {means : Means Q S H} {count : Q → ℕ} where
   emits_one token steps count kept = emits_reply token steps count kept
 
   -- a fault at the one token that a call sends
-  pub emits_fault-one : {T : Type 0} {before after : Teller Q Z} (token : Token Z)
-      → means.state after.sink.now ≡ means.faulted (means.state before.sink.now) (told_by token) before.line
+  pub emits_fault-one : {T : Type 0} {before after : Teller Q Z} (token : Told)
+      → means.state after.sink.now ≡ means.faulted (means.state before.sink.now) (token) before.line
       → count after.sink.now ≡ count before.sink.now + 1 → IsKept before after
-      → Emits means count {T = T} (Err Sink) before after (told_by token ∷ [])
+      → Emits means count {T = T} (Err Sink) before after (token ∷ [])
   unfolding stepped
   emits_fault-one {before = before} token fault count kept = record {
     tells = record {
       before = [];
-      token = told_by token;
+      token = token;
       line = before.line;
-      next = on_line before.line (told_by token ∷ []);
+      next = on_line before.line (token ∷ []);
       rest = [];
       parts = refl;
       says = inl refl;

@@ -5,7 +5,7 @@ ghost use Rattle.std.specs.Prelude.{◌≡◌, ◌≢◌, List, ◌∷◌, [], f
 ghost use Rattle.html5ever_interface.specs.Message.{fixed_text, message_bytes};
 ghost use Rattle.html5reading.specs.ErrorText.{error_in, end_error_in, where_true, bad_character_error};
 ghost use Rattle.html5ever_interface.specs.Sink.{Message};
-ghost use Rattle.html5ever_interface.specs.Token.{told_by, reply_of, is_tag};
+ghost use Rattle.html5ever_interface.specs.Token.{Told, told_by, reply_of, is_tag};
 ghost use Rattle.html5ever_interface.specs.Token.Told.{Text, Error};
 ghost use Rattle.html5states.specs.Telling.{Emits, IsToldAs, Tells, tokens_in};
 
@@ -14,6 +14,7 @@ use html5ever_interface::interface::sink::TokenSink;
 use html5ever_interface::interface::token::{SinkFault, TextFault, Token, TokenSinkResult};
 use html5ever_interface::states::State;
 use html5partial::error::TokenizerError;
+use html5partial::indexed_tag::IndexedTag;
 use html5partial::message::{bad_character_message, is_bad, saw_end_message, saw_message};
 use std::alloc::Allocator;
 
@@ -84,17 +85,18 @@ impl<S: TokenSink<Token<A>>, A: Allocator + Copy> Teller<'_, S, A> {
         self.hand_on(token)
     }
 
-    /// Sends the sink a token from where it lies, and answers its reply. What stays there is for its memory alone.
+    /// Sends the sink the open tag from where it lies, and answers its reply. What stays there says nothing until the next
+    /// tag begins.
     #[inline(always)]
-    pub fn emit_lent(
+    pub fn emit_open_tag(
         &mut self,
-        token: &mut Token<A>,
+        tag: &mut IndexedTag<A>,
     ) -> Result<TokenSinkResult<S::Handle, String<A>>, TokenizerError>
-        ensures emits { Emits S.means S.faults result self.old self.new (told_by token.old ∷ []) }
+        ensures emits { Emits S.means S.faults result self.old self.new (Told.Tag tag.old ∷ []) }
         ensures replies { IfOk result (λ reply. reply_of string_bytes reply
-            ≡ S.means.reply (S.means.state self.old.sink.now) (told_by token.old) self.old.line) }
+            ≡ S.means.reply (S.means.state self.old.sink.now) (Told.Tag tag.old) self.old.line) }
     {
-        match self.sink.process_lent(token, self.line) {
+        match tag.send(self.alloc, self.sink, self.line) {
             Ok(reply) => Ok(reply),
             Err(SinkFault) => Err(TokenizerError::Sink),
         }

@@ -3,7 +3,7 @@ use Rattle.std.proofs.Common.{◌∙◌, ap, subst, arith, rules}
 use Rattle.std.proofs.lemmas.Result.{IfOk-weaker, on_ok_weaker}
 use Rattle.html5partial.specs.CharRef.{begun_reference}
 use Rattle.html5partial.specs.Steps.{Leads}
-use Rattle.html5feed.proofs.CharacterReading.{held_len-after, closes-open, data-any_tag, tells-ended, opened-ended, pause-ended, tells-going, opened-going, pause-going, tells-refused, leads-refused, tells-bad, last-ended, last-going}
+use Rattle.html5feed.proofs.CharacterReading.{held_len-after, closes-open, data-state, tells-ended, opened-ended, pause-ended, tells-going, opened-going, pause-going, tells-refused, leads-refused, tells-bad, last-ended, last-going}
 use Rattle.html5reading.proofs.Holding.{holds_at_most_one}
 use Rattle.html5partial.specs.CurrentTag.{opened_of}
 use Rattle.html5partial.proofs.Decided.{begun-decided, beside-decided, with_reference-none}
@@ -36,14 +36,14 @@ returns-in_err-step-clause-leads g c =
 pub emit_tag-requires : goal.emit_tag-requires
 emit_tag-requires g c =
     let here = rw c.in_ok-emit_bad_character.ensures.kept.exact_errors at c.in_ok-step.ensures.reads in
-    with_reference-none _ _ _ (rw (← c.position.view_is) at c.requires) _ ∙ data-any_tag c.step.new.opened.state c.step.new.opened (record c.step.new.opened { tag = c.end-tag.new.self }) (closes-open _ _ _ (rw c.in-EndsTag.is at here.leads.0))
+    data-state c.step.new.opened.state c.step.new.opened (closes-open _ _ _ (rw c.in-EndsTag.is at here.leads.0))
 
 pub returns-clause-tells : goal.returns-clause-tells
 returns-clause-tells g c =
     let here = rw c.in_ok-emit_bad_character.ensures.kept.exact_errors at c.in_ok-step.ensures.reads in
     let line = here.kept.line ∙ c.in_ok-emit_bad_character.ensures.kept.line in
     rw (← c.rules.view_is, ← c.position.view_is, with_reference-none _ _ _ (rw (← c.position.view_is) at c.requires) _, ← c.line-line.ensures.line)
-    (let told = tells-ended g.S.TokenSink.means (record { exact = c.rules.inside.exact_errors; references = c.rules.inside.references.now }) c.position.inside.opened.state c.position.inside.opened (g.S.TokenSink.means.state c.args.sink.now) c.line-line.result c.args.c _ _ c.in_ok-emit_bad_character.ensures.tells c.emit_tag.result _ _ _ (rw c.in_ok-emit_bad_character.ensures.kept.line at here.tells) (rw c.in-EndsTag.is at here.leads.0) (rw (c.end-tag.ensures, line) at c.emit_tag.ensures.emits.tells) in
+    (let told = tells-ended g.S.TokenSink.means (record { exact = c.rules.inside.exact_errors; references = c.rules.inside.references.now }) c.position.inside.opened.state c.position.inside.opened (g.S.TokenSink.means.state c.args.sink.now) c.line-line.result c.args.c _ _ c.in_ok-emit_bad_character.ensures.tells c.emit_tag.result _ _ _ (rw c.in_ok-emit_bad_character.ensures.kept.line at here.tells) (rw c.in-EndsTag.is at here.leads.0) (rw line at c.emit_tag.ensures.emits.tells) in
     let kept = c.emit_tag.ensures.emits.kept.sink ∙ here.kept.sink ∙ c.in_ok-emit_bad_character.ensures.kept.sink in
     search rules)
 
@@ -52,9 +52,10 @@ returns-clause-leads g c =
     let here = rw c.in_ok-emit_bad_character.ensures.kept.exact_errors at c.in_ok-step.ensures.reads in
     let line = here.kept.line ∙ c.in_ok-emit_bad_character.ensures.kept.line in
     rw (← c.rules.view_is, ← c.position.view_is, with_reference-none c.position.inside.in_reference c.position.inside.held (opened_of c.position.inside.opened) (rw (← c.position.view_is) at c.requires) (opened_of c.position.inside.opened), ← c.line-line.ensures.line)
-    (subst (λ o. Leads c.emit_tag.result c.emit_tag.new.position.opened o)
+    (rw (with_reference-none c.position.inside.in_reference c.position.inside.held (opened_of c.position.inside.opened) (rw (← c.position.view_is) at c.requires) (opened_of c.emit_tag.new.opened))
+    (subst (λ o. Leads c.emit_tag.result (opened_of c.emit_tag.new.opened) o)
     (opened-ended g.S.TokenSink.means (record { exact = c.rules.inside.exact_errors; references = c.rules.inside.references.now }) c.position.inside.opened.state c.position.inside.opened (g.S.TokenSink.means.state c.args.sink.now) c.line-line.result c.args.c _ _ c.in_ok-emit_bad_character.ensures.tells _ _ (rw c.in_ok-emit_bad_character.ensures.kept.line at here.tells) (rw c.in-EndsTag.is at here.leads.0))
-    (rw (c.end-tag.ensures, here.last, line) at c.emit_tag.ensures.leads))
+    (rw (here.last, line) at c.emit_tag.ensures.leads)))
 
 pub returns-clause-answer : goal.returns-clause-answer
 returns-clause-answer g c =
@@ -63,7 +64,7 @@ returns-clause-answer g c =
     rw (← c.rules.view_is, ← c.position.view_is, with_reference-none _ _ _ (rw (← c.position.view_is) at c.requires) _, ← c.line-line.ensures.line)
     (IfOk-weaker c.emit_tag.result _ _
     (λ answer is. is ∙ pause-ended g.S.TokenSink.means (record { exact = c.rules.inside.exact_errors; references = c.rules.inside.references.now }) c.position.inside.opened.state c.position.inside.opened (g.S.TokenSink.means.state c.args.sink.now) c.line-line.result c.args.c _ _ c.in_ok-emit_bad_character.ensures.tells g.met.S.TokenSink.keeps_on _ _ (rw c.in_ok-emit_bad_character.ensures.kept.line at here.tells) (rw c.in-EndsTag.is at here.leads.0))
-    (rw (c.end-tag.ensures, line) at c.emit_tag.ensures.answer))
+    (rw line at c.emit_tag.ensures.answer))
 
 pub returns-in-Continues-clause-tells : goal.returns-in-Continues-clause-tells
 returns-in-Continues-clause-tells g c =
@@ -137,7 +138,7 @@ returns-clause-last g c =
     rw (← c.rules.view_is, ← c.position.view_is, with_reference-none _ _ _ (rw (← c.position.view_is) at c.requires) _)
     (on_ok_weaker c.emit_tag.result
     (λ is. is ∙ last-ended g.S.TokenSink.means (record { exact = c.rules.inside.exact_errors; references = c.rules.inside.references.now }) c.position.inside.opened.state c.position.inside.opened (g.S.TokenSink.means.state c.args.sink.now) c.line-line.result c.args.c _ (g.S.TokenSink.means.state c.step.new.teller.sink.now) c.in_ok-emit_bad_character.ensures.tells _ _ (rw c.in-EndsTag.is at here.leads.0))
-    (rw (c.end-tag.ensures, here.last) at c.emit_tag.ensures.last))
+    (rw here.last at c.emit_tag.ensures.last))
 
 pub returns-in-Continues-clause-last : goal.returns-in-Continues-clause-last
 returns-in-Continues-clause-last g c =
