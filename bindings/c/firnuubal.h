@@ -8,10 +8,10 @@
 #define FIRNUUBAL_H
 
 /* The version of the library, of this header and of the readers. */
-#define FIRNUUBAL_VERSION "0.18.0"
+#define FIRNUUBAL_VERSION "0.17.0"
 
 /* The same as a number, its three numbers a byte each. `html5_version` says it of the library that is linked. */
-#define FIRNUUBAL_VERSION_NUMBER 0x001200
+#define FIRNUUBAL_VERSION_NUMBER 0x001100
 
 #include <stdbool.h>
 #include <stddef.h>
