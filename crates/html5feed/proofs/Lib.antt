@@ -8,5 +8,4 @@ pub mod QuietReading
 pub mod CharacterReading
 pub mod UndecidedReading
 pub mod Starting
-pub mod AfterSemicolon
 pub mod LineFeedBlocks

@@ -48,8 +48,8 @@ fn emit_waiting_run<S: TokenSink<Token<A>>, A: Allocator + Copy>(
     told
 }
 
-// Whether a text begins with a `<` or an `&`. A run seldom does, in plain text or within quotes, and then this is read as a
-// character.
+// Whether a text begins with a `<` or an `&`. A run seldom begins with one, as in raw text, a comment or within quotes, and
+// then it is read as a character. Of a text of one byte this is not asked: the search for a run looks at a single byte first.
 #[inline(always)]
 fn begins_in_markup(text: &str) -> bool {
     let bytes = text.as_bytes();

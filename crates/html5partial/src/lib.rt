@@ -23,3 +23,4 @@ pub mod number;
 pub mod opened;
 pub mod runs;
 pub mod spares;
+mod tag_parts;

@@ -19,6 +19,7 @@ pub mod LawfulReading
 pub mod Holding
 pub mod TableNames
 pub mod NameRuns
+pub mod AfterSemicolon
 pub mod OnLiterals
 pub mod OnSteps
 mod ReferenceCases

@@ -22,7 +22,8 @@ pub fn push_number<A: Allocator>(written: &mut Vec<u8, A>, value: u64) -> Result
     written.extend_from_slice(&value.to_le_bytes())
 }
 
-// Appends bytes for which there may be no room yet. It stands apart, so that what most names go through stays small.
+// Appends bytes that are many, or for which there may be no room yet. It stands apart, so that what most names go through
+// stays small.
 #[inline(never)]
 fn push_long<A: Allocator>(written: &mut Vec<u8, A>, bytes: &[u8]) -> Result<(), AllocError>
     ensures ok { OnOk result (written.new.items ≡ written.old.items ++ bytes.now) }

@@ -26,7 +26,6 @@ pub mod RawKinds
 pub mod PagesBack
 pub mod RawWalks
 pub mod WholeTells
-pub mod EndedNames
 pub mod NamedText
 pub mod NamedValues
 pub mod Named

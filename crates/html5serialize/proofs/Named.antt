@@ -7,8 +7,8 @@ use Rattle.html5reading.specs.Characters.{ampersand, quotation_mark, less_than, 
 use Rattle.html5reading.specs.NormalisedText.{normalised, without_dropped_first, with_line_feeds, ends_with_carriage_return}
 use Rattle.html5reading.specs.Reference.{is_undecided, is_ended}
 use Rattle.html5reading.specs.Start.{Input}
+use Rattle.html5reading.proofs.AfterSemicolon.{undecided-after}
 use Rattle.html5serialize.specs.Escapes.{HasEscapes, named, named_reference_of, named_value, no_break_space}
-use Rattle.html5serialize.proofs.EndedNames.{ended-decided}
 use Rattle.html5write.specs.Escaped.{escaped, reference_of, reference_or}
 use Rattle.markup5ever.specs.NamedReferences.{NamedReference, IsTable, characters_of_name}
 
@@ -31,11 +31,11 @@ pub record AreNames (references : List NamedReference) : Type 0 where
 pub are-names : (references : List NamedReference) → IsTable references → HasEscapes references → AreNames references
 unfolding is_ended ends_with_carriage_return normalised without_dropped_first with_line_feeds
 are-names references table names = record {
-  amp = record { has = names.amp; decided = λ d. ended-decided references 0x61 (codes "mp") d table.plain refl; ended = refl; no_return = refl; normal = λ input e. rw (e, and-false input.drops_byte_order_mark) refl };
-  nbsp = record { has = names.nbsp; decided = λ d. ended-decided references 0x6E (codes "bsp") d table.plain refl; ended = refl; no_return = refl; normal = λ input e. rw (e, and-false input.drops_byte_order_mark) refl };
-  lt = record { has = names.lt; decided = λ d. ended-decided references 0x6C (codes "t") d table.plain refl; ended = refl; no_return = refl; normal = λ input e. rw (e, and-false input.drops_byte_order_mark) refl };
-  gt = record { has = names.gt; decided = λ d. ended-decided references 0x67 (codes "t") d table.plain refl; ended = refl; no_return = refl; normal = λ input e. rw (e, and-false input.drops_byte_order_mark) refl };
-  quot = record { has = names.quot; decided = λ d. ended-decided references 0x71 (codes "uot") d table.plain refl; ended = refl; no_return = refl; normal = λ input e. rw (e, and-false input.drops_byte_order_mark) refl };
+  amp = record { has = names.amp; decided = λ d. undecided-after references (codes "amp;") (codes "amp") d table (λ same. absurd cc) refl; ended = refl; no_return = refl; normal = λ input e. rw (e, and-false input.drops_byte_order_mark) refl };
+  nbsp = record { has = names.nbsp; decided = λ d. undecided-after references (codes "nbsp;") (codes "nbsp") d table (λ same. absurd cc) refl; ended = refl; no_return = refl; normal = λ input e. rw (e, and-false input.drops_byte_order_mark) refl };
+  lt = record { has = names.lt; decided = λ d. undecided-after references (codes "lt;") (codes "lt") d table (λ same. absurd cc) refl; ended = refl; no_return = refl; normal = λ input e. rw (e, and-false input.drops_byte_order_mark) refl };
+  gt = record { has = names.gt; decided = λ d. undecided-after references (codes "gt;") (codes "gt") d table (λ same. absurd cc) refl; ended = refl; no_return = refl; normal = λ input e. rw (e, and-false input.drops_byte_order_mark) refl };
+  quot = record { has = names.quot; decided = λ d. undecided-after references (codes "quot;") (codes "quot") d table (λ same. absurd cc) refl; ended = refl; no_return = refl; normal = λ input e. rw (e, and-false input.drops_byte_order_mark) refl };
 }
 
 -- ---- the characters that have names, and the others

@@ -1,5 +1,5 @@
 use Rattle.std.proofs.Common.{◌-◌, take, length, sym}
-use Rattle.html5feed.proofs.AfterSemicolon.{undecided-after}
+use Rattle.html5reading.proofs.AfterSemicolon.{undecided-after}
 use Rattle.html5feed.proofs.undecided.hold.Goals as goal
 
 pub returns-then-is_ended_name-clause-undecided : goal.returns-then-is_ended_name-clause-undecided
