@@ -86,6 +86,7 @@ impl<A: Allocator> TokenSink<Token<A>> for Counts {
     }
 
     // Counts the token where it lies.
+    #[inline(always)]
     fn process_lent(
         &mut self,
         token: &mut Token<A>,

@@ -19,6 +19,7 @@ use markup5ever::tokenizer_result::TokenizerResult;
 use std::alloc::{Allocator, Global};
 
 /// Feeds a tokenizer until it answers `Done`, past all pauses.
+#[inline(always)]
 pub fn feed_until_done<S: TokenSink<Token<A>>, A: Allocator + Copy>(
     tokenizer: &mut Tokenizer<'_, S, A>,
     queue: &mut BufferQueue<A>,
