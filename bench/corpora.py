@@ -104,15 +104,20 @@ def full_pages(megabytes):
 
 
 def real_pages():
-    """Every fourth page of some of Debian's documentation packages, or nothing where they can't be had."""
+    """Every fourth page of some of Debian's documentation packages, joined, or nothing where they can't be had."""
+    return b"".join(real_pages_apart())
+
+
+def real_pages_apart():
+    """Each of these pages."""
     with tempfile.TemporaryDirectory() as room:
         fetched = subprocess.run(["apt-get", "download", *REAL_PAGES], cwd=room, capture_output=True)
         if fetched.returncode != 0:
-            return b""
+            return []
         for package in sorted(pathlib.Path(room).glob("*.deb")):
             subprocess.run(["dpkg-deb", "--extract", package, room], check=True)
         files = sorted(it for it in pathlib.Path(room).rglob("*.html") if it.is_file() and not it.is_symlink())
-        return b"".join(filter(is_utf8, (it.read_bytes() for it in files[::4])))
+        return list(filter(is_utf8, (it.read_bytes() for it in files[::4])))
 
 
 def is_utf8(text):

@@ -9,6 +9,8 @@ html5lib's tokenizer, lxml's feed parser and bleach, where they are (Debian's py
 python3-bleach, for Debian's own Python). Those that take long read a beginning of the pages. Real pages are many that are
 joined, of which lxml reads the first alone, so it is left out there. A time is the processor time of this process, the
 best of some runs. MB are 1,000,000 bytes.
+
+The last table is of one short text that is read again and again, as the comments of a page are.
 """
 
 import argparse
@@ -26,6 +28,7 @@ from programs import texts
 
 PIECE = 1 << 16
 SLOW = 2 * corpora.MB
+SHORT = b"<p>A <a href='https://a.example/?x&amp;y'>comment</a> of <b>two</b> lines,<br>and 1 &lt; 2.</p>\n"
 
 
 def exhausted(found):
@@ -96,6 +99,18 @@ def print_rows(page, runs, timed):
         print(f"| {name} | {size:.0f} | {seconds:.2f} | {size / seconds:.1f} |", flush=True)
 
 
+def print_short_rows(runs, timed):
+    print(f"\n| Call, {len(SHORT)} bytes | Microseconds |\n|---|---|")
+    for name, call, is_slow in timed:
+        count = 100 if is_slow else 2000
+        try:
+            seconds = seconds_of(lambda page: [call(page) for _ in range(count)], SHORT, runs)
+        except ImportError as error:
+            print(f"| {name} | not here: {error} |")
+            continue
+        print(f"| {name} | {1e6 * seconds / count:.0f} |", flush=True)
+
+
 def main():
     parser = argparse.ArgumentParser(description=__doc__.splitlines()[0])
     parser.add_argument("--quick", action="store_true", help="smaller pages, fewer runs")
@@ -106,6 +121,7 @@ def main():
     for text in texts(chosen):
         print("| Call | MB | Seconds | MB/s |\n|---|---|---|---|")
         print_rows(text, 1 if chosen.quick else 3, timed)
+    print_short_rows(1 if chosen.quick else 3, TIMED)
 
 
 if __name__ == "__main__":

@@ -11,11 +11,15 @@ joined, libxml2's push parser without its tree (Debian's libxml2-dev), where it 
 process, user and system, the best of some runs. Instructions are those of the first 3 MB, by callgrind, where that is there.
 MB are 1,000,000 bytes.
 
+With --real a row more is of the pages apart, each a file, which C reads in one handle (`html5_restart`); its ratio is to
+html5ever's time for all of them joined.
+
 The second table is of one token of many bytes, read from C: its time should grow as it does, and the peak of memory by no
 more than a copy for each layer.
 """
 
 import argparse
+import itertools
 import pathlib
 import re
 import shutil
@@ -32,6 +36,7 @@ TOP = pathlib.Path(__file__).resolve().parent.parent
 BINDINGS = TOP / "bindings"
 ALONE = TOP / "crates/count_tokens/out/count_tokens"
 PACKET = "1500"
+WHOLE = "65536"
 COUNTED = 3 * corpora.MB  # bytes of which the instructions are counted
 LONG_TOKENS = {
     "a text": (b"", b""),
@@ -78,11 +83,15 @@ def instructions(turn, folder):
         return ""
     beginning = folder / "beginning"
     beginning.write_bytes(corpus.read_bytes()[:COUNTED])
+    size = beginning.stat().st_size
+    if len(words) > 1:
+        files, size = first_files(words[1:], COUNTED)
+        words = [words[0], *files]
     words = ["valgrind", "--tool=callgrind", f"--callgrind-out-file={folder / 'callgrind'}", str(program), *words]
     with open(beginning, "rb") as source:
         ran = subprocess.run(words, stdin=source, capture_output=True, text=True, check=True)
     counted = int(re.search(r"Collected : (\d+)", ran.stderr)[1])
-    return f"{counted / beginning.stat().st_size:.1f}"
+    return f"{counted / size:.1f}"
 
 
 def print_rows(programs, corpus, runs):
@@ -95,6 +104,22 @@ def print_rows(programs, corpus, runs):
         ratio = times["html5ever"] / times[name]
         cells = [name, f"{size:.0f}", f"{times[name]:.2f}", f"{size / times[name]:.0f}", f"{ratio:.2f}", f"{peak:.1f}"]
         print(f"| {' | '.join([*cells, instructions(turn, corpus.parent), said(turn)])} |", flush=True)
+
+
+def files_of(pages, folder):
+    """The pages as files of a folder: their names."""
+    folder.mkdir()
+    files = [folder / str(number) for number in range(len(pages))]
+    for file, page in zip(files, pages):
+        file.write_bytes(page)
+    return [str(file) for file in files]
+
+
+def first_files(files, most):
+    """Of these files those that have no more bytes than so many, and how many they have."""
+    sizes = list(itertools.accumulate(pathlib.Path(file).stat().st_size for file in files))
+    count = sum(size <= most for size in sizes)
+    return files[:count], sizes[count - 1]
 
 
 def print_long_tokens(program, corpus, sizes):
@@ -134,6 +159,8 @@ def main():
         print(f"Beside {words}.\n")
         print("| Reader | MB | Seconds | MB/s | Ratio | Peak, MB | Instructions a byte | Found |\n|---|---|---|---|---|---|---|---|")
         corpus = folder / "pages"
+        if chosen.real:
+            programs["C, a page at a time"] = (in_c, [WHOLE, *files_of(corpora.real_pages_apart(), folder / "apart")])
         for text in texts(chosen):
             corpus.write_bytes(text)
             print_rows(programs, corpus, 2 if chosen.quick else 5)

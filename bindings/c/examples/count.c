@@ -1,9 +1,9 @@
 /*
- * Counts the tokens of a page, which it reads as it arrives from standard input.
+ * Counts the tokens of a page, which it reads as it arrives from standard input, or those of files, a page each, in one handle.
  *
- *     count [PIECE] < PAGE
+ *     count [PIECE [FILE..]] < PAGE
  *
- * The page is fed in pieces of PIECE bytes, or 65,536.
+ * A page is fed in pieces of PIECE bytes, or 65,536.
  */
 #include "../firnuubal.h"
 
@@ -41,16 +41,33 @@ static bool count_waiting(counts *found, html5_reader *reader, html5_handle *han
     return true;
 }
 
-static html5_status count_page(counts *found, html5_reader *reader, html5_handle *handle, size_t piece) {
+/* Begins a page, in the handle of the page before it if there is one. */
+static html5_status begin(html5_handle *handle) {
+    static const html5_options options;
+    return (handle->is_open ? html5_restart : html5_new)(handle, (const uint8_t *)"", 0, &options);
+}
+
+static html5_status count_page(counts *found, html5_reader *reader, html5_handle *handle, FILE *page, size_t piece) {
     static uint8_t bytes[1 << 16];
-    html5_options options = {0};
-    html5_status status = html5_new(handle, bytes, 0, &options);
-    for (size_t len; status == HTML5_DONE && (len = fread(bytes, 1, piece, stdin)) > 0;) {
+    html5_status status = begin(handle);
+    for (size_t len; status == HTML5_DONE && (len = fread(bytes, 1, piece, page)) > 0;) {
         status = html5_feed(handle, bytes, len);
         if (!count_waiting(found, reader, handle)) return HTML5_NO_MEMORY;
     }
     if (status == HTML5_DONE) status = html5_end(handle);
     return count_waiting(found, reader, handle) ? status : HTML5_NO_MEMORY;
+}
+
+/* Counts each file, up to the first that can't be read. */
+static html5_status count_files(counts *found, html5_reader *reader, html5_handle *handle, char **names, size_t piece) {
+    html5_status status = HTML5_DONE;
+    for (; status == HTML5_DONE && *names; names++) {
+        FILE *page = fopen(*names, "rb");
+        if (!page) return HTML5_CLOSED;
+        status = count_page(found, reader, handle, page, piece);
+        fclose(page);
+    }
+    return status;
 }
 
 int main(int count, char **words) {
@@ -59,7 +76,8 @@ int main(int count, char **words) {
     html5_handle handle = {0};
     html5_reader reader = {0};
     counts found = {0};
-    html5_status status = count_page(&found, &reader, &handle, piece);
+    html5_status status = count > 2 ? count_files(&found, &reader, &handle, words + 2, piece)
+                                    : count_page(&found, &reader, &handle, stdin, piece);
     html5_reader_free(&reader);
     html5_free(&handle);
     printf("tags %" PRIu64 ", attributes %" PRIu64 " of %" PRIu64 " bytes, texts %" PRIu64 " of %" PRIu64 " bytes, comments %" PRIu64 ", errors %" PRIu64 "\n",

@@ -435,6 +435,54 @@ static void is_closed_until_it_is_opened(void) {
     CHECK(feed(&handle, "x") == HTML5_CLOSED);
 }
 
+/* One page after another in a handle, by one table of names. */
+static void begins_another_page(void) {
+    html5_handle handle = {0};
+    html5_options options = {0}, raw = {.state = HTML5_RCDATA}, no_state = {.state = 6}, placed = {.places = true};
+    const uint8_t *title = (const uint8_t *)"title", *no_text = (const uint8_t *)"\xff";
+    html5_reader reader = {0};
+    CHECK(html5_restart(&handle, title, 0, &options) == HTML5_CLOSED);
+    CHECK(open_after(&handle, "", options) == HTML5_DONE);
+    CHECK(html5_set_limit(&handle, 20) == HTML5_DONE);
+    CHECK(feed(&handle, "1&lt;<b><a b") == HTML5_DONE);
+    /* What is refused changes nothing, and the options are looked at before the name. */
+    CHECK(html5_restart(&handle, no_text, 1, &no_state) == HTML5_BAD_OPTION);
+    CHECK(html5_restart(&handle, title, 0, &placed) == HTML5_BAD_OPTION);
+    CHECK(html5_restart(&handle, no_text, 1, &options) == HTML5_NOT_UTF8);
+    CHECK(is_next(&reader, &handle, HTML5_TEXT, "1<"));
+    CHECK(is_next(&reader, &handle, HTML5_START_TAG, "b"));
+    /* The open tag is gone, and the limit stays. The page is read as the options say. */
+    CHECK(html5_restart(&handle, title, 5, &raw) == HTML5_DONE);
+    CHECK(feed(&handle, "longer than twenty bytes") == HTML5_LIMIT);
+    CHECK(feed(&handle, "<b>&gt;") == HTML5_DONE);
+    CHECK(feed(&handle, "</title>") == HTML5_DONE);
+    CHECK(html5_end(&handle) == HTML5_DONE);
+    CHECK(is_next(&reader, &handle, HTML5_TEXT, "<b>>"));
+    CHECK(is_next(&reader, &handle, HTML5_END_TAG, "title"));
+    CHECK(is_next(&reader, &handle, HTML5_END, ""));
+    CHECK(html5_is_over(&handle));
+    /* What was not taken is gone. */
+    CHECK(html5_restart(&handle, title, 0, &options) == HTML5_DONE);
+    CHECK(feed(&handle, "<i>") == HTML5_DONE);
+    CHECK(html5_restart(&handle, title, 0, &options) == HTML5_DONE);
+    CHECK(TAKES(&handle, 8, ""));
+    CHECK(!html5_is_over(&handle));
+    /* The encoding that was said is that of the next page, too. */
+    CHECK(set_encoding(&handle, "windows-1252") == HTML5_DONE);
+    CHECK(feed(&handle, "\xe9") == HTML5_DONE);
+    CHECK(html5_restart(&handle, title, 0, &options) == HTML5_DONE);
+    CHECK(is_in(&handle, 16, ""));
+    CHECK(feed(&handle, "\xe8") == HTML5_DONE);
+    CHECK(html5_end(&handle) == HTML5_DONE);
+    CHECK(is_in(&handle, 16, "windows-1252"));
+    CHECK(is_next(&reader, &handle, HTML5_TEXT, "\xc3\xa8"));
+    html5_reader_free(&reader);
+    /* A page with places, or one that is cleaned, is not begun so. */
+    CHECK(open_after(&handle, "", placed) == HTML5_DONE);
+    CHECK(html5_restart(&handle, title, 0, &options) == HTML5_CLOSED);
+    html5_free(&handle);
+}
+
 /* What is told of a page with places: each token but errors, and where it stands. */
 static void adds_places(html5_reader *reader, html5_handle *handle, char *told, size_t room) {
     html5_token token;
@@ -519,5 +567,6 @@ int main(void) {
     pauses_at_the_end_of_what_was_held();
     counts_what_is_held();
     is_closed_until_it_is_opened();
+    begins_another_page();
     return failed;
 }

@@ -27,6 +27,49 @@ class Calls(unittest.TestCase):
             tokenizer.feed(b">")
             self.assertEqual(list(tokenizer.tokens())[0], Text(1, "one two"))
 
+    def test_nothing_of_a_page_is_left_to_the_next(self):
+        # Each page leaves something open: a limit, options, a state, a tag, tokens that were not read, text that waits.
+        pages = [
+            (dict(limit=40), b"<p a"),
+            (dict(exact_errors=True, keep_bom=True), "\ufeff1\x01".encode()),
+            (dict(replies=Replies.CALLER), b"<style>"),
+            (dict(replies=Replies.PAUSING), b"<script></script><b>"),
+            (dict(state=State.RCDATA, last_start_tag="title", foreign=True), b"<b></title>&lt"),
+            (dict(encoding="shift_jis"), b"\x93"),
+            (dict(places=True), b"<p>1"),
+        ]
+        due = [StartTag(1, "p", (), False, False), Text(1, "1 < 2" + " " * 50), End(1)]
+        for options, page in pages * 2:
+            with Tokenizer(**options) as tokenizer:
+                tokenizer.feed(page)
+            with Tokenizer(errors=False) as tokenizer:
+                self.assertFalse(tokenizer.is_over())
+                self.assertEqual(tokenizer.feed("\ufeff<p>1 &lt; 2" + " " * 50), Fed.DONE)
+                self.assertEqual(tokenizer.end(), Fed.DONE)
+                self.assertIsNone(tokenizer.encoding)
+                read = list(tokenizer.tokens())
+            self.assertEqual(read, due, options)
+
+    def test_what_is_closed_is_closed(self):
+        tokenizer = Tokenizer()
+        tokenizer.close()
+        tokenizer.close()
+        with Tokenizer() as other:
+            with self.assertRaises(TokenizerError) as refused:
+                tokenizer.feed("x")
+            self.assertEqual(refused.exception.status, Status.CLOSED)
+            other.feed("1<p>")
+            self.assertEqual(list(tokenizer.tokens()), [])
+            self.assertEqual(len(list(other.tokens())), 2)
+
+    def test_pages_within_pages(self):
+        # A page whose pieces are made by reading others.
+        def pieces():
+            for name in "abcdefgh":
+                yield from (token.name for token in firnuubal.tokens(f"<{name}>") if isinstance(token, StartTag))
+
+        self.assertEqual([text.text for text in firnuubal.tokens(pieces()) if isinstance(text, Text)], ["abcdefgh"])
+
     def test_text_is_put_in_after_a_script(self):
         with Tokenizer(replies=Replies.PAUSING) as tokenizer:
             self.assertEqual(tokenizer.feed(b"<script>x</script>c"), Fed.SCRIPT)

@@ -1,7 +1,7 @@
 //! Cleaning: what a policy keeps of a page.
 
 use crate::raw::{self, Handle};
-use crate::{Encoding, Error};
+use crate::{Encoding, Error, spares};
 use std::collections::{BTreeMap, BTreeSet};
 use std::io::{self, Read, Write};
 
@@ -30,10 +30,21 @@ impl Policy {
     }
 
     fn try_clean(&self, page: &str) -> Result<String, Error> {
-        let mut cleaner = Cleaner::new(self)?;
+        let mut cleaner = self.cleaner()?;
         cleaner.feed(page.as_bytes())?;
         cleaner.end()?;
-        Ok(cleaner.take())
+        let kept = cleaner.take();
+        spares::keep_cleaner(&self.text, cleaner.handle);
+        Ok(kept)
+    }
+
+    // A cleaner by this policy at the start of a page: one that was kept, where there is one.
+    fn cleaner(&self) -> Result<Cleaner, Error> {
+        let handle = spares::cleaner(&self.text);
+        if handle.is_open() {
+            return Ok(Cleaner { handle });
+        }
+        Cleaner::new(self)
     }
 
     /// What the policy keeps of a page in this encoding.
@@ -55,7 +66,7 @@ impl Policy {
 
     /// Writes what the policy keeps of a page, as its bytes arrive.
     pub fn clean_stream(&self, mut page: impl Read, mut kept: impl Write) -> io::Result<()> {
-        let mut cleaner = Cleaner::new(self)?;
+        let mut cleaner = self.cleaner()?;
         let mut piece = vec![0; 1 << 16];
         loop {
             let len = page.read(&mut piece)?;
@@ -66,7 +77,9 @@ impl Policy {
             kept.write_all(cleaner.take().as_bytes())?;
         }
         cleaner.end()?;
-        kept.write_all(cleaner.take().as_bytes())
+        kept.write_all(cleaner.take().as_bytes())?;
+        spares::keep_cleaner(&self.text, cleaner.handle);
+        Ok(())
     }
 }
 
@@ -282,11 +295,5 @@ impl Cleaner {
             0 => Ok(()),
             status => Err(Error::of_status(status, || unsafe { raw::html5_cleaner_error_at(&mut self.handle) })),
         }
-    }
-}
-
-impl Drop for Cleaner {
-    fn drop(&mut self) {
-        unsafe { raw::html5_free(&mut self.handle) }
     }
 }

@@ -26,6 +26,7 @@ mod pages;
 mod raw;
 mod record;
 mod sink;
+mod spares;
 
 pub use cleaner::{clean, Cleaner, Policy, PolicyBuilder};
 pub use owned::{OwnedTag, OwnedToken};
@@ -221,6 +222,8 @@ pub struct Tokenizer {
     taken: Vec<u8>,
     read: record::Read,
     places: bool,
+    // Its handle may serve another page.
+    is_spare: bool,
 }
 
 // The handle has no tie to a thread, and each call takes it by `&mut`.
@@ -246,9 +249,9 @@ impl Tokenizer {
             taken: Vec::new(),
             read: record::Read::default(),
             places: options.places,
+            is_spare: !options.places && options.limit.is_none() && options.encoding.is_none(),
         };
-        let last = options.last_start_tag;
-        let status = unsafe { raw::html5_new(&mut tokenizer.handle, last.as_ptr(), last.len(), &raw) };
+        let status = spares::open(&mut tokenizer.handle, options.last_start_tag, &raw);
         tokenizer.fed_or_error(status)?;
         if let Some(limit) = options.limit {
             let status = unsafe { raw::html5_set_limit(&mut tokenizer.handle, limit) };
@@ -366,6 +369,8 @@ impl Tokenizer {
 
 impl Drop for Tokenizer {
     fn drop(&mut self) {
-        unsafe { raw::html5_free(&mut self.handle) }
+        if self.is_spare && self.handle.is_open() {
+            spares::keep(self.handle.take());
+        }
     }
 }

@@ -2,7 +2,7 @@
 
 use crate::Encoding;
 use std::ffi::c_void;
-use std::ptr;
+use std::{mem, ptr};
 
 /// A handle, of a tokenizer or of a cleaner. One of zeros is closed.
 #[repr(C)]
@@ -14,9 +14,25 @@ pub(crate) struct Handle {
 
 impl Handle {
     pub(crate) const CLOSED: Handle = Handle { at: ptr::null_mut(), is_open: false };
+
+    pub(crate) fn is_open(&self) -> bool {
+        self.is_open
+    }
+
+    /// Moves it out, and leaves a closed one.
+    pub(crate) fn take(&mut self) -> Handle {
+        mem::replace(self, Handle::CLOSED)
+    }
+}
+
+impl Drop for Handle {
+    fn drop(&mut self) {
+        unsafe { html5_free(self) }
+    }
 }
 
 #[repr(C)]
+#[derive(Default)]
 pub(crate) struct RawOptions {
     pub(crate) state: u32,
     pub(crate) replies: u32,
@@ -28,6 +44,7 @@ pub(crate) struct RawOptions {
 
 extern "C" {
     pub(crate) fn html5_new(handle: *mut Handle, last: *const u8, len: usize, options: *const RawOptions) -> u32;
+    pub(crate) fn html5_restart(handle: *mut Handle, last: *const u8, len: usize, options: *const RawOptions) -> u32;
     pub(crate) fn html5_feed(handle: *mut Handle, bytes: *const u8, len: usize) -> u32;
     pub(crate) fn html5_insert(handle: *mut Handle, text: *const u8, len: usize) -> u32;
     pub(crate) fn html5_reply(handle: *mut Handle, state: u32) -> u32;

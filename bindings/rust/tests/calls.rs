@@ -1,6 +1,7 @@
 //! Pauses, refusals, texts that arrive in pieces.
 
 use firnuubal::{Encoding, Error, Fed, Options, Replies, State, Token, Tokenizer};
+use std::io;
 
 fn shown(tokenizer: &mut Tokenizer) -> String {
     let mut shown = String::new();
@@ -29,6 +30,51 @@ fn a_page_in_pieces() -> Result<(), Error> {
         tokenizer.end()?;
         assert_eq!(all + &shown(&mut tokenizer), "<p>[1 < 2]end 1");
     }
+    Ok(())
+}
+
+#[test]
+fn nothing_of_a_page_is_left_to_the_next() -> Result<(), Error> {
+    // Each page leaves something open: a limit, options, a state, a tag, tokens that were not read, text that waits.
+    let plain = Options::default();
+    let label = Some(Encoding::Label("shift_jis"));
+    let pages: [(Options<'_>, &[u8]); 7] = [
+        (Options { limit: Some(40), ..plain }, b"<p a"),
+        (Options { exact_errors: true, keep_bom: true, ..plain }, "\u{feff}1\u{1}".as_bytes()),
+        (Options { replies: Replies::Caller, ..plain }, b"<style>"),
+        (Options { replies: Replies::Pausing, ..plain }, b"<script></script><b>"),
+        (Options { state: State::Rcdata, last_start_tag: "title", foreign: true, ..plain }, b"<b></title>&lt"),
+        (Options { encoding: label, ..plain }, b"\x93"),
+        (Options { places: true, ..plain }, b"<p>1"),
+    ];
+    let spaces = " ".repeat(50);
+    for (options, page) in pages.iter().chain(&pages) {
+        Tokenizer::new(options)?.feed(page)?;
+        let mut tokenizer = Tokenizer::new(&plain)?;
+        assert!(!tokenizer.is_over());
+        assert_eq!(tokenizer.feed(format!("\u{feff}<p>1 &lt; 2{spaces}").as_bytes())?, Fed::Done);
+        assert_eq!(tokenizer.end()?, Fed::Done);
+        assert_eq!(tokenizer.encoding(), None);
+        assert_eq!(shown(&mut tokenizer), format!("<p>[1 < 2{spaces}]end 1"), "after {options:?}");
+    }
+    Ok(())
+}
+
+#[test]
+fn pages_within_pages() -> io::Result<()> {
+    // More than are kept.
+    fn inner(depth: usize) -> io::Result<String> {
+        let mut names = String::new();
+        let mut within = Ok(String::new());
+        firnuubal::read_tokens(format!("<p{depth}>").as_bytes(), &Options::default(), |token| {
+            if let Token::StartTag(tag) = token {
+                names += tag.name;
+                within = if depth == 0 { Ok(String::new()) } else { inner(depth - 1) };
+            }
+        })?;
+        Ok(names + &within?)
+    }
+    assert_eq!(inner(6)?, "p6p5p4p3p2p1p0");
     Ok(())
 }
 

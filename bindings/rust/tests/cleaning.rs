@@ -31,6 +31,23 @@ fn a_page_from_a_stream() {
 }
 
 #[test]
+fn policies_in_turn() {
+    // More than are kept, also after pages that are refused.
+    let names = ["p", "b", "i", "u", "q", "s"];
+    let policies = names.map(|name| PolicyBuilder::new().tags([name]).build());
+    for _ in 0..3 {
+        for (name, policy) in names.iter().zip(&policies) {
+            let policy = policy.as_ref().unwrap();
+            assert_eq!(policy.clean("<p><b><i><u><q><s>1 <"), format!("<{name}>1 &#60;"));
+            assert!(policy.clean_stream(&b"<p><!--\xFF"[..], Vec::new()).is_err());
+            let mut kept = Vec::new();
+            policy.clean_stream(&b"<s><q><u><i><b><p>2"[..], &mut kept).unwrap();
+            assert_eq!(kept, format!("<{name}>2").into_bytes());
+        }
+    }
+}
+
+#[test]
 fn policies() -> Result<(), Error> {
     let policy = Policy::parse("allow p class\nallow a href\nschemes ftp\nnoopener\n")?;
     assert_eq!(policy.clean("<p class=x><b>1<a href=ftp:x>"), r#"<p class="x">1<a href="ftp:x" rel="noopener">"#);

@@ -1,10 +1,11 @@
 -- What each call of the tokenizer makes of the session that a handle is of. A handle has none where it is closed, or has a cleaner.
-use Rattle.std.specs.Prelude.{◌≡◌, ◌≢◌, ◌↔◌, ◌⊎◌, ℕ, Bool, true, false, List, [], ◌++◌, length, take, drop, min, Option, None, Some, is_some}
+use Rattle.std.specs.Prelude.{◌≡◌, ◌≢◌, ◌↔◌, ◌⊎◌, ◌-◌, ◌^◌, ℕ, Bool, true, false, List, [], ◌++◌, length, take, drop, min, Option, None, Some, is_some}
 use Rattle.std.specs.Str.{IsUtf8}
-use Rattle.html5c.specs.Said.{are_named, options_said, replies_said, state_said}
+use Rattle.html5c.specs.Said.{are_named, are_recorded, options_said, replies_said, state_said}
 use Rattle.html5c.specs.PlacedCalls.{IsPlacedStart}
 use Rattle.html5c.specs.Slots.{WhereOpen, place_in, placed_of, session_of}
 use Rattle.html5c.specs.declared.opening.OpenError.{OpenError}
+use Rattle.html5c.specs.declared.opening.Reading.{Reading}
 use Rattle.html5c.specs.declared.opening.OpenError.TheVariants as opening
 use Rattle.html5c.specs.declared.options.Options.{Options}
 use Rattle.html5c.specs.declared.slot.PageSlot.{PageSlot}
@@ -13,6 +14,7 @@ use Rattle.html5placed.specs.PlacedSessions as placed_page
 use Rattle.html5records.specs.Recording.{recorded_means, none_recorded, nothing_recorded, waiting, WritesOn}
 use Rattle.html5records.specs.declared.record_sink.Replies.{Replies}
 use Rattle.html5ever.specs.Tokenizer.{StandsAt, rules_of}
+use Rattle.html5ever_interface.specs.Options.{options_of}
 use Rattle.html5ever_interface.specs.declared.states.State.{State}
 use Rattle.html5reading.specs.Start.{start_of}
 use Rattle.html5entities.specs.Standard.{standard_list}
@@ -20,14 +22,15 @@ use Rattle.html5ever_interface.specs.Token.{Reply}
 use Rattle.html5ever_interface.specs.Token.Reply.{KeepOn, RunScript, SwitchEncoding}
 use Rattle.html5records.specs.declared.record_sink.PausedAt.{PausedAt}
 use Rattle.html5records.specs.declared.record_sink.PausedAt.TheVariants as paused
-use Rattle.html5session.specs.Intake.{IsComplete, gains_front, has_room, is_decoding, nothing_taken}
+use Rattle.html5session.specs.Intake.{IsComplete, gains_front, has_room, is_decoding, nothing_taken, page_again}
 use Rattle.html5session.specs.Intake.Piece.{Bytes, TheEnd}
 use Rattle.html5session.specs.RecordSessions.{RecordSessionOf, SetsForeign, StandsOn, after_session_takes, recorded_by}
 use Rattle.html5session.specs.Session.{tokenizer_of, is_over, nothing_open_in, EndSaysFault, FeedRefused, SetsState, FeedsPiece, SaysFault, EndsSession, LosesEnd}
 use Rattle.html5session.specs.declared.error.SessionError.{SessionError}
 use Rattle.html5session.specs.declared.error.SessionError.TheVariants.{Memory, NotUtf8, Cut, Waiting, ItemOpen, Over}
+use Rattle.html5sniffing.specs.PageDecoding.{PageDecoding}
 use Rattle.html5table.specs.Listed.{entries_in}
-use Rattle.markup5ever.specs.NamedReferences.{table_of}
+use Rattle.markup5ever.specs.NamedReferences.{NamedReference, table_of}
 
 -- ---- the numbers of statuses
 
@@ -48,16 +51,30 @@ error_status Over = 7
 
 -- ---- a new session
 
--- it stands at the start of a page, by these options, and reads references by the standard's names
-pub record Starts (s : RecordSessionOf) (name : List ℕ) (o : Options) : Type 0 where
+-- it stands at the start of a page, by these options, and reads references by the table. It may hold so many bytes, and a page that is
+-- decoded is decoded so
+pub record StartsBy (names : List NamedReference) (limit : ℕ) (page : Option PageDecoding) (s : RecordSessionOf) (name : List ℕ) (o : Options) : Type 0 where
   pub replies : Replies
   pub said : replies_said o.replies ≡ Some replies
   pub stands : StandsAt recorded_means (tokenizer_of s) (start_of (options_said o name)) (none_recorded replies o.foreign) []
-  pub rules : (tokenizer_of s).rules ≡ rules_of (options_said o name) (table_of (entries_in standard_list))
+  pub rules : (tokenizer_of s).rules ≡ rules_of (options_said o name) names
   pub sink : s.detached.sink ≡ nothing_recorded replies o.foreign
-  pub references : s.references ≡ table_of (entries_in standard_list)
-  pub intake : s.intake ≡ nothing_taken
+  pub references : s.references ≡ names
+  pub intake : s.intake ≡ record nothing_taken { limit = limit; page = page }
   pub going_on : is_over s ≡ false
+  pub named : are_named o ≡ true
+  pub utf8 : IsUtf8 name
+
+-- the same by the standard's names, without a limit, and of UTF-8
+abbrev pub Starts : RecordSessionOf → List ℕ → Options → Type 0
+Starts s name o = StartsBy (table_of (entries_in standard_list)) (2 ^ 64 - 1) None s name o
+
+-- how a page is read and the sink of its tokens, by these options
+pub record IsReadBy (r : Reading) (name : List ℕ) (o : Options) : Type 0 where
+  pub replies : Replies
+  pub said : replies_said o.replies ≡ Some replies
+  pub by : options_of r.opts ≡ options_said o name
+  pub sink : r.sink ≡ nothing_recorded replies o.foreign
   pub named : are_named o ≡ true
   pub utf8 : IsUtf8 name
 
@@ -93,6 +110,14 @@ pub record NewSays (now : Option PageSlot) (name : List ℕ) (o : Options) (stat
   pub refused : status ≢ 0 → now ≡ None
   pub bad_option : (status ≡ 9) ↔ (are_named o ≡ false)
   pub not_utf8 : (status ≡ 4) ↔ ((are_named o ≡ true) × ¬ (IsUtf8 name))
+  pub only : (status ≡ 0) ⊎ (status ≡ 3) ⊎ (status ≡ 4) ⊎ (status ≡ 9)
+
+-- another page is at its start, by these options, and by the table, the limit and the decoding of the page before it; or nothing changed
+pub record PageRestartSays (old new : RecordSessionOf) (name : List ℕ) (o : Options) (status : ℕ) : Type 0 where
+  pub done : status ≡ 0 → StartsBy old.references old.intake.limit (page_again old.intake) new name o
+  pub refused : status ≢ 0 → new ≡ old
+  pub bad_option : (status ≡ 9) ↔ (are_recorded o ≡ false)
+  pub not_utf8 : (status ≡ 4) ↔ ((are_recorded o ≡ true) × ¬ (IsUtf8 name))
   pub only : (status ≡ 0) ⊎ (status ≡ 3) ⊎ (status ≡ 4) ⊎ (status ≡ 9)
 
 -- ---- what a status of each call says of a handle that has a session
@@ -183,6 +208,9 @@ pub record TakeSays (old new : RecordSessionOf) (room out : List ℕ) (n : ℕ) 
 
 abbrev pub Feeds : Option RecordSessionOf → Option RecordSessionOf → List ℕ → ℕ → Type 0
 Feeds old new bytes status = WhereOpen (λ s t. FeedSays s t bytes status) (status ≡ 8) old new
+
+abbrev pub PageRestarts : Option RecordSessionOf → Option RecordSessionOf → List ℕ → Options → ℕ → Type 0
+PageRestarts old new name o status = WhereOpen (λ s t. PageRestartSays s t name o status) (status ≡ 8) old new
 
 abbrev pub Inserts : Option RecordSessionOf → Option RecordSessionOf → List ℕ → ℕ → Type 0
 Inserts old new text status = WhereOpen (λ s t. InsertSays s t text status) (status ≡ 8) old new

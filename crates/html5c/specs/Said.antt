@@ -36,6 +36,10 @@ places_said o = not o.places || ((o.replies == 0) && not o.foreign)
 abbrev pub are_named : Options → Bool
 are_named o = is_some (replies_said o.replies) && (is_some (state_said o.state) && places_said o)
 
+-- each number names something, and tokens are recorded without their places
+abbrev pub are_recorded : Options → Bool
+are_recorded o = are_named o && not o.places
+
 -- the name of the last start tag: none where it has no bytes
 abbrev pub name_said : List ℕ → Option (List ℕ)
 name_said [] = None

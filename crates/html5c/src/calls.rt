@@ -1,6 +1,6 @@
 //! The calls of the tokenizer.
 ghost use Rattle.std.specs.Prelude.{◌≡◌, None, option_map};
-ghost use Rattle.html5c.specs.Calls.{NewSays, Feeds, Inserts, RepliesTo, TellsForeign, Ends, Takes, error_place, over_in};
+ghost use Rattle.html5c.specs.Calls.{NewSays, Feeds, Inserts, PageRestarts, RepliesTo, TellsForeign, Ends, Takes, error_place, over_in};
 ghost use Rattle.html5c.specs.Encodings.{NamesEncoding, SetsEncoding, encoding_in};
 ghost use Rattle.html5c.specs.PlacedCalls.{PlacedEnds, PlacedFeeds, PlacedTakes, placed_limited};
 ghost use Rattle.html5c.specs.Slots.{cleaner_of, limited, placed_of, session_of, status_where_open};
@@ -30,6 +30,29 @@ pub extern "C" fn html5_new(
         }
         Err(error) => error.status(),
     }
+}
+
+/// Begins another page in a handle that is open, by these options and after a start tag of a name, as `html5_new` does, and by
+/// the table of named references, the limit and the encoding that the handle has. So the table is not made anew. What was
+/// recorded and not taken is gone. Where it is refused nothing changes, and options with places are.
+#[unsafe(no_mangle)]
+pub extern "C" fn html5_restart(
+    alloc: Global,
+    h: &mut Handle,
+    last_start_tag: &[u8],
+    options: &Options,
+) -> u32
+    ensures restarts { PageRestarts (session_of h.old.owned.value) (session_of h.new.owned.value)
+        last_start_tag.now options.now result }
+    ensures other { cleaner_of h.new.owned.value ≡ cleaner_of h.old.owned.value }
+    ensures placed { placed_of h.new.owned.value ≡ placed_of h.old.owned.value }
+{
+    let Some(mut slot) = h.take(alloc) else {
+        return status::CLOSED;
+    };
+    let status = slot.restart(alloc, last_start_tag, options);
+    h.put(slot);
+    status
 }
 
 /// Takes a piece of the page, cut anywhere, and reads on, up to a pause. What is left of it is kept:

@@ -19,7 +19,8 @@ mod version;
 
 pub use calls::{
     html5_encoding, html5_end, html5_error_at, html5_feed, html5_free, html5_insert, html5_is_over,
-    html5_new, html5_reply, html5_set_encoding, html5_set_foreign, html5_set_limit, html5_take,
+    html5_new, html5_reply, html5_restart, html5_set_encoding, html5_set_foreign, html5_set_limit,
+    html5_take,
 };
 pub use cleaner_calls::{
     html5_cleaner_end, html5_cleaner_error_at, html5_cleaner_feed, html5_cleaner_is_over,

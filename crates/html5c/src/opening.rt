@@ -1,15 +1,18 @@
 //! A page at its start.
-ghost use Rattle.std.specs.Prelude.{◌≡◌, true, option_map, string_bytes, OnOk, IfOk, IfErr};
+ghost use Rattle.std.specs.Prelude.{◌≡◌, ℕ, List, true, option_map, string_bytes, OnOk, IfOk, IfErr};
 ghost use Rattle.std.specs.Str.{IsUtf8};
-ghost use Rattle.html5c.specs.Calls.{Starts, StartsAs, IsNameRefused, OpenFails, open_status};
+ghost use Rattle.html5c.specs.Calls.{IsReadBy, IsNameRefused, OpenFails, PageRestartSays, Starts, StartsAs, StartsBy, open_status};
 ghost use Rattle.html5c.specs.Said.{name_said};
 ghost use Rattle.html5c.specs.PlacedCalls.{StartsPlaced};
 ghost use Rattle.html5c.specs.Slots.{placed_in, session_in};
+ghost use Rattle.html5feed.specs.Starting.{CanStart};
+ghost use Rattle.html5session.specs.Intake.{page_again};
 
 use crate::options::Options;
 use crate::slot::PageSlot;
 use crate::status;
 use html5entities::standard_references;
+use html5ever::tokenizer::TokenizerOpts;
 use html5placed::PlacedSession;
 use html5records::record_sink::RecordSink;
 use html5session::{RecordSession, Session};
@@ -58,13 +61,19 @@ fn name_of(alloc: Global, bytes: &[u8]) -> Result<Option<String<Global>>, OpenEr
     }
 }
 
-// A session at the start of a page. The options are looked at first, and then the name.
-fn session_at_start(
-    alloc: Global,
-    last_start_tag: &[u8],
-    options: &Options,
-) -> Result<RecordSession<Global>, OpenError>
-    ensures starts { IfOk result (λ session. Starts session last_start_tag.now options.now) }
+/// How a page is read, and the sink of its tokens.
+#[derive(Drop)]
+pub struct Reading {
+    /// How the tokenizer reads.
+    pub opts: TokenizerOpts<Global>,
+    /// The sink, which was sent nothing.
+    pub sink: RecordSink<Global>,
+}
+
+// How a page is read by the options. They are looked at first, and then the name.
+fn reading_by(alloc: Global, last_start_tag: &[u8], options: &Options) -> Result<Reading, OpenError>
+    ensures read { IfOk result (λ reading. IsReadBy reading last_start_tag.now options.now) }
+    ensures start { IfOk result (λ reading. CanStart reading.opts.initial_state) }
     ensures refused { IfErr result (λ error. OpenFails last_start_tag.now options.now error) }
 {
     if !options.can_be_placed() {
@@ -81,12 +90,66 @@ fn session_at_start(
         Ok(name) => name,
         Err(error) => return Err(error),
     };
+    Ok(Reading {
+        opts: options.opts(start, name),
+        sink: RecordSink::new(alloc, events),
+    })
+}
+
+// A session at the start of a page.
+fn session_at_start(
+    alloc: Global,
+    last_start_tag: &[u8],
+    options: &Options,
+) -> Result<RecordSession<Global>, OpenError>
+    ensures starts { IfOk result (λ session. Starts session last_start_tag.now options.now) }
+    ensures refused { IfErr result (λ error. OpenFails last_start_tag.now options.now error) }
+{
+    // A match in place of `?`: split for the proof.
+    let Reading { opts, sink } = match reading_by(alloc, last_start_tag, options) {
+        Ok(reading) => reading,
+        Err(error) => return Err(error),
+    };
     let Ok(references) = standard_references(alloc) else {
         return Err(OpenError::Memory);
     };
-    let opts = options.opts(start, name);
-    let sink = RecordSink::new(alloc, events);
     Ok(Session::new(alloc, references, opts, sink))
+}
+
+// A session at the start of another page, by the table, the limit and the decoding of the page before it.
+fn session_after(
+    alloc: Global,
+    session: RecordSession<Global>,
+    reading: Reading,
+) -> RecordSession<Global>
+    requires { CanStart reading.opts.initial_state }
+    ensures { (name : List ℕ) (o : Options) → IsReadBy reading name o
+        → StartsBy session.references session.intake.limit (page_again session.intake) result name o }
+{
+    let limit = session.limit();
+    let page = session.page_decoder_again();
+    let (references, _) = session.into_parts();
+    let Reading { opts, sink } = reading;
+    let mut next = Session::new(alloc, references, opts, sink);
+    next.set_limit(limit);
+    next.set_page_decoder(page);
+    next
+}
+
+/// Begins another page, by these options. Where it is refused, the page before it stays as it was.
+pub fn restart_session(
+    alloc: Global,
+    session: RecordSession<Global>,
+    last_start_tag: &[u8],
+    options: &Options,
+) -> (RecordSession<Global>, u32)
+    ensures { PageRestartSays session result.0 last_start_tag.now options.now result.1 }
+{
+    match reading_by(alloc, last_start_tag, options) {
+        _ if options.places => (session, status::BAD_OPTION),
+        Ok(reading) => (session_after(alloc, session, reading), status::DONE),
+        Err(error) => (session, error.status()),
+    }
 }
 
 // A page that is read with places at its start. The options are looked at first, and then the name.

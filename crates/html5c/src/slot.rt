@@ -1,13 +1,14 @@
 //! What a handle is of, over C's memory, and what the tokenizer's calls make of it.
 ghost use Rattle.std.specs.Prelude.{◌≡◌, None, IsNone, is_some, option_map, string_bytes};
-ghost use Rattle.html5c.specs.Calls.{Feeds, Inserts, RepliesTo, TellsForeign, Ends, Takes, fed_status, error_status, error_place, fits_in, over_in};
+ghost use Rattle.html5c.specs.Calls.{Feeds, Inserts, PageRestarts, RepliesTo, TellsForeign, Ends, Takes, fed_status, error_status, error_place, fits_in, over_in};
 ghost use Rattle.html5c.specs.PlacedCalls.{PlacedEnds, PlacedFeeds, PlacedTakes, placed_limited};
 ghost use Rattle.html5c.specs.Slots.{cleaner_in, is_past, limited, placed_in, session_in, status_where_open};
 ghost use Rattle.html5session.specs.Session.{is_over};
 ghost use Rattle.html5feed.specs.Feed.{reply_in};
 
 use crate::ending::end_session;
-use crate::options::state_of;
+use crate::opening::restart_session;
+use crate::options::{Options, state_of};
 use crate::status;
 use html5cleaning::CleaningSession;
 use html5placed::PlacedSession;
@@ -124,6 +125,20 @@ impl PageSlot {
             Ok(answer) => status_of_answer(&answer),
             Err(error) => status_of_error(error),
         }
+    }
+
+    /// Begins another page whose tokens are recorded.
+    pub fn restart(&mut self, alloc: Global, last_start_tag: &[u8], options: &Options) -> u32
+        ensures restarts { PageRestarts (session_in self.old) (session_in self.new) last_start_tag.now options.now result }
+        ensures other { cleaner_in self.new ≡ cleaner_in self.old }
+        ensures placed { placed_in self.new ≡ placed_in self.old }
+    {
+        let Some(session) = self.take_session() else {
+            return status::CLOSED;
+        };
+        let (session, status) = restart_session(alloc, session, last_start_tag, options);
+        *self = PageSlot::Tokenizer(session);
+        status
     }
 
     /// Puts a text in front of what waits.

@@ -32,7 +32,7 @@ from ._records import (
 )
 from ._tokenizer import Fed, Replies, State, Tokenizer, links, placed_tokens, text, tokens
 
-__version__ = "0.17.0"
+__version__ = "0.18.0"
 
 __all__ = [
     "ALLOWED_ATTRIBUTES",

@@ -36,6 +36,7 @@ _STATUS = ctypes.c_uint32
 # Each call: the types of its arguments, and that of its answer.
 _CALLS = {
     "html5_new": ([_HANDLE, *_BYTES, ctypes.POINTER(Options)], _STATUS),
+    "html5_restart": ([_HANDLE, *_BYTES, ctypes.POINTER(Options)], _STATUS),
     "html5_feed": ([_HANDLE, *_BYTES], _STATUS),
     "html5_insert": ([_HANDLE, *_BYTES], _STATUS),
     "html5_reply": ([_HANDLE, _STATUS], _STATUS),

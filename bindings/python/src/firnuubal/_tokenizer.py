@@ -5,10 +5,11 @@ import enum
 from typing import Iterable, Iterator, Optional
 
 from ._errors import Status, TokenizerError
-from ._library import ROOM, Handle, Options, as_bytes, bytes_of, encoding_of, library, pieces_of, set_encoding, taken
+from ._library import ROOM, Options, as_bytes, bytes_of, encoding_of, library, pieces_of, set_encoding, taken
 from ._places import Characters
 from ._readers import LinkReader, Reader, TextReader
 from ._records import Link, Placed, Token
+from ._spares import Spares
 
 
 class State(enum.IntEnum):
@@ -62,7 +63,9 @@ class Tokenizer:
     slower, and holds what was fed since the last token.
     """
 
+    _byref = staticmethod(ctypes.byref)
     _free = staticmethod(library.html5_free)
+    _spares = Spares(4)
 
     def __init__(
         self,
@@ -80,8 +83,6 @@ class Tokenizer:
         encoding: Optional[str] = None,
         places: bool = False,
     ):
-        self._handle = Handle()
-        self._at = ctypes.byref(self._handle)
         if places and (replies != Replies.STANDARD or foreign or encoding is not None):
             raise ValueError("places go with the standard's replies alone, without foreign content and without an encoding")
         self._reader = Reader(errors, texts, tags, places)
@@ -91,8 +92,10 @@ class Tokenizer:
         self._characters: Optional[Characters] = None
         self._room = ctypes.create_string_buffer(ROOM)
         options = Options(state, replies, exact_errors, keep_bom, foreign, places)
-        last = last_start_tag.encode()
-        self._checked(library.html5_new(self._handle, last, len(last), options))
+        self._handle, status = self._spares.page_at_start(last_start_tag.encode(), options)
+        self._at = self._byref(self._handle)
+        self._is_spare = not places and limit is None and encoding is None
+        self._checked(status)
         if limit is not None:
             self._checked(library.html5_set_limit(self._handle, limit))
         self._to_bytes = self._noted if places else bytes_of if encoding is None else as_bytes
@@ -115,8 +118,13 @@ class Tokenizer:
             self.close()
 
     def close(self) -> None:
-        """Gives the memory back. Tokens that were read stay."""
-        self._free(self._handle)
+        """Gives the memory back, but for a table of names that the next tokenizer takes over. Tokens that were read stay."""
+        handle, self._handle = self._handle, type(self._handle)()
+        self._at = self._byref(self._handle)
+        if handle.is_open and self._is_spare:
+            self._spares.keep(handle)
+        else:
+            self._free(handle)
 
     def feed(self, piece) -> Fed:
         """Reads the next piece, a text or bytes. After a pause it goes on, with what waits and this piece.
