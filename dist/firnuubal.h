@@ -8,10 +8,10 @@
 #define FIRNUUBAL_H
 
 /* The version of the library, of this header and of the readers. */
-#define FIRNUUBAL_VERSION "0.17.0"
+#define FIRNUUBAL_VERSION "0.18.0"
 
 /* The same as a number, its three numbers a byte each. `html5_version` says it of the library that is linked. */
-#define FIRNUUBAL_VERSION_NUMBER 0x001100
+#define FIRNUUBAL_VERSION_NUMBER 0x001200
 
 #include <stdbool.h>
 #include <stddef.h>
@@ -102,8 +102,8 @@ typedef struct {
 /*
  * With `places` the text before a token comes with it, in one piece, and a token that is read has its places
  * (`text_begin`, `begin`, `end` of html5_token). The page is UTF-8, and nothing pauses: `html5_insert`, `html5_reply`,
- * `html5_set_foreign` and `html5_set_encoding` answer HTML5_CLOSED. It is slower, and holds the text since the last token,
- * which counts against the limit. Options that `places` doesn't go with are answered HTML5_BAD_OPTION.
+ * `html5_set_foreign`, `html5_set_encoding` and `html5_restart` answer HTML5_CLOSED. It is slower, and holds the text since the
+ * last token, which counts against the limit. Options that `places` doesn't go with are answered HTML5_BAD_OPTION.
  */
 
 /*
@@ -119,6 +119,14 @@ static inline const uint8_t *html5_bytes_or_none(const void *bytes) {
  * tag ends raw text, where the reading starts in some; its length is 0 otherwise.
  */
 html5_status html5_new(html5_handle *handle, const uint8_t *last_start_tag, size_t len, const html5_options *options);
+
+/*
+ * Begins another page in an open handle, as html5_new does, but with the table of the standard's names that the handle has: to
+ * make that anew takes as long as reading some 70,000 bytes. The limit stays, and so does the encoding that was said. What was
+ * not taken is gone. After any status but HTML5_DONE nothing changes: HTML5_BAD_OPTION is also for `places`, and a page that is
+ * read with places is HTML5_CLOSED here.
+ */
+html5_status html5_restart(html5_handle *handle, const uint8_t *last_start_tag, size_t len, const html5_options *options);
 
 /*
  * Reads the next bytes, in pieces of any size. After a pause it goes on, with what waits and these bytes.
@@ -164,7 +172,8 @@ html5_status html5_set_limit(html5_handle *handle, uint64_t limit);
  *
  * Then no bytes are refused: those that are none of the encoding are read as U+FFFD. The first bytes are held
  * until they tell the encoding: fewer than 1,024, or up to 65,536 of plain ASCII that tells nothing. They count for the limit;
- * a byte of the page may be up to three of its text, by which what is held can go past the limit. Texts of `html5_insert` stay UTF-8. `html5_cleaner_restart` keeps what was said.
+ * a byte of the page may be up to three of its text, by which what is held can go past the limit. Texts of `html5_insert` stay
+ * UTF-8. `html5_restart` and `html5_cleaner_restart` keep what was said.
  */
 html5_status html5_set_encoding(html5_handle *handle, const uint8_t *label, size_t len);
 #define html5_set_encoding(handle, label, len) html5_set_encoding(handle, html5_bytes_or_none(label), len)
