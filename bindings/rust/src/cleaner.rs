@@ -1,7 +1,7 @@
 //! Cleaning: what a policy keeps of a page.
 
 use crate::raw::{self, Handle};
-use crate::{Encoding, Error, spares};
+use crate::{spares, Encoding, Error};
 use std::collections::{BTreeMap, BTreeSet};
 use std::io::{self, Read, Write};
 
@@ -9,6 +9,9 @@ use std::io::{self, Read, Write};
 ///
 /// `Policy::parse` takes the text form (crates/html5policy/README.md), `PolicyBuilder` elements, attributes and schemes
 /// one by one. `Policy::default` is the standard policy, which has the rule `tree`.
+///
+/// `Policy::clean` and `Policy::clean_stream` keep a cleaner for the thread's next page by the same policy: to make one takes
+/// most of a millisecond. Those of the last four policies are kept.
 #[derive(Clone, Debug, Default, PartialEq, Eq)]
 pub struct Policy {
     // No text is the standard policy.

@@ -216,6 +216,9 @@ pub fn error_code(message: &str) -> Option<String> {
 }
 
 /// A tokenizer. Its tokens wait in it until they are read.
+///
+/// One that is dropped, and has no limit, no encoding and no places, leaves its table of names to the thread's next one: to make
+/// it takes most of a millisecond. Four are kept.
 #[derive(Debug)]
 pub struct Tokenizer {
     handle: Handle,

@@ -93,7 +93,11 @@ pub(crate) fn error_code(message: &str) -> Option<String> {
 }
 
 /// Appends all that waits in a handle.
-pub(crate) fn take_all(handle: &mut Handle, take: unsafe extern "C" fn(*mut Handle, *mut u8, usize) -> usize, taken: &mut Vec<u8>) {
+pub(crate) fn take_all(
+    handle: &mut Handle,
+    take: unsafe extern "C" fn(*mut Handle, *mut u8, usize) -> usize,
+    taken: &mut Vec<u8>,
+) {
     const ROOM: usize = 1 << 14;
     loop {
         let len = taken.len();

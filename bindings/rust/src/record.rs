@@ -260,13 +260,8 @@ fn tag(line: u64, bytes: &[u8]) -> Option<(Tag<'_>, &[u8])> {
     let (flags, rest) = bytes.split_first()?;
     let (name, rest) = counted(rest)?;
     let (attributes, rest) = attributes(rest)?;
-    let tag = Tag {
-        line,
-        name: text(name),
-        attributes,
-        self_closing: flags & 1 != 0,
-        duplicate_attributes: flags & 2 != 0,
-    };
+    let tag =
+        Tag { line, name: text(name), attributes, self_closing: flags & 1 != 0, duplicate_attributes: flags & 2 != 0 };
     Some((tag, rest))
 }
 

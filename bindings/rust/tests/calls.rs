@@ -153,9 +153,7 @@ fn a_limit() -> Result<(), Error> {
 fn raw_text_from_the_start_in_another_thread() -> Result<(), Error> {
     let options = Options { state: State::Rcdata, last_start_tag: "title", ..Options::default() };
     let mut tokenizer = Tokenizer::new(&options)?;
-    let shown = std::thread::spawn(move || {
-        tokenizer.feed(b"<b>&amp;</title>").map(|_| shown(&mut tokenizer))
-    });
+    let shown = std::thread::spawn(move || tokenizer.feed(b"<b>&amp;</title>").map(|_| shown(&mut tokenizer)));
     assert_eq!(shown.join().expect("it ends"), Ok("[<b>&]</title>".to_string()));
     Ok(())
 }

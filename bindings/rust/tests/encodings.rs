@@ -1,8 +1,8 @@
 //! Pages in any encoding: those that are said, those that pages tell, pieces, refusals.
 
 use firnuubal::{
-    clean, read_tokens, Cleaner, Encoding, Error, Fed, Options, OwnedToken, Policy, Replies, SinkTokenizer, Token, TokenSink,
-    TokenSinkResult, Tokenizer, TokenizerResult,
+    clean, read_tokens, Cleaner, Encoding, Error, Fed, Options, OwnedToken, Policy, Replies, SinkTokenizer, Token,
+    TokenSink, TokenSinkResult, Tokenizer, TokenizerResult,
 };
 
 // Pages, what is said of each, the name of its encoding, and its text.
