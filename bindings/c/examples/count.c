@@ -63,7 +63,10 @@ static html5_status count_files(counts *found, html5_reader *reader, html5_handl
     html5_status status = HTML5_DONE;
     for (; status == HTML5_DONE && *names; names++) {
         FILE *page = fopen(*names, "rb");
-        if (!page) return HTML5_CLOSED;
+        if (!page) {
+            perror(*names);
+            return HTML5_CLOSED;
+        }
         status = count_page(found, reader, handle, page, piece);
         fclose(page);
     }
