@@ -65,7 +65,7 @@ def by_bleach(page):
 # What is timed: a name, a call, and whether it reads a beginning alone.
 TIMED = [
     ("firnuubal.tokens", lambda page: exhausted(firnuubal.tokens(page)), False),
-    ("firnuubal.tokens(errors=False)", lambda page: exhausted(firnuubal.tokens(page, errors=False)), False),
+    ("firnuubal.tokens(parse_errors=False)", lambda page: exhausted(firnuubal.tokens(page, parse_errors=False)), False),
     ("firnuubal.links", lambda page: exhausted(firnuubal.links(page)), False),
     ("firnuubal.text", firnuubal.text, False),
     ("firnuubal.clean", firnuubal.clean, False),

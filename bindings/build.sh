@@ -1,7 +1,7 @@
 #!/bin/bash
 # Builds the archive and the shared library from sources, and leaves both in bindings/out, with Python's extension where
-# its headers are there. What isn't proved yet is proved first, and named as it is: an hour from nothing, and a quarter of
-# an hour after `python3 tools/stamps.py rt ci`. It wants the Rattle toolchain, ar and gcc.
+# its headers are there, and the program where it is built. What isn't proved yet is proved first, and named as it is: an hour
+# from nothing, and a quarter of an hour after `python3 tools/stamps.py rt ci`. It wants the Rattle toolchain, ar and gcc.
 set -eu
 cd "$(dirname "$0")"
 here=$PWD
@@ -28,15 +28,37 @@ archive() {
     rm -r "$out/objects"
 }
 
+# The name by which programs ask for the shared library: below 1.0 the calls may change with the second number, too.
+soname() {
+    case $version in
+    0.*) echo "libfirnuubal.so.${version%.*}" ;;
+    *) echo "libfirnuubal.so.${version%%.*}" ;;
+    esac
+}
+
+# The shared library has the calls of the header alone, and asks which processor it is. The same archive makes the same bytes.
 shared() {
-    gcc -shared -Wl,-soname,"libfirnuubal.so.${version%%.*}" -Wl,--build-id=none -o "$out/libfirnuubal.so" \
-        -Wl,--whole-archive "$out/libfirnuubal.a" -Wl,--no-whole-archive
+    gcc -std=c99 -Wall -Wextra -Werror -O2 -fPIC -c c/cpu.c -o "$out/cpu.o"
+    gcc -shared -Wl,-soname,"$(soname)" -Wl,--version-script,c/firnuubal.map -Wl,--build-id=sha1 -Wl,-z,relro,-z,now \
+        -Wl,-z,x86-64-v2 -o "$out/libfirnuubal.so" "$out/cpu.o" -Wl,--whole-archive "$out/libfirnuubal.a" -Wl,--no-whole-archive
+    rm "$out/cpu.o"
+}
+
+# The program, where `rt ci` left it.
+program() {
+    rm -f "$out/firnuubal"
+    if [ -x ../crates/firnuubal/out/firnuubal ]; then
+        cp ../crates/firnuubal/out/firnuubal "$out/firnuubal"
+    else
+        echo "bindings: crates/firnuubal/out has no firnuubal, which rt ci leaves there, so the program is left out"
+    fi
 }
 
 mkdir -p "$out"
 proved
 archive
 shared
+program
 cp c/firnuubal.h "$out/"
 python/native/build.sh "$out"
 echo "bindings: libfirnuubal.a, libfirnuubal.so and firnuubal.h of version $version are in bindings/out"

@@ -27,7 +27,7 @@ import subprocess
 import sys
 import tempfile
 
-from model.cleaning import ADDRESSES, STANDARD, VOID, policy_of
+from model.cleaning import ADDRESSES, VOID, policy_of, standard
 
 TOP = pathlib.Path(__file__).resolve().parent.parent
 PROGRAM = TOP / "crates/firnuubal/out/firnuubal"
@@ -38,13 +38,15 @@ const given = GIVEN
 const found = []
 let ran = 0, of = -1
 window.alert = () => { ran += 1; found.push([of, "a script ran"]) }
-const keeps = (element, name) => given.everywhere.includes(name) || given.own.includes(element + " " + name)
+const isNamed = (element, name) => given.everywhere.includes(name) || given.own.includes(element + " " + name)
+const isOwnRel = (element, name, value) => element === "a" && name === "rel" && value === given.rel
 function look(node) {
     const element = node.localName
     const isHtml = node.namespaceURI === "http://www.w3.org/1999/xhtml"
     if (!isHtml || !given.elements.includes(element)) found.push([of, "element " + element])
     for (const {name, value} of node.attributes) {
-        if (!keeps(element, name)) found.push([of, "attribute " + name + " of " + element])
+        const isKept = isNamed(element, name) || isOwnRel(element, name, value)
+        if (!isKept) found.push([of, "attribute " + name + " of " + element])
         if (!given.addresses.includes(name)) continue
         let url
         try { url = new URL(value, "https://base.invalid/") } catch { continue }
@@ -164,13 +166,14 @@ def found_by(browser, driver, given):
 
 def looked_at(browser, pages, trees):
     """What the browser finds in these cleaned pages, of which it has to build these trees, if any are given."""
-    policy = policy_of(STANDARD)
+    policy = policy_of(standard())
     given = {
         "pages": pages,
         "trees": trees,
         "elements": sorted(policy.elements),
         "own": sorted(" ".join(own) for own in policy.own),
         "everywhere": sorted(policy.everywhere),
+        "rel": policy.rel,
         "addresses": sorted(ADDRESSES),
         "schemes": [scheme + ":" for scheme in sorted(policy.schemes)],
     }

@@ -27,11 +27,11 @@ TOP = pathlib.Path(__file__).resolve().parent.parent
 # are said.
 MANY = range(200)
 LONG = [
-    (None, "<i>" * 600 + "1", "<i>" * 511 + "1" + "</i>" * 511),
-    (None, "<i>" * 510 + "<table>1 2", "<i>" * 510 + "<table> </table>" + "</i>" * 510),
+    (None, "<i>" * 600 + "1", "<i>" * 256 + "1" + "</i>" * 256),
+    (None, "<i>" * 255 + "<table>1 2", "<i>" * 255 + "<table> </table>" + "</i>" * 255),
     ("allow b\nallow i\nbalance", "<b>" * 20_000 + "</i>" * 20_000, "<b>" * 20_000 + "</b>" * 20_000),
-    ("allow div\ntree", "<div>" * 511 + "1", "<div>" * 511 + "1" + "</div>" * 511),
-    ("allow div\ntree", "<div>" * 600 + "1", "<div>" * 511 + "1" + "</div>" * 511),
+    ("allow div\ntree", "<div>" * 256 + "1", "<div>" * 256 + "1" + "</div>" * 256),
+    ("allow div\ntree", "<div>" * 600 + "1", "<div>" * 256 + "1" + "</div>" * 256),
     (
         "everywhere href\n" + "".join(f"allow e{at} a{at}\nschemes s{at}\nhide h{at}\n" for at in MANY),
         "".join(f"<e{at} a{at}=x b=y href=s{at}:z>{at}</e{at}><h{at}>hidden</h{at}>" for at in MANY) + "<e200 href=s200:z>",

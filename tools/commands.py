@@ -38,7 +38,7 @@ MB = 1_000_000
 # What programs print of themselves: the text of each page of the manual, the version, the standard policy.
 HELP = man.texts()
 VERSION = f"firnuubal {version.version_in('CHANGELOG.md', version.PLACES['CHANGELOG.md'])}\n"
-POLICY = re.search(r'(?s)= "\\\n(.*?)";', (TOP / "crates/html5commands/src/policy.rt").read_text(encoding="utf-8"))[1]
+POLICY = re.search(r'(?s)= "\\\n(.*?)";', (TOP / "crates/html5policy/src/standard.rt").read_text(encoding="utf-8"))[1]
 
 # Files, by their names; None is a folder.
 FILES = {

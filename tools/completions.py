@@ -21,8 +21,10 @@ import man
 FILES = pathlib.Path(__file__).resolve().parent.parent / "docs/completions"
 HEAD = "# What a shell completes after firnuubal. Made by tools/completions.py.\n"
 
-# What stands after an option, by the word that its help has for it: one of these words, or any text. FILE is a file.
-WORDS = {"FORMAT": ["lines", "json"], "LABEL": [], "URL": []}
+# What stands after an option, by the word that its help has for it: those of these words that its help names, or any text
+# where there are none. FILE is a file.
+WORDS = {"FORMAT": ["lines", "json", "sarif"], "NAME": ["jinja", "mustache", "erb"]}
+WORDS |= dict.fromkeys(("LABEL", "URL", "ELEMENT"), [])
 
 # Words that were typed, the last not to its end, and what bash and zsh complete.
 CASES = [
@@ -34,6 +36,10 @@ CASES = [
     (["tokens", "--po"], []),
     (["links", "--format", ""], ["lines", "json"]),
     (["links", "page", "--format", "j"], ["json"]),
+    (["tokens", "--format", "s"], []),
+    (["check", "--format", ""], ["lines", "json", "sarif"]),
+    (["check", "--format", "s"], ["sarif"]),
+    (["check", "--template", ""], ["jinja", "mustache", "erb"]),
     (["links", "--base", "h"], []),
     (["links", "--", "--f"], []),
     (["links", "--policy", "--f"], ["--fatal", "--format"]),
@@ -62,15 +68,18 @@ complete -o default -F _firnuubal firnuubal
 
 
 def options_of(text):
-    """The options of a text: the name of each, the word for what stands after it, if there is one, and what it is."""
+    """The options of a text: the name of each, the word for what stands after it, if there is one, what it is, and the words
+    that may stand after it: None where that is a file."""
     for option, lines in man.parts(text)[2]:
         name, _, word = option.rpartition(", ")[2].partition(" ")
-        yield name, word, lines[0].partition(":")[0]
+        said = " ".join(lines).partition("Example:")[0]
+        known = [one for one in WORDS[word] if re.search(rf"\b{one}\b", said)] if word in WORDS else None
+        yield name, word, lines[0].partition(":")[0], known
 
 
 def names_of(text):
     """The names of these options, joined by spaces."""
-    return " ".join(name for name, _, _ in options_of(text))
+    return " ".join(name for name, *_ in options_of(text))
 
 
 ZSH = """\
@@ -113,9 +122,9 @@ def bash():
     after, options = [], []
     for command, _, text in commands():
         options.append(f'        {command}) words="{names_of(text)}" ;;')
-        for name, word, _ in options_of(text):
+        for name, word, _, known in options_of(text):
             if word:
-                after.append(f'    {command}:{name}) words="{" ".join(WORDS.get(word, []))}" ;;')
+                after.append(f'    {command}:{name}) words="{" ".join(known or [])}" ;;')
     first = " ".join([*(command for command, _, _ in commands()), names_of(man.texts()["help"])])
     return HEAD + BASH.format(after="\n".join(after), options="\n".join(options), first=first)
 
@@ -125,34 +134,33 @@ def fish():
     lines = []
     for command, what, _ in commands():
         lines.append(f"complete -c firnuubal -f -n __fish_use_subcommand -a {command} -d {quoted(what)}")
-    for name, _, what in options_of(man.texts()["help"]):
+    for name, _, what, _ in options_of(man.texts()["help"]):
         lines.append(f"complete -c firnuubal -f -n __fish_use_subcommand -l {name[2:]} -d {quoted(what)}")
     for command, _, text in commands():
-        for name, word, what in options_of(text):
-            known = f" -x -a {quoted(' '.join(WORDS[word]))}" if word in WORDS else " -r -F" if word else ""
+        for name, word, what, known in options_of(text):
+            after = " -r -F" if known is None else f" -x -a {quoted(' '.join(known))}"
             where = quoted(f"__fish_seen_subcommand_from {command}")
-            lines.append(f"complete -c firnuubal -n {where} -l {name[2:]}{known} -d {quoted(what)}")
+            lines.append(f"complete -c firnuubal -n {where} -l {name[2:]}{after if word else ''} -d {quoted(what)}")
     return HEAD + "\n".join(lines) + "\n"
 
 
 def zsh():
     """The function that zsh calls."""
     first = [zsh_quoted(f"{command}:{what}") for command, what, _ in commands()]
-    asking = [zsh_quoted(f"{name}:{what}") for name, _, what in options_of(man.texts()["help"])]
+    asking = [zsh_quoted(f"{name}:{what}") for name, _, what, _ in options_of(man.texts()["help"])]
     options = []
     for command, _, text in commands():
         options += [f"    {command})", "        _arguments -S \\"]
-        for name, word, what in options_of(text):
-            after = f":{word}:{zsh_words(word)}" if word else ""
+        for name, word, what, known in options_of(text):
+            after = f":{word}:{zsh_words(known)}" if word else ""
             options.append("            " + zsh_quoted(f"{name}[{what}]{after}") + " \\")
         options += ["            '*:FILE:_files'", "        ;;"]
     rows = ["\n".join(" " * 12 + word for word in words) for words in (first, asking)]
     return ZSH.format(head=HEAD.rstrip("\n"), first=rows[0], asking=rows[1], options="\n".join(options))
 
 
-def zsh_words(word):
-    """What stands after an option, as zsh says it, by the word that its help has for it."""
-    known = WORDS.get(word)
+def zsh_words(known):
+    """What stands after an option, as zsh says it: one of these words, any text where there are none, or a file."""
     return "_files" if known is None else f"({' '.join(known)})" if known else " "
 
 

@@ -110,7 +110,7 @@ def filters():
     text = "a\u65e5b"
     yield by_own(["text", "--encoding", "shift_jis"], b"a\x93\xfa<p>b", text, *of_page(text))
     yield by_own(["text", "--fatal", "--encoding", "shift_jis"], b"a\x93\xfa<p>b", text, *of_page(text))
-    kept = '<p title="\u2603">a &#60; b<a href="x">c</a></p>'
+    kept = '<p title="\u2603">a &#60; b<a href="x" rel="noopener noreferrer">c</a></p>'
     page = b'<p title="&own;" onclick=x>a < b<a href=x>c</a><script>d'
     yield by_own(["clean"], page, kept, NO_SETTINGS, *of_page(kept))
     kept = '1<a href="https:x">2</a>'

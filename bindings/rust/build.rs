@@ -1,5 +1,5 @@
-//! Links the archive libfirnuubal.a: from the folder that FIRNUUBAL_LIB names, from `bindings/out`, where
-//! `bindings/build.sh` leaves it, or from `dist`, where it is shipped.
+//! Links the archive libfirnuubal.a: from the folder that FIRNUUBAL_LIB names, from `lib` of a packaged crate, from
+//! `bindings/out`, where `bindings/build.sh` leaves it, or from `dist`, where it is shipped.
 
 use std::env;
 use std::path::PathBuf;
@@ -11,7 +11,7 @@ fn main() {
     let here = PathBuf::from(env::var_os("CARGO_MANIFEST_DIR").unwrap());
     let folders = match env::var_os("FIRNUUBAL_LIB") {
         Some(folder) => vec![PathBuf::from(folder)],
-        None => vec![here.join("../out"), here.join("../../dist")],
+        None => ["lib", "../out", "../../dist"].map(|folder| here.join(folder)).to_vec(),
     };
     let Some(folder) = folders.iter().find(|folder| folder.join(ARCHIVE).is_file()) else {
         panic!("{ARCHIVE} is in none of {folders:?}: run bindings/build.sh, or set FIRNUUBAL_LIB");

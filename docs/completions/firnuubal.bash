@@ -20,8 +20,8 @@ _firnuubal() {
     clean:--entities) words="" ;;
     check:--encoding) words="" ;;
     check:--entities) words="" ;;
-    check:--format) words="lines json" ;;
-    check:--template) words="" ;;
+    check:--format) words="lines json sarif" ;;
+    check:--template) words="jinja mustache erb" ;;
     rewrite:--encoding) words="" ;;
     rewrite:--entities) words="" ;;
     rewrite:--drop) words="" ;;

@@ -25,22 +25,7 @@ ADDRESSES = set(
     "action cite data formaction href itemid poster src xlink:href background classid codebase dynsrc icon longdesc"
     " lowsrc manifest profile usemap by code content from to".split()
 )
-STANDARD = """
-allow a href
-allow blockquote cite
-allow del cite
-allow img src alt width height
-allow ins cite
-allow ol start
-allow q cite
-everywhere title lang dir
-schemes http https mailto
-tree
-""" + "".join(
-    f"allow {name}\n"
-    for name in "abbr b br caption cite code dd div dl dt em h1 h2 h3 h4 h5 h6 hr i kbd li mark p pre s samp small span"
-    " strong sub sup table tbody td tfoot th thead tr u ul var wbr".split()
-)
+TOP = pathlib.Path(__file__).resolve().parent.parent.parent
 ESCAPED = {c: f"&#{ord(c)};" for c in '&<>"\r\ufeff'}
 
 
@@ -53,17 +38,19 @@ class Policy:
     everywhere: set[str] = field(default_factory=set)
     schemes: set[str] = field(default_factory=set)
     hidden: set[str] = field(default_factory=set)
-    noopener: bool = False
+    rel: str = ""
     balance: bool = False
     tree: bool = False
-    depth: int = 511
+    depth: int = 256
 
     def add(self, rule: str, names: list[str]):
         if rule == "allow":
             self.elements.add(names[0])
             self.own |= {(names[0], name) for name in names[1:]}
-        elif rule in ("noopener", "balance"):
-            setattr(self, rule, True)
+        elif rule in ("rel", "noopener"):
+            self.rel = " ".join(filter(None, [self.rel, *(names or ["noopener"])]))
+        elif rule == "balance":
+            self.balance = True
         elif rule == "tree":
             self.tree = True
             self.elements |= {"colgroup", "tbody", "tr", "td"}
@@ -77,7 +64,7 @@ class Policy:
 
     def writes_rel(self, element: str) -> bool:
         """Whether the `rel` of these elements is the policy's own."""
-        return self.noopener and element == "a"
+        return self.rel != "" and element == "a"
 
     def keeps(self, element: str, name: str, value: str) -> bool:
         if name not in self.everywhere and (element, name) not in self.own:
@@ -86,12 +73,24 @@ class Policy:
             return False
         return name not in ADDRESSES or self.is_safe(value)
 
+    def loses(self, tag: Tag) -> bool:
+        """Whether it is an image whose address is refused."""
+        is_named = "src" in self.everywhere or ("img", "src") in self.own
+        return tag.name == "img" and is_named and any(name == "src" and not self.is_safe(value) for name, value in tag.attributes)
+
     def is_safe(self, address: str) -> bool:
         """Whether an address is relative, or of one of the schemes."""
         if ":" not in re.match("[^/?#]*", address).group():
             return True
         squeezed = lower_case(re.sub("[\0- ]", "", address))
         return any(squeezed.startswith(scheme + ":") for scheme in self.schemes)
+
+
+@functools.lru_cache
+def standard() -> str:
+    """The standard policy as a text."""
+    source = TOP / "crates/html5policy/src/standard.rt"
+    return re.search(r'const STANDARD: &str = "\\\n(.*?)";', source.read_text(encoding="utf-8"), re.DOTALL).group(1)
 
 
 @functools.lru_cache
@@ -161,15 +160,17 @@ class Cleaner:
             self.depth += -1 if tag.is_end else int(opens)
 
     def take_tag(self, tag: Tag):
-        if tag.name not in self.policy.elements:
+        if tag.name not in self.policy.elements or self.policy.loses(tag):
             return
-        if tag.is_end:
+        if tag.is_end and tag.name != "br":
             if tag.name not in VOID:
                 self.take_end(tag.name)
             return
-        attributes = [(name, value) for name, value in tag.attributes if self.policy.keeps(tag.name, name, value)]
+        # An end tag of br is read as its start tag, without attributes.
+        said = [] if tag.is_end else tag.attributes
+        attributes = [(name, value) for name, value in said if self.policy.keeps(tag.name, name, value)]
         if self.policy.writes_rel(tag.name) and any(name == "href" for name, _ in attributes):
-            attributes.append(("rel", "noopener"))
+            attributes.append(("rel", self.policy.rel))
         if self.policy.tree:
             self.fit(tree.Start(tag.name, tuple(attributes)))
             return
@@ -210,5 +211,5 @@ def cleaned(text: str, policy: Policy) -> str:
 
 def run(words: list[str], given: bytes) -> tuple[int, str, str]:
     """The status of a run, what it prints, and what it says on standard error."""
-    rules = pathlib.Path(words[1]).read_text(encoding="utf-8") if words else STANDARD
+    rules = pathlib.Path(words[1]).read_text(encoding="utf-8") if words else standard()
     return 0, cleaned(given.decode(), policy_of(rules)), ""

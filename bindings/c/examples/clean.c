@@ -15,17 +15,27 @@ static void print_waiting(html5_handle *cleaner) {
     for (size_t len; (len = html5_cleaner_take(cleaner, out, sizeof out)) > 0;) fwrite(out, 1, len, stdout);
 }
 
-static html5_status open_by(html5_handle *cleaner, const char *file) {
-    static uint8_t policy[1 << 16];
-    size_t len = 0;
-    uint64_t place = 0;
-    FILE *rules = file ? fopen(file, "rb") : NULL;
-    if (rules) {
-        len = fread(policy, 1, sizeof policy, rules);
-        fclose(rules);
+static uint8_t policy[1 << 16];
+
+/* Reads the policy of a file. It answers its length, or exits where it can't be read whole. */
+static size_t read_policy(const char *file) {
+    FILE *rules = fopen(file, "rb");
+    size_t len = rules ? fread(policy, 1, sizeof policy, rules) : 0;
+    if (!rules || ferror(rules) || len == sizeof policy) {
+        fprintf(stderr, "%s: %s\n", file, rules && !ferror(rules) ? "too long for a policy" : "it can't be read");
+        exit(2);
     }
+    fclose(rules);
+    return len;
+}
+
+static html5_status open_by(html5_handle *cleaner, const char *file) {
+    uint64_t place = 0;
+    size_t len = file ? read_policy(file) : 0;
+    /* A text of no bytes would be the standard policy. An empty file has no rule. */
+    if (file && len == 0) policy[len++] = '\n';
     html5_status status = html5_cleaner_new(cleaner, policy, len, &place);
-    if (status == HTML5_BAD_POLICY) fprintf(stderr, "line %" PRIu64 " of %s: ", place, file);
+    if (html5_is_rule_fault(status)) fprintf(stderr, "line %" PRIu64 " of %s: ", place, file);
     return status;
 }
 

@@ -44,7 +44,8 @@ static bool count_waiting(counts *found, html5_reader *reader, html5_handle *han
 /* Begins a page, in the handle of the page before it if there is one. */
 static html5_status begin(html5_handle *handle) {
     static const html5_options options;
-    return (handle->is_open ? html5_restart : html5_new)(handle, (const uint8_t *)"", 0, &options);
+    const uint8_t *no_tag = (const uint8_t *)"";
+    return handle->is_open ? html5_restart(handle, no_tag, 0, &options) : html5_new(handle, no_tag, 0, &options);
 }
 
 static html5_status count_page(counts *found, html5_reader *reader, html5_handle *handle, FILE *page, size_t piece) {

@@ -477,9 +477,40 @@ static void begins_another_page(void) {
     CHECK(is_in(&handle, 16, "windows-1252"));
     CHECK(is_next(&reader, &handle, HTML5_TEXT, "\xc3\xa8"));
     html5_reader_free(&reader);
-    /* A page with places, or one that is cleaned, is not begun so. */
+    html5_free(&handle);
+}
+
+static void adds_places(html5_reader *reader, html5_handle *handle, char *told, size_t room);
+
+/* One page with places after another in a handle: it goes on with places alone, by the same limit. */
+static void begins_another_page_with_places(void) {
+    html5_handle handle = {0};
+    html5_options plain = {0}, placed = {.places = true}, pausing = {.places = true, .replies = HTML5_PAUSING_REPLIES};
+    html5_options raw = {.places = true, .state = HTML5_RCDATA}, no_state = {.places = true, .state = 6};
+    const uint8_t *title = (const uint8_t *)"title", *no_text = (const uint8_t *)"\xff";
+    html5_reader reader = {0};
+    char told[64] = "";
     CHECK(open_after(&handle, "", placed) == HTML5_DONE);
-    CHECK(html5_restart(&handle, title, 0, &options) == HTML5_CLOSED);
+    CHECK(html5_set_limit(&handle, 100) == HTML5_DONE);
+    CHECK(feed(&handle, "a<b><a c") == HTML5_DONE);
+    /* What is refused changes nothing, and the options are looked at before the name. */
+    CHECK(html5_restart(&handle, title, 0, &plain) == HTML5_BAD_OPTION);
+    CHECK(html5_restart(&handle, title, 0, &pausing) == HTML5_BAD_OPTION);
+    CHECK(html5_restart(&handle, no_text, 1, &no_state) == HTML5_BAD_OPTION);
+    CHECK(html5_restart(&handle, no_text, 1, &placed) == HTML5_NOT_UTF8);
+    adds_places(&reader, &handle, told, sizeof told);
+    CHECK(strcmp(told, "3 0-1;1 1-4;") == 0);
+    /* The open tag is gone, places are counted from 0, and the limit stays. */
+    CHECK(html5_restart(&handle, title, 5, &raw) == HTML5_DONE);
+    char page[102] = "";
+    memset(page, 'x', 101);
+    CHECK(feed(&handle, page) == HTML5_LIMIT);
+    CHECK(feed(&handle, "<b></title>") == HTML5_DONE);
+    CHECK(html5_end(&handle) == HTML5_DONE);
+    told[0] = 0;
+    adds_places(&reader, &handle, told, sizeof told);
+    CHECK(strcmp(told, "3 0-3;2 3-11;9 11-11;") == 0);
+    html5_reader_free(&reader);
     html5_free(&handle);
 }
 
@@ -547,6 +578,7 @@ static void says_where_a_page_with_places_is_no_utf8(void) {
 
 int main(void) {
     tells_where_tokens_stand();
+    begins_another_page_with_places();
     refuses_options_that_places_do_not_go_with();
     says_where_a_page_with_places_is_no_utf8();
     CHECK(html5_version() == FIRNUUBAL_VERSION_NUMBER);

@@ -127,7 +127,7 @@ static void holds_no_more_than_its_limit(void) {
 static void says_which_rule_is_wrong(void) {
     html5_handle cleaner = {0};
     uint64_t place;
-    CHECK(open_by(&cleaner, "allow p\nallow script\n", &place) == HTML5_BAD_POLICY && place == 2);
+    CHECK(open_by(&cleaner, "allow p\nallow script\n", &place) == HTML5_HIDES_CONTENT && place == 2);
     CHECK(feed(&cleaner, "x") == HTML5_CLOSED);
     CHECK(open_by(&cleaner, "allow p\xff\n", &place) == HTML5_POLICY_NOT_UTF8 && place == 7);
     CHECK(open_by(&cleaner, "allow p\n", &place) == HTML5_DONE);

@@ -98,7 +98,7 @@ class HTMLTokenizer:
             self._tokenizer.reply(state)
 
     def __iter__(self):
-        options = {"replies": Replies.CALLER, "state": self._state, "keep_bom": True}
+        options = {"replies": Replies.CALLER, "state": self._state, "keep_bom": True, "encoding": "utf-8", "errors": "strict"}
         self._foreign = False
         with firnuubal.Tokenizer(**options) as self._tokenizer:
             feed, tokens = self._tokenizer.feed, self._tokenizer.tokens

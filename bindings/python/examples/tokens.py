@@ -4,7 +4,7 @@
     tokens.py [PIECE [places]] < PAGE
 
 The page is fed in pieces of PIECE bytes, or 4096. With `places` each line begins with the byte of the page where the token
-begins, and the byte after its last; then nothing pauses.
+begins, and the byte after its last; then nothing pauses. The page is UTF-8, and other bytes are refused.
 """
 
 import pathlib
@@ -78,7 +78,7 @@ def print_placed(piece, out):
 
 def print_tokens(piece, out):
     """Prints the tokens, and a line for each pause."""
-    with firnuubal.Tokenizer(replies=firnuubal.Replies.PAUSING) as tokenizer:
+    with firnuubal.Tokenizer(replies=firnuubal.Replies.PAUSING, encoding="utf-8", errors="strict") as tokenizer:
         while given := sys.stdin.buffer.read(piece):
             fed = tokenizer.feed(given)
             print_waiting(tokenizer, fed, out)

@@ -471,7 +471,13 @@ static bool are_tuple_classes(PyObject *given) {
     return true;
 }
 
-static PyObject *encoded(PyObject *text) { return text ? PyObject_CallMethod(text, "encode", NULL) : NULL; }
+/* A str as bytes of UTF-8, whatever a subclass says of it; or null, with an exception, as where one was raised before. */
+static PyObject *encoded(PyObject *text) {
+    if (!text) return NULL;
+    if (PyUnicode_Check(text)) return PyUnicode_AsUTF8String(text);
+    PyErr_SetString(PyExc_TypeError, "a name is a str");
+    return NULL;
+}
 
 /* Adds a name to a table in bytes, with what the meanings say of it, or else with None. */
 static bool add_name(PyObject *table, PyObject *name, PyObject *meanings) {

@@ -7,7 +7,7 @@ import subprocess
 import unittest
 
 import firnuubal
-from firnuubal import Cleaner, Fed, Replies, StartTag, Status, Text, Tokenizer, TokenizerError, clean, links, text, tokens
+from firnuubal import Cleaner, Fed, Replies, StartTag, State, Status, Text, Tokenizer, TokenizerError, clean, links, text, tokens
 
 JAPANESE = "<title>日本語</title><a href=/日>ｶﾀｶﾅ</a>"
 FRENCH = "<p title=é>café – 1 €</p>"
@@ -26,7 +26,9 @@ PAGES = [
     (b"\xef\xbb\xbf" + FRENCH.encode(), "koi8-r", "UTF-8", FRENCH),
     (b"caf\xc3", "utf-8", "UTF-8", "caf\ufffd"),
     (b"caf\xff!", "utf-8", "UTF-8", "caf\ufffd!"),
-    (b"", "auto", "UTF-8", ""),
+    # A page of no piece is of no kind.
+    (b"", "auto", None, ""),
+    (b"", "shift_jis", "Shift_JIS", ""),
 ]
 
 
@@ -55,7 +57,7 @@ def random_pieces(choose, page):
 
 def read_in_pieces(page, piece, encoding):
     """The tokens of a page that is fed in pieces of this length."""
-    with Tokenizer(encoding=encoding, errors=False) as tokenizer:
+    with Tokenizer(encoding=encoding, parse_errors=False) as tokenizer:
         found = []
         for at in range(0, len(page), piece):
             tokenizer.feed(page[at : at + piece])
@@ -67,7 +69,7 @@ def read_in_pieces(page, piece, encoding):
 class Encodings(unittest.TestCase):
     def test_pages_in_pieces(self):
         for page, said, name, content in PAGES:
-            wanted = list(tokens(content, errors=False))
+            wanted = list(tokens(content, parse_errors=False))
             for piece in (1, 2, 3, 1000):
                 found, encoding = read_in_pieces(page, piece, said)
                 self.assertEqual((found, encoding), (wanted, name), (page, said))
@@ -125,26 +127,106 @@ class Encodings(unittest.TestCase):
     def test_unknown_labels(self):
         for label in ("no-such", "", " ", "utf-7", "shift\0jis", "\udcff"):
             for call in (Tokenizer, Cleaner, lambda encoding: clean(b"x", encoding=encoding)):
-                with self.assertRaises(LookupError):
+                with self.assertRaisesRegex(LookupError, "encoding"):
                     call(encoding=label)
-            with self.assertRaises(LookupError):
-                list(tokens(b"x", encoding=label))
+            for call in (tokens, links, text):
+                with self.assertRaisesRegex(LookupError, "encoding"):
+                    call(b"x", encoding=label)
 
     def test_texts_are_in_no_encoding(self):
         for call in (clean, text, lambda page, encoding: list(tokens(page, encoding=encoding))):
-            for page in ("x", ["x"], io.StringIO("x")):
-                with self.assertRaises(TypeError):
-                    call(page, encoding="auto")
-        with Tokenizer(encoding="auto") as tokenizer:
+            for page in (lambda: "x", lambda: ["x"], lambda: io.StringIO("x")):
+                for encoding in ("auto", "utf-8", " UTF8\n"):
+                    call(page(), encoding=encoding)
+                with self.assertRaisesRegex(TypeError, "no encoding"):
+                    call(page(), encoding="shift_jis")
+        with Tokenizer(encoding="shift_jis") as tokenizer:
             with self.assertRaises(TypeError):
                 tokenizer.feed("x")
 
-    def test_none_is_utf_8_alone(self):
-        with Tokenizer() as tokenizer:
+    def test_bytes_are_read_as_the_page_tells(self):
+        for page in (b"caf\xe9", [b"caf", b"\xe9"], io.BytesIO(b"caf\xe9"), bytearray(b"caf\xe9"), memoryview(b"caf\xe9")):
+            self.assertEqual(clean(page), "café")
+            if hasattr(page, "seek"):
+                page.seek(0)
+            self.assertEqual(text(page), "café")
+        self.assertEqual(list(tokens(b"caf\xe9"))[0], Text(1, "café"))
+        self.assertEqual(list(links(b"<a href=caf\xe9>")), [(1, "café")])
+        self.assertEqual(text("<meta charset=shift_jis>café"), "café")
+        self.assertEqual(text("<meta charset=shift_jis>日".encode("shift_jis")), "日")
+        self.assertEqual(text(b"caf\xe9", encoding="utf-8"), "caf\ufffd")
+
+    def test_bytes_that_are_refused(self):
+        for call in (clean, text, lambda page, **said: list(tokens(page, **said)), lambda page, **said: list(links(page, **said))):
             with self.assertRaises(TokenizerError) as refused:
-                tokenizer.feed(b"\xe9x")
-            self.assertEqual(refused.exception.status, Status.NOT_UTF8)
-            self.assertIsNone(tokenizer.encoding)
+                call(b"caf\xe9!", encoding="utf-8", errors="strict")
+            self.assertEqual((refused.exception.status, refused.exception.at), (Status.NOT_UTF8, 3))
+            call("café", encoding="utf-8", errors="strict")
+            call("café".encode(), encoding="UTF8", errors="strict")
+        with Tokenizer(encoding="utf-8", errors="strict") as tokenizer:
+            tokenizer.feed(b"x")
+            self.assertEqual(tokenizer.encoding, "UTF-8")
+
+    def test_what_errors_may_be(self):
+        calls = [Tokenizer, Cleaner, lambda **said: clean(b"x", **said), lambda **said: tokens(b"x", **said)]
+        calls += [lambda **said: links(b"x", **said), lambda **said: text(b"x", **said)]
+        for call in calls:
+            for errors in (True, False):
+                with self.assertRaisesRegex(TypeError, "parse_errors"):
+                    call(errors=errors)
+            with self.assertRaisesRegex(TypeError, "errors"):
+                call(errors=None)
+            with self.assertRaisesRegex(TypeError, "encoding"):
+                call(encoding=None)
+            with self.assertRaisesRegex(LookupError, "errors"):
+                call(errors="ignore")
+            for encoding in ("auto", "shift_jis", "no-such"):
+                with self.assertRaisesRegex(ValueError, "utf-8"):
+                    call(encoding=encoding, errors="strict")
+
+    def test_texts_and_bytes_in_one_page(self):
+        for first, second in (("x", b"y"), (b"x", "y")):
+            for call in (clean, text, lambda page: list(tokens(page)), lambda page: list(firnuubal.placed_tokens(page))):
+                with self.assertRaisesRegex(TypeError, "type str, or all are bytes"):
+                    call([first, second])
+            for kind in (Tokenizer, Cleaner):
+                with kind() as session:
+                    session.feed(first)
+                    with self.assertRaises(TypeError):
+                        session.feed(second)
+                    session.feed(first)
+
+    def test_an_empty_piece_is_of_either_kind(self):
+        for empty in ("", b"", bytearray()):
+            self.assertEqual(text([empty, "é", empty]), "é")
+            self.assertEqual(text([empty, b"\xe9", empty]), "é")
+            with Cleaner() as cleaner:
+                self.assertEqual(cleaner.feed(empty), "")
+                self.assertEqual(cleaner.clean([empty, b"\xe9", empty]), "é")
+                self.assertEqual(cleaner.clean([empty, "é", empty]), "é")
+                self.assertEqual(cleaner.clean(empty), "")
+
+    def test_what_is_called_before_the_first_piece(self):
+        with Tokenizer(replies=Replies.CALLER, last_start_tag="title") as tokenizer:
+            tokenizer.reply(State.RCDATA)
+            tokenizer.insert("<b>")
+            self.assertEqual(list(tokenizer.tokens()), [])
+            tokenizer.feed(b"\xe9</title>")
+            self.assertEqual(tokenizer.end(), Fed.TAG)
+            self.assertEqual(tokenizer.end(), Fed.DONE)
+            self.assertEqual(tokenizer.encoding, "windows-1252")
+            self.assertEqual([str(it[1]) for it in tokenizer.tokens() if len(it) > 1], ["<b>é", "title"])
+        for kind in (Tokenizer, Cleaner):
+            with kind() as session:
+                session.end()
+
+    def test_pages_of_either_kind_one_after_the_other(self):
+        with Cleaner() as cleaner:
+            for _ in range(2):
+                self.assertEqual(cleaner.clean("<meta charset=shift_jis>é"), "é")
+                self.assertIsNone(cleaner.encoding)
+                self.assertEqual(cleaner.clean(b"\xe9"), "é")
+                self.assertEqual(cleaner.clean(b"<meta charset=shift_jis>\x93\xfa"), "日")
 
     def test_a_pause_at_the_end(self):
         with Tokenizer(encoding="auto", replies=Replies.PAUSING) as tokenizer:

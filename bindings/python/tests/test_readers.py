@@ -302,7 +302,7 @@ class NoRecords(unittest.TestCase):
             self.assertEqual(said, said[:1] * len(KINDS), (bytes(records), options))
 
     def test_what_is_no_bytes(self):
-        for kind in KINDS[1:]:
+        for kind in KINDS:
             for reader in made_by(kind, {}):
                 for given in ("x", bytearray(b"x"), None):
                     with self.assertRaises(TypeError):
@@ -311,7 +311,7 @@ class NoRecords(unittest.TestCase):
     def test_names_that_are_no_texts(self):
         for kind in KINDS:
             for names in ([1], [b"a"]):
-                with self.assertRaises(AttributeError):
+                with self.assertRaises(TypeError):
                     kind.Reader(tags=names)
             with self.assertRaises(UnicodeEncodeError):
                 kind.Reader(tags=["\ud800"])
@@ -367,12 +367,12 @@ class Pages(unittest.TestCase):
 
 def records_of(page, piece):
     """What is taken of a page after each of its pieces."""
-    with Tokenizer() as tokenizer:
+    with Tokenizer(encoding="utf-8", errors="strict") as tokenizer:
         for at in range(0, len(page), piece):
             tokenizer.feed(page[at : at + piece])
-            yield taken(library.html5_take, tokenizer._at, tokenizer._room)
+            yield taken(library.html5_take, tokenizer._handle, tokenizer._room)
         tokenizer.end()
-        yield taken(library.html5_take, tokenizer._at, tokenizer._room)
+        yield taken(library.html5_take, tokenizer._handle, tokenizer._room)
 
 
 @unittest.skipUnless(firnuubal.IS_FAST, "the extension is not there, or left aside")
@@ -389,7 +389,7 @@ class Extension(unittest.TestCase):
         for link in (int, 1, None):
             with self.assertRaises(TypeError, msg=link):
                 _fast.LinkReader(link, LINKS)
-        with self.assertRaises(AttributeError):
+        with self.assertRaises(TypeError):
             _fast.LinkReader(firnuubal.Link, {"a": 1})
 
     def test_a_call_within_a_call(self):

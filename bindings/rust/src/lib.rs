@@ -20,22 +20,28 @@
 //! # Ok::<(), firnuubal::Error>(())
 //! ```
 
+mod builder;
 mod cleaner;
+mod error;
 mod owned;
 mod pages;
+mod policy;
 mod raw;
 mod record;
+mod rules;
 mod sink;
 mod spares;
 
-pub use cleaner::{clean, Cleaner, Policy, PolicyBuilder};
+pub use builder::PolicyBuilder;
+pub use cleaner::Cleaner;
+pub use error::{Error, PolicyFault};
 pub use owned::{OwnedTag, OwnedToken};
-pub use pages::{links, read_tokens, text, Link};
+pub use pages::{links, read_links, read_text, read_tokens, text, Link};
+pub use policy::{clean, Policy};
 pub use record::{Attributes, Doctype, PlacedTokens, Tag, Token, Tokens};
 pub use sink::{RawKind, SinkTokenizer, TokenSink, TokenSinkResult, TokenizerResult};
 
 use raw::{Handle, RawOptions};
-use std::fmt;
 
 /// The state in which a reading starts, or goes on after a reply.
 #[derive(Clone, Copy, Debug, Default, PartialEq, Eq)]
@@ -71,21 +77,18 @@ pub enum Replies {
     Caller = 3,
 }
 
-/// In which encoding the bytes of a page are, where they may be in another than UTF-8. Bytes that are none of it are read as
-/// U+FFFD.
+/// In which encoding the bytes of a page are. Bytes that are none of it are read as U+FFFD, but where it is
+/// [`Encoding::StrictUtf8`].
+///
+/// What takes whole pages of bytes reads them by [`Encoding::Auto`], unless it is told otherwise. A [`Tokenizer`] and a
+/// [`Cleaner`](crate::Cleaner) are strict, unless they are told otherwise. A `&str` is UTF-8, whatever it says of itself.
 ///
 /// ```
-/// use firnuubal::{read_tokens, Encoding, Options, Token};
+/// use firnuubal::{read_text, Encoding};
 ///
-/// let options = Options { encoding: Some(Encoding::Auto), ..Options::default() };
 /// let page = b"<meta charset=shift_jis>\x93\xfa\x96{";
-/// let mut text = String::new();
-/// read_tokens(&page[..], &options, |token| {
-///     if let Token::Text(run) = token {
-///         text.push_str(run);
-///     }
-/// })?;
-/// assert_eq!(text, "日本");
+/// assert_eq!(read_text(&page[..], Encoding::Auto)?, "日本");
+/// assert!(read_text(&page[..], Encoding::StrictUtf8).is_err());
 /// # Ok::<(), std::io::Error>(())
 /// ```
 #[derive(Clone, Copy, Debug, Default, PartialEq, Eq)]
@@ -97,6 +100,8 @@ pub enum Encoding<'e> {
     /// That of a label of the Encoding Standard, as `shift_jis`, said by a header of the transport. A byte order mark overrules
     /// it. Another label is [`Error::UnknownEncoding`].
     Label(&'e str),
+    /// UTF-8, whatever the page says. Other bytes are refused: [`Error::NotUtf8`].
+    StrictUtf8,
 }
 
 /// How a page is read.
@@ -117,10 +122,11 @@ pub struct Options<'o> {
     /// How many bytes may be held: what was fed since all was read and no item was open, and the records of tokens that
     /// were not read. A piece that goes past it is [`Error::Limit`].
     pub limit: Option<u64>,
-    /// In which encoding the bytes are. Without one they are UTF-8, and others are refused.
+    /// In which encoding the bytes are. Without one it is [`Encoding::StrictUtf8`] for a [`Tokenizer`], and [`Encoding::Auto`]
+    /// for [`read_tokens`].
     pub encoding: Option<Encoding<'o>>,
     /// Each token comes with its place ([`Tokenizer::placed_tokens`]). Only with the standard's replies, in content that is not
-    /// foreign, and without an encoding. Nothing pauses then, and what steers the reading is refused: [`Error::Over`]. A text
+    /// foreign, and of strict UTF-8. Nothing pauses then, and what steers the reading is refused: [`Error::Over`]. A text
     /// comes with the token after it, and an error before the text in which it stands. It is slower, and holds the text since
     /// the last token.
     pub places: bool,
@@ -139,76 +145,6 @@ pub enum Fed {
     Tag,
 }
 
-/// Why a call was refused.
-#[derive(Clone, Copy, Debug, PartialEq, Eq)]
-pub enum Error {
-    /// A request for memory was refused.
-    NoMemory,
-    /// The byte at this place, counted from the first that was fed, is no UTF-8. All before it was read.
-    NotUtf8 {
-        /// The place.
-        at: u64,
-    },
-    /// The input ends within a character.
-    Cut,
-    /// Text waits after a pause: feed first, if only no bytes.
-    Waiting,
-    /// A tag or another item is open, so no state can be set.
-    ItemOpen,
-    /// More bytes would be held than the limit. The piece was not taken.
-    Limit,
-    /// The page has ended, or an earlier call was refused for good.
-    Over,
-    /// No encoding has this label.
-    UnknownEncoding,
-    /// Bytes were fed already, so it can't be set in which encoding they are.
-    Begun,
-    /// Places don't go with the other options.
-    NoPlaces,
-    /// A policy takes no such rule as the one on this line.
-    BadPolicy {
-        /// The number of the line, from 1.
-        line: u64,
-    },
-}
-
-impl Error {
-    // The error of a status that is none of success. A handle that a want of memory closed is over, too.
-    fn of_status(status: u32, at: impl FnOnce() -> u64) -> Error {
-        match status {
-            3 => Error::NoMemory,
-            4 => Error::NotUtf8 { at: at() },
-            5 => Error::Cut,
-            6 => Error::Waiting,
-            13 => Error::ItemOpen,
-            14 => Error::Limit,
-            9 => Error::UnknownEncoding,
-            15 => Error::Begun,
-            _ => Error::Over,
-        }
-    }
-}
-
-impl fmt::Display for Error {
-    fn fmt(&self, f: &mut fmt::Formatter<'_>) -> fmt::Result {
-        match self {
-            Error::NoMemory => f.write_str("out of memory"),
-            Error::NotUtf8 { at } => write!(f, "byte {at} is no UTF-8"),
-            Error::Cut => f.write_str("the input ends within a character"),
-            Error::Waiting => f.write_str("text waits after a pause"),
-            Error::ItemOpen => f.write_str("a tag or another item is open"),
-            Error::Limit => f.write_str("more bytes would be held than the limit"),
-            Error::Over => f.write_str("the reading is over"),
-            Error::UnknownEncoding => f.write_str("no encoding has this label"),
-            Error::Begun => f.write_str("bytes were fed already"),
-            Error::NoPlaces => f.write_str("places don't go with the other options"),
-            Error::BadPolicy { line } => write!(f, "line {line} is no rule that a policy takes"),
-        }
-    }
-}
-
-impl std::error::Error for Error {}
-
 /// The code that the standard has for a parse error with this message, as `eof-in-tag`, if it has one. With exact errors that
 /// of a character or of the end is not known.
 pub fn error_code(message: &str) -> Option<String> {
@@ -217,25 +153,34 @@ pub fn error_code(message: &str) -> Option<String> {
 
 /// A tokenizer. Its tokens wait in it until they are read.
 ///
-/// One that is dropped, and has no limit, no encoding and no places, leaves its table of names to the thread's next one: to make
-/// it takes most of a millisecond. Four are kept.
+/// One that is dropped, and has no limit, no label of an encoding and no places, leaves its table of names to the thread's next
+/// one: to make it takes most of a millisecond. Four are kept.
+///
+/// It may go to another thread. Two threads can't share it:
+///
+/// ```compile_fail
+/// fn is_shared<T: Sync>() {}
+/// is_shared::<firnuubal::Tokenizer>();
+/// ```
 #[derive(Debug)]
 pub struct Tokenizer {
     handle: Handle,
     taken: Vec<u8>,
     read: record::Read,
     places: bool,
-    // Its handle may serve another page.
-    is_spare: bool,
+    // How its page is read, where its handle may serve another page.
+    spare: Option<spares::Said>,
 }
 
-// The handle has no tie to a thread, and each call takes it by `&mut`.
+// SAFETY: the handle has no tie to a thread, and each call takes it by `&mut`. It is not `Sync`: the library has no locks.
 unsafe impl Send for Tokenizer {}
 
 impl Tokenizer {
     /// A tokenizer at the start of a page.
     pub fn new(options: &Options<'_>) -> Result<Tokenizer, Error> {
-        let is_plain = options.replies == Replies::Standard && !options.foreign && options.encoding.is_none();
+        let said = spares::Said::of(options.encoding, options.places);
+        let is_strict = matches!(options.encoding, None | Some(Encoding::StrictUtf8));
+        let is_plain = options.replies == Replies::Standard && !options.foreign && is_strict;
         if options.places && !is_plain {
             return Err(Error::NoPlaces);
         }
@@ -252,9 +197,9 @@ impl Tokenizer {
             taken: Vec::new(),
             read: record::Read::default(),
             places: options.places,
-            is_spare: !options.places && options.limit.is_none() && options.encoding.is_none(),
+            spare: said.filter(|_| options.limit.is_none()),
         };
-        let status = spares::open(&mut tokenizer.handle, options.last_start_tag, &raw);
+        let status = spares::open(&mut tokenizer.handle, options.last_start_tag, &raw, said);
         tokenizer.fed_or_error(status)?;
         if let Some(limit) = options.limit {
             let status = unsafe { raw::html5_set_limit(&mut tokenizer.handle, limit) };
@@ -267,7 +212,7 @@ impl Tokenizer {
         Ok(tokenizer)
     }
 
-    /// The name of the encoding in which the page is read, once it is known. There is none where the options have no encoding.
+    /// The name of the encoding in which the page is read, once it is known. There is none of a page of strict UTF-8.
     pub fn encoding(&mut self) -> Option<String> {
         raw::encoding(&mut self.handle)
     }
@@ -309,7 +254,7 @@ impl Tokenizer {
         self.fed_or_error(status).map(|_| ())
     }
 
-    /// Tells the end of the page. Where the options have an encoding, what is held of it is read first, and may pause: then the
+    /// Tells the end of the page. Where it is no strict UTF-8, what is held of it is read first, and may pause: then the
     /// page has not ended, and this is called again.
     pub fn end(&mut self) -> Result<Fed, Error> {
         let status = unsafe { raw::html5_end(&mut self.handle) };
@@ -372,8 +317,16 @@ impl Tokenizer {
 
 impl Drop for Tokenizer {
     fn drop(&mut self) {
-        if self.is_spare && self.handle.is_open() {
-            spares::keep(self.handle.take());
+        let Some(said) = self.spare else {
+            return;
+        };
+        if self.handle.is_open() {
+            spares::keep(self.handle.take(), said);
         }
     }
 }
+
+// The examples of README.md.
+#[doc = include_str!("../README.md")]
+#[cfg(doctest)]
+struct Readme;

@@ -1,23 +1,37 @@
 //! What is read of whole pages.
 
-use crate::{Error, Fed, Options, Token, Tokenizer};
+use crate::{Encoding, Fed, Options, Token, Tokenizer};
 use std::io::{self, Read};
 
-/// Reads a page as its bytes arrive, past all pauses, and hands each token on.
+/// Reads a page as its bytes arrive, past all pauses, and hands each token on. Where the options have no encoding, bytes are read
+/// as the page says ([`Encoding::Auto`]), but with places. Tokens before bytes that are refused are handed on before the error.
 pub fn read_tokens(mut page: impl Read, options: &Options<'_>, mut take: impl FnMut(Token<'_>)) -> io::Result<()> {
-    let mut tokenizer = Tokenizer::new(options)?;
+    let as_the_page_says = (!options.places).then_some(Encoding::Auto);
+    let options = Options { encoding: options.encoding.or(as_the_page_says), ..*options };
+    let mut tokenizer = Tokenizer::new(&options)?;
     let mut piece = vec![0; 1 << 16];
     loop {
-        let len = page.read(&mut piece)?;
+        let len = read_piece(&mut page, &mut piece)?;
         if len == 0 {
             break;
         }
-        tokenizer.feed_all(&piece[..len])?;
+        let fed = tokenizer.feed_all(&piece[..len]);
         tokenizer.tokens().for_each(&mut take);
+        fed?;
     }
     while tokenizer.end()? != Fed::Done {}
     tokenizer.tokens().for_each(take);
     Ok(())
+}
+
+/// The next bytes of a page, and how many. A read that a signal interrupted is done again.
+pub(crate) fn read_piece(page: &mut impl Read, piece: &mut [u8]) -> io::Result<usize> {
+    loop {
+        match page.read(piece) {
+            Err(error) if error.kind() == io::ErrorKind::Interrupted => {}
+            read => return read,
+        }
+    }
 }
 
 /// A link of a page.
@@ -52,9 +66,21 @@ fn link_of(token: Token<'_>) -> Option<Link> {
 /// assert_eq!((links[0].line, links[0].address.as_str()), (1, "/x"));
 /// ```
 pub fn links(page: &str) -> impl Iterator<Item = Link> {
+    read_links(page.as_bytes(), Encoding::StrictUtf8).expect("memory for the tokens of a page").into_iter()
+}
+
+/// The links of a page in this encoding, as [`links`] has them.
+///
+/// ```
+/// use firnuubal::{read_links, Encoding};
+///
+/// assert_eq!(read_links(&b"<a href=/caf\xe9>"[..], Encoding::Auto)?[0].address, "/café");
+/// # Ok::<(), std::io::Error>(())
+/// ```
+pub fn read_links(page: impl Read, encoding: Encoding<'_>) -> io::Result<Vec<Link>> {
     let mut found = Vec::new();
-    read_text(page, |token| found.extend(link_of(token)));
-    found.into_iter()
+    read_tokens(page, &in_encoding(encoding), |token| found.extend(link_of(token)))?;
+    Ok(found)
 }
 
 /// The text of a page, without its scripts and styles.
@@ -63,34 +89,22 @@ pub fn links(page: &str) -> impl Iterator<Item = Link> {
 /// assert_eq!(firnuubal::text("<p>1 &lt; 2<script>3</script>"), "1 < 2");
 /// ```
 pub fn text(page: &str) -> String {
+    read_text(page.as_bytes(), Encoding::StrictUtf8).expect("memory for the tokens of a page")
+}
+
+/// The text of a page in this encoding, as [`text`] has it.
+pub fn read_text(page: impl Read, encoding: Encoding<'_>) -> io::Result<String> {
     let mut found = String::new();
     let mut is_within = false;
-    read_text(page, |token| match token {
+    read_tokens(page, &in_encoding(encoding), |token| match token {
         Token::StartTag(tag) => is_within = matches!(tag.name, "script" | "style"),
         Token::EndTag(_) => is_within = false,
         Token::Text(run) if !is_within => found.push_str(run),
         _ => {}
-    });
-    found
+    })?;
+    Ok(found)
 }
 
-fn read_text(page: &str, take: impl FnMut(Token<'_>)) {
-    read_tokens(page.as_bytes(), &Options::default(), take).expect("memory for the tokens of a page");
-}
-
-impl From<Error> for io::Error {
-    fn from(error: Error) -> io::Error {
-        let kind = match error {
-            Error::NoMemory | Error::Limit => io::ErrorKind::OutOfMemory,
-            Error::NotUtf8 { .. } | Error::Cut => io::ErrorKind::InvalidData,
-            Error::Waiting
-            | Error::ItemOpen
-            | Error::Over
-            | Error::UnknownEncoding
-            | Error::Begun
-            | Error::NoPlaces
-            | Error::BadPolicy { .. } => io::ErrorKind::InvalidInput,
-        };
-        io::Error::new(kind, error)
-    }
+fn in_encoding(encoding: Encoding<'_>) -> Options<'_> {
+    Options { encoding: Some(encoding), ..Options::default() }
 }

@@ -2,9 +2,10 @@
 
 use crate::Encoding;
 use std::ffi::c_void;
-use std::{mem, ptr};
+use std::mem::{self, MaybeUninit};
+use std::{ptr, slice};
 
-/// A handle, of a tokenizer or of a cleaner. One of zeros is closed.
+/// A handle, of a tokenizer, a policy or a cleaner. One of zeros is closed.
 #[repr(C)]
 #[derive(Debug)]
 pub(crate) struct Handle {
@@ -58,6 +59,16 @@ extern "C" {
     pub(crate) fn html5_error_code(message: *const u8, message_len: usize, out: *mut u8, len: usize) -> usize;
     pub(crate) fn html5_is_over(handle: *mut Handle) -> bool;
     pub(crate) fn html5_free(handle: *mut Handle);
+    pub(crate) fn html5_policy_new(handle: *mut Handle) -> u32;
+    pub(crate) fn html5_policy_add(
+        handle: *mut Handle,
+        rule: u32,
+        name: *const u8,
+        name_len: usize,
+        attribute: *const u8,
+        attribute_len: usize,
+    ) -> u32;
+    pub(crate) fn html5_cleaner_begin(handle: *mut Handle) -> u32;
     pub(crate) fn html5_cleaner_new(handle: *mut Handle, policy: *const u8, len: usize, place: *mut u64) -> u32;
     pub(crate) fn html5_cleaner_restart(handle: *mut Handle) -> u32;
     pub(crate) fn html5_cleaner_feed(handle: *mut Handle, bytes: *const u8, len: usize) -> u32;
@@ -66,9 +77,10 @@ extern "C" {
     pub(crate) fn html5_cleaner_error_at(handle: *mut Handle) -> u64;
 }
 
-/// Reads the page of a handle in this encoding, and answers the status.
+/// Reads the page of a handle in this encoding, and answers the status. Before one is set a page is strict UTF-8.
 pub(crate) fn set_encoding(handle: &mut Handle, encoding: Encoding<'_>) -> u32 {
     match encoding {
+        Encoding::StrictUtf8 => 0,
         Encoding::Auto => unsafe { html5_set_encoding(handle, [].as_ptr(), 0) },
         Encoding::Label("") => 9,
         Encoding::Label(label) => unsafe { html5_set_encoding(handle, label.as_ptr(), label.len()) },
@@ -92,7 +104,7 @@ pub(crate) fn error_code(message: &str) -> Option<String> {
     String::from_utf8(code).ok().filter(|code| !code.is_empty())
 }
 
-/// Appends all that waits in a handle.
+/// Appends all that waits in a handle. Where there was room for more, that was all.
 pub(crate) fn take_all(
     handle: &mut Handle,
     take: unsafe extern "C" fn(*mut Handle, *mut u8, usize) -> usize,
@@ -104,9 +116,23 @@ pub(crate) fn take_all(
         taken.reserve(ROOM);
         let room = taken.spare_capacity_mut();
         let count = unsafe { take(handle, room.as_mut_ptr().cast(), room.len()) };
+        let is_all = count < room.len();
+        // SAFETY: the library wrote so many bytes.
         unsafe { taken.set_len(len + count) };
-        if count == 0 {
+        if is_all {
             return;
         }
     }
+}
+
+/// All that waits in a handle of a cleaner. What is short holds no more than its bytes.
+pub(crate) fn take_kept(handle: &mut Handle) -> Vec<u8> {
+    let mut first = [MaybeUninit::<u8>::uninit(); 1 << 12];
+    let count = unsafe { html5_cleaner_take(handle, first.as_mut_ptr().cast(), first.len()) };
+    // SAFETY: the library wrote so many bytes.
+    let mut taken = unsafe { slice::from_raw_parts(first.as_ptr().cast::<u8>(), count) }.to_vec();
+    if count == first.len() {
+        take_all(handle, html5_cleaner_take, &mut taken);
+    }
+    taken
 }

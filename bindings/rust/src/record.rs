@@ -114,8 +114,12 @@ pub(crate) struct Read {
 }
 
 impl Read {
-    // Lets go what was read.
+    // Lets go what was read, where it is at least as much as is left: so each byte is moved a few times at most, however often
+    // a token is read.
     pub(crate) fn drop_read(&mut self, taken: &mut Vec<u8>) {
+        if self.at < taken.len() - self.at {
+            return;
+        }
         taken.drain(..self.at);
         self.searched = self.searched.saturating_sub(self.at);
         self.at = 0;
@@ -292,5 +296,29 @@ fn token(kind: u8, line: u64, bytes: &[u8]) -> Option<(Token<'_>, &[u8])> {
             };
             Some((token, rest))
         }
+    }
+}
+
+#[cfg(test)]
+mod tests {
+    use super::Read;
+
+    // One record of two is read each time. All that is moved is of the order of what was read.
+    #[test]
+    fn few_bytes_are_moved() {
+        let (mut read, mut taken) = (Read::default(), Vec::new());
+        let (mut moved, mut unread) = (0, 0);
+        for round in 0..20_000_u32 {
+            taken.extend(round.to_le_bytes().repeat(2));
+            read.at += 4;
+            unread += 4;
+            read.drop_read(&mut taken);
+            moved += if read.at == 0 { taken.len() } else { 0 };
+            assert_eq!(taken.len() - read.at, unread);
+        }
+        assert!(moved <= taken.len(), "{moved}");
+        read.at = taken.len();
+        read.drop_read(&mut taken);
+        assert!(taken.is_empty());
     }
 }

@@ -1,6 +1,6 @@
-//! Pages in pieces, policies, refusals.
+//! Pages in pieces, policies in turn, refusals.
 
-use firnuubal::{clean, Cleaner, Error, Options, OwnedToken, Policy, PolicyBuilder, Tokenizer};
+use firnuubal::{clean, Cleaner, Encoding, Error, Options, OwnedToken, Policy, PolicyBuilder, Tokenizer};
 
 const PAGE: &str = "<p onclick=x>1 &lt; 2<script>x</script><a href=javascript:x>y</a>é";
 const KEPT: &str = "<p>1 &#60; 2<a>y</a>é</p>";
@@ -26,8 +26,6 @@ fn a_page_from_a_stream() {
     let mut kept = Vec::new();
     Policy::default().clean_stream(PAGE.as_bytes(), &mut kept).unwrap();
     assert_eq!(kept, KEPT.as_bytes());
-    let refused = Policy::default().clean_stream(&b"a\xFF"[..], &mut kept).unwrap_err();
-    assert_eq!(refused.kind(), std::io::ErrorKind::InvalidData);
 }
 
 #[test]
@@ -38,40 +36,13 @@ fn policies_in_turn() {
     for _ in 0..3 {
         for (name, policy) in names.iter().zip(&policies) {
             let policy = policy.as_ref().unwrap();
-            assert_eq!(policy.clean("<p><b><i><u><q><s>1 <"), format!("<{name}>1 &#60;"));
-            assert!(policy.clean_stream(&b"<p><!--\xFF"[..], Vec::new()).is_err());
+            assert_eq!(policy.clean("<p><b><i><u><q><s>1 <"), format!("<{name}>1 &#60;</{name}>"));
+            assert!(policy.clean_bytes(b"<p><!--\xFF", Encoding::StrictUtf8).is_err());
             let mut kept = Vec::new();
             policy.clean_stream(&b"<s><q><u><i><b><p>2"[..], &mut kept).unwrap();
-            assert_eq!(kept, format!("<{name}>2").into_bytes());
+            assert_eq!(kept, format!("<{name}>2</{name}>").into_bytes());
         }
     }
-}
-
-#[test]
-fn policies() -> Result<(), Error> {
-    let policy = Policy::parse("allow p class\nallow a href\nschemes ftp\nnoopener\n")?;
-    assert_eq!(policy.clean("<p class=x><b>1<a href=ftp:x>"), r#"<p class="x">1<a href="ftp:x" rel="noopener">"#);
-    assert_eq!(PolicyBuilder::new().build()?.clean("<p>1"), "1");
-    let mut builder = PolicyBuilder::new();
-    builder.tags(["p", "b"]).generic_attributes(["lang"]).clean_content_tags(["q"]).balance(true);
-    assert_eq!(builder.build()?.clean("<p lang=x><b>1</p><q>2</q>"), r#"<p lang="x"><b>1</b></p>"#);
-    Ok(())
-}
-
-#[test]
-fn rules_that_no_policy_takes() {
-    assert_eq!(Policy::parse("allow p\nallow script\n"), Err(Error::BadPolicy { line: 2 }));
-    assert_eq!(PolicyBuilder::new().tag_attributes("p", ["onclick"]).build(), Err(Error::BadPolicy { line: 1 }));
-    assert_eq!(PolicyBuilder::new().url_schemes(["javascript"]).build(), Err(Error::BadPolicy { line: 1 }));
-}
-
-#[test]
-fn a_tree() -> Result<(), Error> {
-    assert_eq!(clean("<p>1<p>2"), "<p>1</p><p>2</p>");
-    let policy = PolicyBuilder::new().tags(["p", "i", "b"]).tree(true).depth(1).build()?;
-    assert_eq!(policy.clean("<p>1<p>2<i><b>x</i>"), "<p>1</p><p>2x</p>");
-    assert_eq!(PolicyBuilder::new().tags(["x-y"]).tree(true).build(), Err(Error::BadPolicy { line: 2 }));
-    Ok(())
 }
 
 #[test]

@@ -18,9 +18,9 @@ const PAGES: [(&[u8], Encoding<'static>, &str, &str); 9] = [
     (b"", Encoding::Auto, "UTF-8", ""),
 ];
 
-fn tokens(page: &[u8], encoding: Option<Encoding<'_>>) -> Vec<OwnedToken> {
+fn tokens(page: &[u8], encoding: Encoding<'_>) -> Vec<OwnedToken> {
     let mut found = Vec::new();
-    let options = Options { encoding, ..Options::default() };
+    let options = Options { encoding: Some(encoding), ..Options::default() };
     read_tokens(page, &options, |token| found.push(OwnedToken::from(token))).unwrap();
     found
 }
@@ -37,7 +37,7 @@ fn pages_in_pieces() -> Result<(), Error> {
             }
             assert_eq!(tokenizer.end()?, Fed::Done);
             found.extend(tokenizer.tokens().map(OwnedToken::from));
-            assert_eq!(found, tokens(text.as_bytes(), None), "{page:?}");
+            assert_eq!(found, tokens(text.as_bytes(), Encoding::StrictUtf8), "{page:?}");
             assert_eq!(tokenizer.encoding().as_deref(), Some(name));
         }
     }
@@ -47,7 +47,7 @@ fn pages_in_pieces() -> Result<(), Error> {
 #[test]
 fn whole_pages() -> Result<(), Error> {
     for (page, encoding, _, text) in PAGES {
-        assert_eq!(tokens(page, Some(encoding)), tokens(text.as_bytes(), None));
+        assert_eq!(tokens(page, encoding), tokens(text.as_bytes(), Encoding::StrictUtf8));
         assert_eq!(Policy::default().clean_bytes(page, encoding)?, clean(text));
     }
     Ok(())

@@ -1,17 +1,20 @@
 -- What a call of the cleaner did, by the status that it answers.
-use Rattle.std.proofs.Common.{◌≡◌, ◌↔◌, ℕ, Bool, true, false, List, length, Option, None, Some, refl, sym, subst, inl, inr, arith}
-use Rattle.std.specs.Prelude.{is_some}
+use Rattle.std.proofs.Common.{◌≡◌, ◌↔◌, ℕ, Bool, true, false, List, length, Option, None, Some, refl, sym, ap, ◌∙◌, subst, inl, inr, arith}
+use Rattle.std.specs.Prelude.{◌≢◌, is_some}
 use Rattle.std.proofs.lemmas.Bool.{false≢true}
 use Rattle.html5c.proofs.Going.{over_is, refused_going}
-use Rattle.html5c.specs.CleanerCalls.{CleanerEndSays, CleanerFeedSays, IsCleanerStart, NewCleanerSays, PolicyFails, fault_place, fault_status}
+use Rattle.html5c.specs.CleanerCalls.{CleanerEndSays, CleanerFeedSays, IsCleanerStart, NewCleanerSays, PolicyFails, fault_place, fault_status, is_rule_fault}
+use Rattle.html5c.specs.PolicyCalls.{rule_status}
 use Rattle.html5c.specs.Slots.{cleaner_of}
 use Rattle.html5c.specs.declared.cleaner_opening.PolicyFault.{PolicyFault}
 use Rattle.html5c.specs.declared.cleaner_opening.PolicyFault.TheVariants as fault
 use Rattle.html5c.specs.declared.slot.PageSlot.{PageSlot}
-use Rattle.html5c.specs.declared.slot.PageSlot.TheVariants.{Tokenizer, Cleaner, Placed, Lent}
+use Rattle.html5c.specs.declared.slot.PageSlot.TheVariants.{Tokenizer, Cleaner, Placed, Policy, Lent}
 use Rattle.html5cleaning.specs.Cleaning.{CleaningOf, EndRefused, EndWantsMemory, EndsPage, FeedRefused, FeedsPiece, fits_in}
 use Rattle.html5c.proofs.Statuses.{cut_no_over, either, memory_no_over, not_utf8_no_over}
 use Rattle.html5c.specs.Calls.{error_status}
+use Rattle.html5policy.specs.declared.error.RuleError.{RuleError}
+use Rattle.html5policy.specs.declared.error.RuleError.TheVariants as wrong
 use Rattle.html5session.specs.Intake.{EndsWithinBy, IsCompleteBy, is_decoding}
 use Rattle.html5session.specs.Session.{AllRead, is_over}
 use Rattle.html5sniffing.specs.PageDecoding.{PageDecoding}
@@ -145,15 +148,42 @@ end_says-error old new Over refused over = record {
 
 -- the status of `html5_cleaner_new`
 
+is_fault : RuleError → Type 0
+is_fault error = is_rule_fault (rule_status error) ≡ true
+
+rule-fault_of : (error : RuleError) → error ≢ wrong.Memory → is_fault error
+rule-fault_of wrong.UnknownRule other = refl
+rule-fault_of wrong.NoName other = refl
+rule-fault_of wrong.WordTooMany other = refl
+rule-fault_of wrong.ElementName other = refl
+rule-fault_of wrong.AttributeName other = refl
+rule-fault_of wrong.HidesContent other = refl
+rule-fault_of wrong.ActsOnPage other = refl
+rule-fault_of wrong.AllowedAndHidden other = refl
+rule-fault_of wrong.NeverKept other = refl
+rule-fault_of wrong.SchemeName other = refl
+rule-fault_of wrong.RunsAddress other = refl
+rule-fault_of wrong.NoPlace other = refl
+rule-fault_of wrong.Depth other = refl
+rule-fault_of wrong.RelWord other = refl
+rule-fault_of wrong.Memory other = absurd (other refl)
+
+rule-fault : (error : RuleError) (status : ℕ) → rule_status error ≡ status → error ≢ wrong.Memory → is_rule_fault status ≡ true
+rule-fault error status is other = ap is_rule_fault (sym is) ∙ rule-fault_of error other
+
+rule-other : (status other : ℕ) → is_rule_fault status ≡ true → is_rule_fault other ≡ false → status ≡ other → ⊥
+rule-other status other is none same = false≢true (sym none ∙ ap is_rule_fault (sym same) ∙ is)
+
 pub new_says-done : (now : Option PageSlot) (rules : List ℕ) → IsCleanerStart (cleaner_of now) rules → NewCleanerSays now rules 0 0
 new_says-done None rules start = absurd start
 new_says-done (Some (Tokenizer s)) rules start = absurd start
 new_says-done (Some Lent) rules start = absurd start
 new_says-done (Some (Placed s)) rules start = absurd start
+new_says-done (Some (Policy p)) rules start = absurd start
 new_says-done (Some (Cleaner s)) rules start = record {
   done = λ _. start;
   refused = λ other. absurd (other refl);
-  bad_policy = λ e. absurd (omega (arith, e));
+  bad_rule = λ e. absurd (false≢true e);
   policy_not_utf8 = (λ e. absurd (omega (arith, e)), λ no_text. absurd (no_text start.utf8));
   at_byte = λ e. absurd (omega (arith, e));
   nowhere = λ _ _. refl;
@@ -165,27 +195,29 @@ pub new_says-error : (now : Option PageSlot) (rules : List ℕ) (error : PolicyF
 new_says-error now rules fault.Memory closed fails = record {
   done = λ e. absurd (omega (arith, e));
   refused = λ _. closed;
-  bad_policy = λ e. absurd (omega (arith, e));
+  bad_rule = λ e. absurd (false≢true e);
   policy_not_utf8 = (λ e. absurd (omega (arith, e)), λ no_text. absurd (no_text fails));
   at_byte = λ e. absurd (omega (arith, e));
   nowhere = λ _ _. refl;
   only = inr (inl refl);
 }
-new_says-error now rules (fault.BadPolicy line) closed fails = record {
-  done = λ e. absurd (omega (arith, e));
-  refused = λ _. closed;
-  bad_policy = λ _. fails.1;
-  policy_not_utf8 = (λ e. absurd (omega (arith, e)), λ no_text. absurd (no_text fails.0));
-  at_byte = λ e. absurd (omega (arith, e));
-  nowhere = λ other _. absurd (other refl);
-  only = inr (inr (inl refl));
-}
+new_says-error now rules (fault.BadRule line status) closed fails =
+    let is = rule-fault fails.1.error.fault status fails.1.cause fails.1.no_memory in
+    record {
+      done = λ e. absurd (rule-other status 0 is refl e);
+      refused = λ _. closed;
+      bad_rule = λ _. fails.1;
+      policy_not_utf8 = (λ e. absurd (rule-other status 11 is refl e), λ no_text. absurd (no_text fails.0));
+      at_byte = λ e. absurd (rule-other status 11 is refl e);
+      nowhere = λ none _. absurd (false≢true (sym none ∙ is));
+      only = inr (inr (inr is));
+    }
 new_says-error now rules (fault.NotUtf8 place) closed fails = record {
   done = λ e. absurd (omega (arith, e));
   refused = λ _. closed;
-  bad_policy = λ e. absurd (omega (arith, e));
+  bad_rule = λ e. absurd (false≢true e);
   policy_not_utf8 = (λ _. fails.0, λ _. refl);
   at_byte = λ _. fails.1;
   nowhere = λ _ other. absurd (other refl);
-  only = inr (inr (inr refl));
+  only = inr (inr (inl refl));
 }

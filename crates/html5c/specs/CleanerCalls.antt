@@ -1,8 +1,9 @@
 -- What each call of the cleaner makes of the page that a handle is of. A handle has none where it is closed, or has a session of the
 -- tokenizer.
-use Rattle.std.specs.Prelude.{◌≡◌, ◌≢◌, ◌↔◌, ◌⊎◌, ◌-◌, ◌^◌, ℕ, Bool, true, false, List, [], ◌∷◌, ◌++◌, length, take, drop, min, Option, None, Some, Ok, Err}
+use Rattle.std.specs.Prelude.{◌≡◌, ◌≢◌, ◌↔◌, ◌⊎◌, ◌-◌, ◌^◌, ◌&&◌, ℕ, Bool, nat_lt, true, false, List, [], ◌∷◌, ◌++◌, length, take, drop, min, Option, None, Some, Ok, Err}
 use Rattle.std.specs.Str.{IsUtf8}
 use Rattle.std.specs.Str.Lossy.{utf8_valid_len}
+use Rattle.html5c.specs.PolicyCalls.{rule_status}
 use Rattle.html5c.specs.Slots.{WhereOpen, cleaner_of, place_in}
 use Rattle.html5c.specs.declared.cleaner_opening.PolicyFault.{PolicyFault}
 use Rattle.html5c.specs.declared.cleaner_opening.PolicyFault.TheVariants as fault
@@ -16,6 +17,7 @@ use Rattle.html5policy.specs.Policy.{PolicyOf}
 use Rattle.html5policy.specs.Standard.{standard_policy}
 use Rattle.html5policy.specs.Text.{policy_said}
 use Rattle.html5policy.specs.declared.error.PolicyError.{PolicyError}
+use Rattle.html5policy.specs.declared.error.RuleError.TheVariants.{Memory as MemoryError}
 use Rattle.html5table.specs.Listed.{entries_in}
 use Rattle.markup5ever.specs.NamedReferences.{table_of}
 
@@ -37,37 +39,43 @@ abbrev pub IsCleanerStart : Option CleaningOf → List ℕ → Type 0
 IsCleanerStart None rules = ⊥
 IsCleanerStart (Some s) rules = StartsCleaner s rules
 
--- the text of a policy has its first fault in this line, counted from 1
-pub record FaultAt (rules : List ℕ) (line : ℕ) : Type 0 where
+-- the text of a policy has its first fault in this line, counted from 1, and this status says what is wrong there
+pub record FaultAt (rules : List ℕ) (line status : ℕ) : Type 0 where
   pub error : PolicyError
   pub said : policy_said rules ≡ Err error
   pub at_line : error.line ≡ line
+  pub cause : rule_status error.fault ≡ status
+  pub no_memory : error.fault ≢ MemoryError
+
+-- a status of those that say why a rule is refused
+abbrev pub is_rule_fault : ℕ → Bool
+is_rule_fault status = nat_lt 15 status && nat_lt status 30
 
 -- when there is no policy, by the fault
 abbrev pub PolicyFails : List ℕ → PolicyFault → Type 0
 PolicyFails rules fault.Memory = IsUtf8 rules
-PolicyFails rules (fault.BadPolicy line) = IsUtf8 rules × FaultAt rules line
+PolicyFails rules (fault.BadRule line status) = IsUtf8 rules × FaultAt rules line status
 PolicyFails rules (fault.NotUtf8 place) = ¬ (IsUtf8 rules) × (place ≡ utf8_valid_len rules)
 
 abbrev pub fault_status : PolicyFault → ℕ
 fault_status fault.Memory = 3
-fault_status (fault.BadPolicy line) = 10
+fault_status (fault.BadRule line status) = status
 fault_status (fault.NotUtf8 place) = 11
 
 abbrev pub fault_place : PolicyFault → ℕ
 fault_place fault.Memory = 0
-fault_place (fault.BadPolicy line) = line
+fault_place (fault.BadRule line status) = line
 fault_place (fault.NotUtf8 place) = place
 
 -- what a status of a new page says: all but DONE leave the handle closed
 pub record NewCleanerSays (now : Option PageSlot) (rules : List ℕ) (place status : ℕ) : Type 0 where
   pub done : status ≡ 0 → IsCleanerStart (cleaner_of now) rules
   pub refused : status ≢ 0 → now ≡ None
-  pub bad_policy : status ≡ 10 → FaultAt rules place
+  pub bad_rule : is_rule_fault status ≡ true → FaultAt rules place status
   pub policy_not_utf8 : (status ≡ 11) ↔ ¬ (IsUtf8 rules)
   pub at_byte : status ≡ 11 → place ≡ utf8_valid_len rules
-  pub nowhere : status ≢ 10 → status ≢ 11 → place ≡ 0
-  pub only : (status ≡ 0) ⊎ (status ≡ 3) ⊎ (status ≡ 10) ⊎ (status ≡ 11)
+  pub nowhere : is_rule_fault status ≡ false → status ≢ 11 → place ≡ 0
+  pub only : (status ≡ 0) ⊎ (status ≡ 3) ⊎ (status ≡ 11) ⊎ (is_rule_fault status ≡ true)
 
 -- ---- what a status of each call says of a handle that has a page
 

@@ -3,6 +3,7 @@ pub mod Names
 pub mod Said
 pub mod Slots
 pub mod Calls
+pub mod PolicyCalls
 pub mod CleanerCalls
 pub mod PlacedCalls
 pub mod Encodings

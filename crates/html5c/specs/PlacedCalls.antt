@@ -1,7 +1,7 @@
 -- What each call makes of a page that is read with places, where a handle is of one.
-use Rattle.std.specs.Prelude.{◌≡◌, ◌↔◌, ◌⊎◌, ℕ, true, false, List, [], ◌++◌, length, take, drop, min, Option, None, Some}
+use Rattle.std.specs.Prelude.{◌≡◌, ◌≢◌, ◌↔◌, ◌⊎◌, ◌-◌, ◌^◌, ℕ, true, false, List, [], ◌++◌, length, take, drop, min, Option, None, Some}
 use Rattle.std.specs.Str.{IsUtf8}
-use Rattle.html5c.specs.Said.{are_named, options_said}
+use Rattle.html5c.specs.Said.{are_named, are_placed, options_said}
 use Rattle.html5c.specs.Slots.{WhereOpen}
 use Rattle.html5c.specs.declared.options.Options.{Options}
 use Rattle.html5ever.specs.Tokenizer.{rules_of}
@@ -11,20 +11,33 @@ use Rattle.html5placed.specs.PlacedSessions.{EndRefused, EndsWithin, Ends, FeedR
 use Rattle.html5reading.specs.Start.{start_of}
 use Rattle.html5session.specs.declared.error.SessionError.TheVariants.{Memory}
 use Rattle.html5table.specs.Listed.{entries_in}
-use Rattle.markup5ever.specs.NamedReferences.{table_of}
+use Rattle.markup5ever.specs.NamedReferences.{NamedReference, table_of}
 
--- it stands at the start of a page, by these options, and reads references by the standard's names
-pub record StartsPlaced (s : PlacedSessionOf) (name : List ℕ) (o : Options) : Type 0 where
+-- it stands at the start of a page, by these options, reads references by this table, and may hold so many bytes
+pub record StartsPlacedBy (references : List NamedReference) (limit : ℕ) (s : PlacedSessionOf) (name : List ℕ) (o : Options) : Type 0 where
   pub stands : StandsIn s (start_of (options_said o name)) []
-  pub rules : (reading_in s).rules ≡ rules_of (options_said o name) (table_of (entries_in standard_list))
+  pub rules : (reading_in s).rules ≡ rules_of (options_said o name) references
   pub records : s.records ≡ nothing_written
+  pub limit : s.limit ≡ limit
   pub going_on : is_over s ≡ false
   pub named : are_named o ≡ true
   pub utf8 : IsUtf8 name
 
+-- a new page, which reads references by the standard's names, and has no limit
+abbrev pub StartsPlaced : PlacedSessionOf → List ℕ → Options → Type 0
+StartsPlaced s name o = StartsPlacedBy (table_of (entries_in standard_list)) (2 ^ 64 - 1) s name o
+
 abbrev pub IsPlacedStart : Option PlacedSessionOf → List ℕ → Options → Type 0
 IsPlacedStart None name o = ⊥
 IsPlacedStart (Some s) name o = StartsPlaced s name o
+
+-- another page is at its start, by these options, and by the table and the limit of the page before it; or nothing changed
+pub record PlacedRestartSays (old new : PlacedSessionOf) (name : List ℕ) (o : Options) (status : ℕ) : Type 0 where
+  pub done : status ≡ 0 → StartsPlacedBy old.references old.limit new name o
+  pub refused : status ≢ 0 → new ≡ old
+  pub bad_option : (status ≡ 9) ↔ (are_placed o ≡ false)
+  pub not_utf8 : (status ≡ 4) ↔ ((are_placed o ≡ true) × ¬ (IsUtf8 name))
+  pub only : (status ≡ 0) ⊎ (status ≡ 3) ⊎ (status ≡ 4) ⊎ (status ≡ 9)
 
 pub record PlacedFeedSays (old new : PlacedSessionOf) (bytes : List ℕ) (status : ℕ) : Type 0 where
   pub done : status ≡ 0 → Feeds old new bytes
@@ -54,6 +67,9 @@ pub record PlacedTakeSays (old new : PlacedSessionOf) (room out : List ℕ) (n :
   pub taken : new ≡ record old { records = after_taking old.records n }
 
 -- ---- the same, of a handle that has such a page or none
+
+abbrev pub PlacedRestarts : Option PlacedSessionOf → Option PlacedSessionOf → List ℕ → Options → ℕ → Type 0
+PlacedRestarts old new name o status = WhereOpen (λ s t. PlacedRestartSays s t name o status) (Unit {0}) old new
 
 abbrev pub PlacedFeeds : Option PlacedSessionOf → Option PlacedSessionOf → List ℕ → ℕ → Type 0
 PlacedFeeds old new bytes status = WhereOpen (λ s t. PlacedFeedSays s t bytes status) (Unit {0}) old new

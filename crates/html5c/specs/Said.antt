@@ -40,6 +40,10 @@ are_named o = is_some (replies_said o.replies) && (is_some (state_said o.state) 
 abbrev pub are_recorded : Options → Bool
 are_recorded o = are_named o && not o.places
 
+-- each number names something, and tokens are recorded with their places
+abbrev pub are_placed : Options → Bool
+are_placed o = are_named o && o.places
+
 -- the name of the last start tag: none where it has no bytes
 abbrev pub name_said : List ℕ → Option (List ℕ)
 name_said [] = None

@@ -1,9 +1,11 @@
--- What a handle is of: a session of the tokenizer, a page that is read with places, one that is cleaned, or, where it is closed, none.
+-- What a handle is of: a session of the tokenizer, a page that is read with places, one that is cleaned, a policy to which rules are
+-- added, or, where it is closed, none.
 use Rattle.std.specs.Prelude.{◌||◌, ◌&&◌, ℕ, Bool, not, Option, None, Some, is_some, if◌then◌else◌}
 use Rattle.html5c.specs.declared.slot.PageSlot.{PageSlot}
-use Rattle.html5c.specs.declared.slot.PageSlot.TheVariants.{Tokenizer, Cleaner, Placed}
+use Rattle.html5c.specs.declared.slot.PageSlot.TheVariants.{Tokenizer, Cleaner, Placed, Policy}
 use Rattle.html5cleaning.specs.Cleaning.{CleaningOf}
 use Rattle.html5placed.specs.PlacedSessions.{PlacedSessionOf}
+use Rattle.html5policy.specs.Policy.{PolicyOf}
 use Rattle.html5session.specs.RecordSessions.{RecordSessionOf}
 use Rattle.html5session.specs.Session.{SessionOf}
 
@@ -19,6 +21,10 @@ abbrev pub placed_in : PageSlot → Option PlacedSessionOf
 placed_in (Placed s) = Some s
 placed_in other = None
 
+abbrev pub policy_in : PageSlot → Option PolicyOf
+policy_in (Policy policy) = Some policy
+policy_in other = None
+
 -- the session of what a handle owns
 abbrev pub session_of : Option PageSlot → Option RecordSessionOf
 session_of None = None
@@ -33,6 +39,11 @@ cleaner_of (Some slot) = cleaner_in slot
 abbrev pub placed_of : Option PageSlot → Option PlacedSessionOf
 placed_of None = None
 placed_of (Some slot) = placed_in slot
+
+-- the policy of what a handle owns
+abbrev pub policy_of : Option PageSlot → Option PolicyOf
+policy_of None = None
+policy_of (Some slot) = policy_in slot
 
 -- what a call says where there is one before it and after it, and what it says where there is none
 abbrev pub WhereOpen : {S : Type 0} → (S → S → Type 0) → Type 0 → Option S → Option S → Type 0

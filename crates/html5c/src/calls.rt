@@ -2,8 +2,8 @@
 ghost use Rattle.std.specs.Prelude.{◌≡◌, None, option_map};
 ghost use Rattle.html5c.specs.Calls.{NewSays, Feeds, Inserts, PageRestarts, RepliesTo, TellsForeign, Ends, Takes, error_place, over_in};
 ghost use Rattle.html5c.specs.Encodings.{NamesEncoding, SetsEncoding, encoding_in};
-ghost use Rattle.html5c.specs.PlacedCalls.{PlacedEnds, PlacedFeeds, PlacedTakes, placed_limited};
-ghost use Rattle.html5c.specs.Slots.{cleaner_of, limited, placed_of, session_of, status_where_open};
+ghost use Rattle.html5c.specs.PlacedCalls.{PlacedEnds, PlacedFeeds, PlacedRestarts, PlacedTakes, placed_limited};
+ghost use Rattle.html5c.specs.Slots.{cleaner_of, limited, placed_of, policy_of, session_of, status_where_open};
 
 use crate::handle::Handle;
 use crate::opening::slot_of;
@@ -34,7 +34,8 @@ pub extern "C" fn html5_new(
 
 /// Begins another page in a handle that is open, by these options and after a start tag of a name, as `html5_new` does, and by
 /// the table of named references, the limit and the encoding that the handle has. So the table is not made anew. What was
-/// recorded and not taken is gone. Where it is refused nothing changes, and options with places are.
+/// recorded and not taken is gone. Where it is refused nothing changes. A page with places goes on with places: options that ask
+/// for the other kind are refused.
 #[unsafe(no_mangle)]
 pub extern "C" fn html5_restart(
     alloc: Global,
@@ -42,10 +43,12 @@ pub extern "C" fn html5_restart(
     last_start_tag: &[u8],
     options: &Options,
 ) -> u32
-    ensures restarts { PageRestarts (session_of h.old.owned.value) (session_of h.new.owned.value)
+    ensures restarts { placed_of h.old.owned.value ≡ None
+        → PageRestarts (session_of h.old.owned.value) (session_of h.new.owned.value) last_start_tag.now options.now result }
+    ensures placed { PlacedRestarts (placed_of h.old.owned.value) (placed_of h.new.owned.value)
         last_start_tag.now options.now result }
     ensures other { cleaner_of h.new.owned.value ≡ cleaner_of h.old.owned.value }
-    ensures placed { placed_of h.new.owned.value ≡ placed_of h.old.owned.value }
+    ensures policy { policy_of h.new.owned.value ≡ policy_of h.old.owned.value }
 {
     let Some(mut slot) = h.take(alloc) else {
         return status::CLOSED;
@@ -64,6 +67,7 @@ pub extern "C" fn html5_feed(alloc: Global, h: &mut Handle, bytes: &[u8]) -> u32
         → Feeds (session_of h.old.owned.value) (session_of h.new.owned.value) bytes.now result }
     ensures placed { PlacedFeeds (placed_of h.old.owned.value) (placed_of h.new.owned.value) bytes.now result }
     ensures other { cleaner_of h.new.owned.value ≡ cleaner_of h.old.owned.value }
+    ensures policy { policy_of h.new.owned.value ≡ policy_of h.old.owned.value }
 {
     let Some(mut slot) = h.take(alloc) else {
         return status::CLOSED;
@@ -80,6 +84,7 @@ pub extern "C" fn html5_insert(alloc: Global, h: &mut Handle, text: &[u8]) -> u3
     ensures inserts { Inserts (session_of h.old.owned.value) (session_of h.new.owned.value) text.now result }
     ensures other { cleaner_of h.new.owned.value ≡ cleaner_of h.old.owned.value }
     ensures placed { placed_of h.new.owned.value ≡ placed_of h.old.owned.value }
+    ensures policy { policy_of h.new.owned.value ≡ policy_of h.old.owned.value }
 {
     let Some(mut slot) = h.take(alloc) else {
         return status::CLOSED;
@@ -97,6 +102,7 @@ pub extern "C" fn html5_reply(alloc: Global, h: &mut Handle, state: u32) -> u32
     ensures replies { RepliesTo (session_of h.old.owned.value) (session_of h.new.owned.value) state result }
     ensures other { cleaner_of h.new.owned.value ≡ cleaner_of h.old.owned.value }
     ensures placed { placed_of h.new.owned.value ≡ placed_of h.old.owned.value }
+    ensures policy { policy_of h.new.owned.value ≡ policy_of h.old.owned.value }
 {
     let Some(mut slot) = h.take(alloc) else {
         return status::CLOSED;
@@ -112,6 +118,7 @@ pub extern "C" fn html5_set_foreign(alloc: Global, h: &mut Handle, foreign: bool
     ensures sets { TellsForeign (session_of h.old.owned.value) (session_of h.new.owned.value) foreign result }
     ensures other { cleaner_of h.new.owned.value ≡ cleaner_of h.old.owned.value }
     ensures placed { placed_of h.new.owned.value ≡ placed_of h.old.owned.value }
+    ensures policy { policy_of h.new.owned.value ≡ policy_of h.old.owned.value }
 {
     let Some(mut slot) = h.take(alloc) else {
         return status::CLOSED;
@@ -130,6 +137,7 @@ pub extern "C" fn html5_set_limit(alloc: Global, h: &mut Handle, limit: u64) -> 
     ensures placed { placed_of h.new.owned.value ≡ option_map (placed_limited limit) (placed_of h.old.owned.value) }
     ensures status { result ≡ status_where_open (session_of h.old.owned.value) (cleaner_of h.old.owned.value)
         (placed_of h.old.owned.value) }
+    ensures policy { policy_of h.new.owned.value ≡ policy_of h.old.owned.value }
 {
     let Some(mut slot) = h.take(alloc) else {
         return status::CLOSED;
@@ -150,6 +158,7 @@ pub extern "C" fn html5_set_encoding(alloc: Global, h: &mut Handle, label: &[u8]
     ensures cleaner { SetsEncoding (cleaner_of h.old.owned.value) (cleaner_of h.new.owned.value) label.now result }
     ensures placed { placed_of h.new.owned.value ≡ placed_of h.old.owned.value }
     ensures closed { session_of h.old.owned.value ≡ None → cleaner_of h.old.owned.value ≡ None → result ≡ 8 }
+    ensures policy { policy_of h.new.owned.value ≡ policy_of h.old.owned.value }
 {
     let Some(mut slot) = h.take(alloc) else {
         return status::CLOSED;
@@ -183,6 +192,7 @@ pub extern "C" fn html5_end(alloc: Global, h: &mut Handle) -> u32
         → Ends (session_of h.old.owned.value) (session_of h.new.owned.value) result }
     ensures placed { PlacedEnds (placed_of h.old.owned.value) (placed_of h.new.owned.value) result }
     ensures other { cleaner_of h.new.owned.value ≡ cleaner_of h.old.owned.value }
+    ensures policy { policy_of h.new.owned.value ≡ policy_of h.old.owned.value }
 {
     let Some(mut slot) = h.take(alloc) else {
         return status::CLOSED;
@@ -200,6 +210,7 @@ pub extern "C" fn html5_take(alloc: Global, h: &mut Handle, out: &mut [u8]) -> u
         → Takes (session_of h.old.owned.value) (session_of h.new.owned.value) out.old out.new result }
     ensures placed { PlacedTakes (placed_of h.old.owned.value) (placed_of h.new.owned.value) out.old out.new result }
     ensures other { cleaner_of h.new.owned.value ≡ cleaner_of h.old.owned.value }
+    ensures policy { policy_of h.new.owned.value ≡ policy_of h.old.owned.value }
 {
     let Some(mut slot) = h.take(alloc) else {
         return 0;

@@ -1,7 +1,7 @@
 //! The calls of the cleaner. `html5_free` closes its handles too.
 ghost use Rattle.std.specs.Prelude.{◌≡◌};
 ghost use Rattle.html5c.specs.CleanerCalls.{NewCleanerSays, Restarts, CleanerFeeds, CleanerEnds, CleanerTakes, cleaner_error_place, cleaner_over_in};
-ghost use Rattle.html5c.specs.Slots.{cleaner_of, placed_of, session_of};
+ghost use Rattle.html5c.specs.Slots.{cleaner_of, placed_of, policy_of, session_of};
 
 use crate::calls::html5_free;
 use crate::cleaner_opening::cleaner_slot_of;
@@ -41,6 +41,7 @@ pub extern "C" fn html5_cleaner_restart(alloc: Global, h: &mut Handle) -> u32
     ensures restarts { Restarts (cleaner_of h.old.owned.value) (cleaner_of h.new.owned.value) result }
     ensures other { session_of h.new.owned.value ≡ session_of h.old.owned.value }
     ensures placed { placed_of h.new.owned.value ≡ placed_of h.old.owned.value }
+    ensures policy { policy_of h.new.owned.value ≡ policy_of h.old.owned.value }
 {
     let Some(mut slot) = h.take(alloc) else {
         return status::CLOSED;
@@ -56,6 +57,7 @@ pub extern "C" fn html5_cleaner_feed(alloc: Global, h: &mut Handle, bytes: &[u8]
     ensures feeds { CleanerFeeds (cleaner_of h.old.owned.value) (cleaner_of h.new.owned.value) bytes.now result }
     ensures other { session_of h.new.owned.value ≡ session_of h.old.owned.value }
     ensures placed { placed_of h.new.owned.value ≡ placed_of h.old.owned.value }
+    ensures policy { policy_of h.new.owned.value ≡ policy_of h.old.owned.value }
 {
     let Some(mut slot) = h.take(alloc) else {
         return status::CLOSED;
@@ -71,6 +73,7 @@ pub extern "C" fn html5_cleaner_end(alloc: Global, h: &mut Handle) -> u32
     ensures ends { CleanerEnds (cleaner_of h.old.owned.value) (cleaner_of h.new.owned.value) result }
     ensures other { session_of h.new.owned.value ≡ session_of h.old.owned.value }
     ensures placed { placed_of h.new.owned.value ≡ placed_of h.old.owned.value }
+    ensures policy { policy_of h.new.owned.value ≡ policy_of h.old.owned.value }
 {
     let Some(mut slot) = h.take(alloc) else {
         return status::CLOSED;
@@ -87,6 +90,7 @@ pub extern "C" fn html5_cleaner_take(alloc: Global, h: &mut Handle, out: &mut [u
     ensures takes { CleanerTakes (cleaner_of h.old.owned.value) (cleaner_of h.new.owned.value) out.old out.new result }
     ensures other { session_of h.new.owned.value ≡ session_of h.old.owned.value }
     ensures placed { placed_of h.new.owned.value ≡ placed_of h.old.owned.value }
+    ensures policy { policy_of h.new.owned.value ≡ policy_of h.old.owned.value }
 {
     let Some(mut slot) = h.take(alloc) else {
         return 0;

@@ -4,6 +4,7 @@ ghost use Rattle.std.specs.Str.{IsUtf8};
 ghost use Rattle.html5c.specs.CleanerCalls.{IsCleanerStart, PolicyFails, PolicyGiven, fault_place, fault_status};
 ghost use Rattle.html5c.specs.Slots.{cleaner_in};
 
+use crate::rule_status::rule_status;
 use crate::slot::PageSlot;
 use crate::status;
 use html5cleaning::CleaningSession;
@@ -17,8 +18,8 @@ use std::str;
 pub enum PolicyFault {
     /// A growth was refused.
     Memory,
-    /// The text of the policy has its first fault in this line.
-    BadPolicy { line: u64 },
+    /// The text of the policy has its first fault in this line, of which this is the status.
+    BadRule { line: u64, status: u32 },
     /// The bytes of the policy stop being UTF-8 at this place.
     NotUtf8 { valid_up_to: u64 },
 }
@@ -30,7 +31,7 @@ impl PolicyFault {
     {
         match self {
             PolicyFault::Memory => status::NO_MEMORY,
-            PolicyFault::BadPolicy { .. } => status::BAD_POLICY,
+            PolicyFault::BadRule { line: _, status } => status,
             PolicyFault::NotUtf8 { .. } => status::POLICY_NOT_UTF8,
         }
     }
@@ -41,7 +42,7 @@ impl PolicyFault {
     {
         match self {
             PolicyFault::Memory => 0,
-            PolicyFault::BadPolicy { line } => line,
+            PolicyFault::BadRule { line, status: _ } => line,
             PolicyFault::NotUtf8 { valid_up_to } => valid_up_to,
         }
     }
@@ -70,7 +71,10 @@ fn policy_of(alloc: Global, rules: &[u8]) -> Result<Policy<Global>, PolicyFault>
     match Policy::parse(alloc, text) {
         Ok(policy) => Ok(policy),
         Err(error) if error.fault == RuleError::Memory => Err(PolicyFault::Memory),
-        Err(error) => Err(PolicyFault::BadPolicy { line: error.line }),
+        Err(error) => Err(PolicyFault::BadRule {
+            line: error.line,
+            status: rule_status(error.fault),
+        }),
     }
 }
 

@@ -1,7 +1,7 @@
 //! What the cleaner's calls make of what a handle is of.
 ghost use Rattle.std.specs.Prelude.{◌≡◌, IsNone};
 ghost use Rattle.html5c.specs.CleanerCalls.{CleanerEnds, CleanerFeeds, CleanerTakes, Restarts, cleaner_error_place, cleaner_over_in};
-ghost use Rattle.html5c.specs.Slots.{cleaner_in, is_past, placed_in, session_in};
+ghost use Rattle.html5c.specs.Slots.{cleaner_in, is_past, placed_in, policy_in, session_in};
 ghost use Rattle.html5cleaning.specs.Cleaning.{fits_in};
 ghost use Rattle.html5session.specs.Session.{is_over};
 
@@ -38,6 +38,7 @@ impl PageSlot {
         ensures restarts { Restarts (cleaner_in self.old) (cleaner_in self.new) result }
         ensures other { session_in self.new ≡ session_in self.old }
         ensures placed { placed_in self.new ≡ placed_in self.old }
+        ensures policy { policy_in self.new ≡ policy_in self.old }
     {
         let Some(session) = self.take_cleaner() else {
             return status::CLOSED;
@@ -51,6 +52,7 @@ impl PageSlot {
         ensures feeds { CleanerFeeds (cleaner_in self.old) (cleaner_in self.new) bytes.now result }
         ensures other { session_in self.new ≡ session_in self.old }
         ensures placed { placed_in self.new ≡ placed_in self.old }
+        ensures policy { policy_in self.new ≡ policy_in self.old }
     {
         let Some(session) = self.take_cleaner() else {
             return status::CLOSED;
@@ -72,6 +74,7 @@ impl PageSlot {
         ensures ends { CleanerEnds (cleaner_in self.old) (cleaner_in self.new) result }
         ensures other { session_in self.new ≡ session_in self.old }
         ensures placed { placed_in self.new ≡ placed_in self.old }
+        ensures policy { policy_in self.new ≡ policy_in self.old }
     {
         let Some(session) = self.take_cleaner() else {
             return status::CLOSED;
@@ -89,6 +92,7 @@ impl PageSlot {
         ensures takes { CleanerTakes (cleaner_in self.old) (cleaner_in self.new) out.old out.new result }
         ensures other { session_in self.new ≡ session_in self.old }
         ensures placed { placed_in self.new ≡ placed_in self.old }
+        ensures policy { policy_in self.new ≡ policy_in self.old }
     {
         match self {
             PageSlot::Cleaner(session) => session.take(out),

@@ -1,7 +1,7 @@
 //! The encoding of a page, as C says it and is told it.
 ghost use Rattle.std.specs.Prelude.{◌≡◌, None};
 ghost use Rattle.html5c.specs.Encodings.{EncodingSays, NamesEncoding, SetsEncoding, encoding_in_slot, said_by};
-ghost use Rattle.html5c.specs.Slots.{cleaner_in, placed_in, session_in};
+ghost use Rattle.html5c.specs.Slots.{cleaner_in, placed_in, policy_in, session_in};
 
 use crate::names::copy_name;
 use crate::slot::PageSlot;
@@ -66,6 +66,7 @@ impl PageSlot {
         ensures cleaner { SetsEncoding (cleaner_in self.old) (cleaner_in self.new) label.now result }
         ensures placed { placed_in self.new ≡ placed_in self.old }
         ensures closed { session_in self.old ≡ None → cleaner_in self.old ≡ None → result ≡ 8 }
+        ensures policy { policy_in self.new ≡ policy_in self.old }
     {
         match self {
             PageSlot::Tokenizer(session) => set_in_session(alloc, session, label),

@@ -13,6 +13,9 @@ mod names;
 mod opening;
 mod options;
 mod placed_slot;
+mod policy_calls;
+mod policy_slot;
+mod rule_status;
 mod slot;
 pub mod status;
 mod version;
@@ -29,4 +32,5 @@ pub use cleaner_calls::{
 pub use handle::Handle;
 pub use names::html5_error_code;
 pub use options::Options;
+pub use policy_calls::{html5_cleaner_begin, html5_policy_add, html5_policy_new};
 pub use version::html5_version;

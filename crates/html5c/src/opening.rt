@@ -2,9 +2,10 @@
 ghost use Rattle.std.specs.Prelude.{◌≡◌, ℕ, List, true, option_map, string_bytes, OnOk, IfOk, IfErr};
 ghost use Rattle.std.specs.Str.{IsUtf8};
 ghost use Rattle.html5c.specs.Calls.{IsReadBy, IsNameRefused, OpenFails, PageRestartSays, Starts, StartsAs, StartsBy, open_status};
-ghost use Rattle.html5c.specs.Said.{name_said};
-ghost use Rattle.html5c.specs.PlacedCalls.{StartsPlaced};
+ghost use Rattle.html5c.specs.Said.{are_named, name_said, options_said};
+ghost use Rattle.html5c.specs.PlacedCalls.{PlacedRestartSays, StartsPlaced};
 ghost use Rattle.html5c.specs.Slots.{placed_in, session_in};
+ghost use Rattle.html5ever_interface.specs.Options.{options_of};
 ghost use Rattle.html5feed.specs.Starting.{CanStart};
 ghost use Rattle.html5session.specs.Intake.{page_again};
 
@@ -152,14 +153,17 @@ pub fn restart_session(
     }
 }
 
-// A page that is read with places at its start. The options are looked at first, and then the name.
-fn placed_at_start(
+// How a page with places is read. The options are looked at first, and then the name.
+fn placed_opts(
     alloc: Global,
     last_start_tag: &[u8],
     options: &Options,
-) -> Result<PlacedSession<Global>, OpenError>
+) -> Result<TokenizerOpts<Global>, OpenError>
     requires { options.now.places ≡ true }
-    ensures starts { IfOk result (λ session. StartsPlaced session last_start_tag.now options.now) }
+    ensures start { IfOk result (λ opts. CanStart opts.initial_state) }
+    ensures said { IfOk result (λ opts. options_of opts ≡ options_said options.now last_start_tag.now) }
+    ensures named { OnOk result (are_named options.now ≡ true) }
+    ensures utf8 { OnOk result (IsUtf8 last_start_tag.now) }
     ensures refused { IfErr result (λ error. OpenFails last_start_tag.now options.now error) }
 {
     if !options.can_be_placed() {
@@ -173,11 +177,45 @@ fn placed_at_start(
         Ok(name) => name,
         Err(error) => return Err(error),
     };
+    Ok(options.opts(start, name))
+}
+
+// A page that is read with places at its start.
+fn placed_at_start(
+    alloc: Global,
+    last_start_tag: &[u8],
+    options: &Options,
+) -> Result<PlacedSession<Global>, OpenError>
+    requires { options.now.places ≡ true }
+    ensures starts { IfOk result (λ session. StartsPlaced session last_start_tag.now options.now) }
+    ensures refused { IfErr result (λ error. OpenFails last_start_tag.now options.now error) }
+{
+    let opts = match placed_opts(alloc, last_start_tag, options) {
+        Ok(opts) => opts,
+        Err(error) => return Err(error),
+    };
     let Ok(references) = standard_references(alloc) else {
         return Err(OpenError::Memory);
     };
-    let opts = options.opts(start, name);
     Ok(PlacedSession::new(alloc, references, opts))
+}
+
+/// Begins another page that is read with places. Where it is refused, the page before it stays as it was.
+pub fn restart_placed(
+    alloc: Global,
+    session: PlacedSession<Global>,
+    last_start_tag: &[u8],
+    options: &Options,
+) -> (PlacedSession<Global>, u32)
+    ensures { PlacedRestartSays session result.0 last_start_tag.now options.now result.1 }
+{
+    if !options.places {
+        return (session, status::BAD_OPTION);
+    }
+    match placed_opts(alloc, last_start_tag, options) {
+        Ok(opts) => (session.restart(opts), status::DONE),
+        Err(error) => (session, error.status()),
+    }
 }
 
 // A page at its start, as the options say.

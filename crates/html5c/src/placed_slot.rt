@@ -1,8 +1,10 @@
 //! What the tokenizer's calls make of a page that is read with places.
 ghost use Rattle.std.specs.Prelude.{◌≡◌, IsNone};
-ghost use Rattle.html5c.specs.PlacedCalls.{PlacedEndSays, PlacedEnds, PlacedFeedSays, PlacedFeeds};
-ghost use Rattle.html5c.specs.Slots.{cleaner_in, placed_in, session_in};
+ghost use Rattle.html5c.specs.PlacedCalls.{PlacedEndSays, PlacedEnds, PlacedFeedSays, PlacedFeeds, PlacedRestarts};
+ghost use Rattle.html5c.specs.Slots.{cleaner_in, placed_in, policy_in, session_in};
 
+use crate::opening::restart_placed;
+use crate::options::Options;
 use crate::slot::{PageSlot, status_of_error};
 use crate::status;
 use html5placed::PlacedSession;
@@ -57,6 +59,7 @@ impl PageSlot {
         ensures feeds { PlacedFeeds (placed_in self.old) (placed_in self.new) bytes.now result }
         ensures session { session_in self.new ≡ session_in self.old }
         ensures cleaner { cleaner_in self.new ≡ cleaner_in self.old }
+        ensures policy { policy_in self.new ≡ policy_in self.old }
     {
         let Some(session) = self.take_placed() else {
             return status::CLOSED;
@@ -66,11 +69,27 @@ impl PageSlot {
         status
     }
 
+    /// Begins another page that is read with places.
+    pub fn restart_placed(&mut self, alloc: Global, last_start_tag: &[u8], options: &Options) -> u32
+        ensures restarts { PlacedRestarts (placed_in self.old) (placed_in self.new) last_start_tag.now options.now result }
+        ensures session { session_in self.new ≡ session_in self.old }
+        ensures cleaner { cleaner_in self.new ≡ cleaner_in self.old }
+        ensures policy { policy_in self.new ≡ policy_in self.old }
+    {
+        let Some(session) = self.take_placed() else {
+            return status::CLOSED;
+        };
+        let (session, status) = restart_placed(alloc, session, last_start_tag, options);
+        *self = PageSlot::Placed(session);
+        status
+    }
+
     /// Ends a page that is read with places.
     pub fn end_placed(&mut self) -> u32
         ensures ends { PlacedEnds (placed_in self.old) (placed_in self.new) result }
         ensures session { session_in self.new ≡ session_in self.old }
         ensures cleaner { cleaner_in self.new ≡ cleaner_in self.old }
+        ensures policy { policy_in self.new ≡ policy_in self.old }
     {
         let Some(session) = self.take_placed() else {
             return status::CLOSED;

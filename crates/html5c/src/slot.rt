@@ -1,8 +1,8 @@
 //! What a handle is of, over C's memory, and what the tokenizer's calls make of it.
 ghost use Rattle.std.specs.Prelude.{◌≡◌, None, IsNone, is_some, option_map, string_bytes};
 ghost use Rattle.html5c.specs.Calls.{Feeds, Inserts, PageRestarts, RepliesTo, TellsForeign, Ends, Takes, fed_status, error_status, error_place, fits_in, over_in};
-ghost use Rattle.html5c.specs.PlacedCalls.{PlacedEnds, PlacedFeeds, PlacedTakes, placed_limited};
-ghost use Rattle.html5c.specs.Slots.{cleaner_in, is_past, limited, placed_in, session_in, status_where_open};
+ghost use Rattle.html5c.specs.PlacedCalls.{PlacedEnds, PlacedFeeds, PlacedRestarts, PlacedTakes, placed_limited};
+ghost use Rattle.html5c.specs.Slots.{cleaner_in, is_past, limited, placed_in, policy_in, session_in, status_where_open};
 ghost use Rattle.html5session.specs.Session.{is_over};
 ghost use Rattle.html5feed.specs.Feed.{reply_in};
 
@@ -12,6 +12,7 @@ use crate::options::{Options, state_of};
 use crate::status;
 use html5cleaning::CleaningSession;
 use html5placed::PlacedSession;
+use html5policy::Policy;
 use html5records::record_sink::PausedAt;
 use html5session::{RecordSession, SessionError};
 use markup5ever::tokenizer_result::TokenizerResult;
@@ -27,6 +28,8 @@ pub enum PageSlot {
     Placed(PlacedSession<Global>),
     /// A page that is cleaned.
     Cleaner(CleaningSession<Global>),
+    /// A policy to which rules are added.
+    Policy(Policy<Global>),
     /// Nothing, for the time of a call.
     Lent,
 }
@@ -98,6 +101,7 @@ impl PageSlot {
         ensures feeds { placed_in self.old ≡ None → Feeds (session_in self.old) (session_in self.new) bytes.now result }
         ensures placed { PlacedFeeds (placed_in self.old) (placed_in self.new) bytes.now result }
         ensures other { cleaner_in self.new ≡ cleaner_in self.old }
+        ensures policy { policy_in self.new ≡ policy_in self.old }
     {
         if self.is_placed() {
             self.feed_placed(bytes)
@@ -111,6 +115,7 @@ impl PageSlot {
         ensures feeds { Feeds (session_in self.old) (session_in self.new) bytes.now result }
         ensures other { cleaner_in self.new ≡ cleaner_in self.old }
         ensures placed { placed_in self.new ≡ placed_in self.old }
+        ensures policy { policy_in self.new ≡ policy_in self.old }
     {
         let Some(session) = self.take_session() else {
             return status::CLOSED;
@@ -127,11 +132,27 @@ impl PageSlot {
         }
     }
 
-    /// Begins another page whose tokens are recorded.
+    /// Begins another page whose tokens are recorded as those of this one, with their places or without.
     pub fn restart(&mut self, alloc: Global, last_start_tag: &[u8], options: &Options) -> u32
+        ensures restarts { placed_in self.old ≡ None
+            → PageRestarts (session_in self.old) (session_in self.new) last_start_tag.now options.now result }
+        ensures placed { PlacedRestarts (placed_in self.old) (placed_in self.new) last_start_tag.now options.now result }
+        ensures other { cleaner_in self.new ≡ cleaner_in self.old }
+        ensures policy { policy_in self.new ≡ policy_in self.old }
+    {
+        if self.is_placed() {
+            self.restart_placed(alloc, last_start_tag, options)
+        } else {
+            self.restart_recorded(alloc, last_start_tag, options)
+        }
+    }
+
+    // Begins another page whose tokens are recorded.
+    fn restart_recorded(&mut self, alloc: Global, last_start_tag: &[u8], options: &Options) -> u32
         ensures restarts { PageRestarts (session_in self.old) (session_in self.new) last_start_tag.now options.now result }
         ensures other { cleaner_in self.new ≡ cleaner_in self.old }
         ensures placed { placed_in self.new ≡ placed_in self.old }
+        ensures policy { policy_in self.new ≡ policy_in self.old }
     {
         let Some(session) = self.take_session() else {
             return status::CLOSED;
@@ -146,6 +167,7 @@ impl PageSlot {
         ensures inserts { Inserts (session_in self.old) (session_in self.new) text.now result }
         ensures other { cleaner_in self.new ≡ cleaner_in self.old }
         ensures placed { placed_in self.new ≡ placed_in self.old }
+        ensures policy { policy_in self.new ≡ policy_in self.old }
     {
         let PageSlot::Tokenizer(session) = self else {
             return status::CLOSED;
@@ -170,6 +192,7 @@ impl PageSlot {
         ensures replies { RepliesTo (session_in self.old) (session_in self.new) state result }
         ensures other { cleaner_in self.new ≡ cleaner_in self.old }
         ensures placed { placed_in self.new ≡ placed_in self.old }
+        ensures policy { policy_in self.new ≡ policy_in self.old }
     {
         let PageSlot::Tokenizer(session) = self else {
             return status::CLOSED;
@@ -189,6 +212,7 @@ impl PageSlot {
         ensures sets { TellsForeign (session_in self.old) (session_in self.new) foreign result }
         ensures other { cleaner_in self.new ≡ cleaner_in self.old }
         ensures placed { placed_in self.new ≡ placed_in self.old }
+        ensures policy { policy_in self.new ≡ policy_in self.old }
     {
         let PageSlot::Tokenizer(session) = self else {
             return status::CLOSED;
@@ -203,12 +227,13 @@ impl PageSlot {
         ensures cleaner { cleaner_in self.new ≡ option_map (limited limit) (cleaner_in self.old) }
         ensures placed { placed_in self.new ≡ option_map (placed_limited limit) (placed_in self.old) }
         ensures status { result ≡ status_where_open (session_in self.old) (cleaner_in self.old) (placed_in self.old) }
+        ensures policy { policy_in self.new ≡ policy_in self.old }
     {
         match self {
             PageSlot::Tokenizer(session) => session.set_limit(limit),
             PageSlot::Placed(session) => session.set_limit(limit),
             PageSlot::Cleaner(session) => session.set_limit(limit),
-            PageSlot::Lent => return status::CLOSED,
+            PageSlot::Policy(_) | PageSlot::Lent => return status::CLOSED,
         }
         status::DONE
     }
@@ -218,6 +243,7 @@ impl PageSlot {
         ensures ends { placed_in self.old ≡ None → Ends (session_in self.old) (session_in self.new) result }
         ensures placed { PlacedEnds (placed_in self.old) (placed_in self.new) result }
         ensures other { cleaner_in self.new ≡ cleaner_in self.old }
+        ensures policy { policy_in self.new ≡ policy_in self.old }
     {
         if self.is_placed() {
             self.end_placed()
@@ -231,6 +257,7 @@ impl PageSlot {
         ensures ends { Ends (session_in self.old) (session_in self.new) result }
         ensures other { cleaner_in self.new ≡ cleaner_in self.old }
         ensures placed { placed_in self.new ≡ placed_in self.old }
+        ensures policy { policy_in self.new ≡ policy_in self.old }
     {
         let Some(session) = self.take_session() else {
             return status::CLOSED;
@@ -245,6 +272,7 @@ impl PageSlot {
         ensures takes { placed_in self.old ≡ None → Takes (session_in self.old) (session_in self.new) out.old out.new result }
         ensures placed { PlacedTakes (placed_in self.old) (placed_in self.new) out.old out.new result }
         ensures other { cleaner_in self.new ≡ cleaner_in self.old }
+        ensures policy { policy_in self.new ≡ policy_in self.old }
     {
         match self {
             PageSlot::Tokenizer(session) => session.take(out),

@@ -30,9 +30,6 @@ pub const CLOSED: u32 = 8;
 /// A number in the options names nothing.
 pub const BAD_OPTION: u32 = 9;
 
-/// The text of the policy has a fault.
-pub const BAD_POLICY: u32 = 10;
-
 /// The bytes of the policy are no UTF-8.
 pub const POLICY_NOT_UTF8: u32 = 11;
 
@@ -47,3 +44,45 @@ pub const LIMIT: u32 = 14;
 
 /// Bytes were fed already, so it can't be set in which encoding they are.
 pub const BEGUN: u32 = 15;
+
+/// The first word of a line names no rule.
+pub const UNKNOWN_RULE: u32 = 16;
+
+/// A rule that wants a name has none.
+pub const NO_NAME: u32 = 17;
+
+/// A rule has a name that it doesn't take.
+pub const WORD_TOO_MANY: u32 = 18;
+
+/// No tag is read with this name.
+pub const ELEMENT_NAME: u32 = 19;
+
+/// No attribute is read with this name.
+pub const ATTRIBUTE_NAME: u32 = 20;
+
+/// What stands in such an element is always dropped.
+pub const HIDES_CONTENT: u32 = 21;
+
+/// Such an element acts on the page around it.
+pub const ACTS_ON_PAGE: u32 = 22;
+
+/// An element is both allowed and hidden.
+pub const ALLOWED_AND_HIDDEN: u32 = 23;
+
+/// Such an attribute runs scripts, or holds no single address.
+pub const NEVER_KEPT: u32 = 24;
+
+/// It is no scheme in small letters.
+pub const SCHEME_NAME: u32 = 25;
+
+/// An address of such a scheme runs what stands in it.
+pub const RUNS_ADDRESS: u32 = 26;
+
+/// With the rule `tree` an allowed element has a place in the tree.
+pub const NO_PLACE: u32 = 27;
+
+/// How many elements may be open is no number from 1 to 4096.
+pub const BAD_DEPTH: u32 = 28;
+
+/// A word of `rel` has another character than letters, digits and hyphens.
+pub const REL_WORD: u32 = 29;

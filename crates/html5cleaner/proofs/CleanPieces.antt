@@ -1,17 +1,20 @@
 -- What is kept is clean.
 use Rattle.std.proofs.Common.{◌≡◌, ℕ, Bool, true, false, List, [], ◌∷◌, ◌++◌, filter, map, chars, refl, ap, ◌∙◌}
-use Rattle.std.specs.Prelude.{◌==◌, ◌||◌, ◌&&◌, codes, encode_utf8_all, if◌then◌else◌}
+use Rattle.std.specs.Prelude.{◌==◌, ◌||◌, ◌&&◌, codes, encode_utf8_all, not, if◌then◌else◌}
 use Rattle.std.specs.List.{list_all, list_any}
+use Rattle.std.specs.Str.{bytes_eq}
 use Rattle.std.proofs.lemmas.List.Folds.{list_all-append}
 use Rattle.html5ever_interface.specs.Token.{Told, TagOf}
 use Rattle.html5ever_interface.specs.Token.Told.{Text, Null, Error, Tag, Comment, Instruction, Doctype, End}
 use Rattle.html5ever_interface.specs.declared.interface.token.TagKind.{TagKind}
 use Rattle.html5ever_interface.specs.declared.interface.token.TagKind.TheVariants.{StartTag, EndTag}
+use Rattle.markup5ever.proofs.NameOrder.{bytes_eq-itself}
+use Rattle.html5elements.specs.Elements.{is_void}
 use Rattle.html5write.specs.Pieces.{NameAndValue, Piece, can_write}
-use Rattle.html5write.specs.Pieces.Piece.{TextPiece}
-use Rattle.html5policy.specs.Policy.{PolicyOf, is_kept, is_noopener, is_rel_of_link}
+use Rattle.html5write.specs.Pieces.Piece.{TextPiece, StartTagPiece, EndTagPiece}
+use Rattle.html5policy.specs.Policy.{PolicyOf, is_allowed, is_kept, is_own_rel, is_rel_of_link, rel_text}
 use Rattle.html5cleaner.specs.Allowed.{is_kept_attribute, is_written_attribute, is_allowed_piece, is_clean}
-use Rattle.html5cleaner.specs.Clean.{adds_noopener, attribute_chars, allows_by_kind, is_href, noopener_attribute, where_writable, kept, kept_attributes, kept_of_parts, kept_of_run, kept_of_tag, kept_of_token, kept_where, piece_by_kind}
+use Rattle.html5cleaner.specs.Clean.{adds_rel, attribute_chars, allows_by_kind, is_break, is_href, is_lost_image, rel_attribute, where_writable, kept, kept_attributes, kept_of_parts, kept_of_run, kept_of_tag, kept_of_token, kept_where, piece_by_kind}
 use Rattle.html5cleaner.proofs.Replies.{and-left}
 
 filtered-more : {X : Type 0} (p q : X → Bool) (x : X) (xs : List X) (passes : Bool) → p x ≡ passes → (p x ≡ true → q x ≡ true) → list_all q (filter p xs) ≡ true
@@ -49,52 +52,63 @@ clean-run policy (byte ∷ run) = clean-writable policy (TextPiece (chars (byte 
 
 -- ---- attributes
 
-noopener-written : (policy : PolicyOf) (element : List ℕ) → is_rel_of_link policy (encode_utf8_all element) (codes "rel") ≡ true → is_written_attribute policy element noopener_attribute ≡ true
+rel-written : (policy : PolicyOf) (element : List ℕ) → is_rel_of_link policy (encode_utf8_all element) (codes "rel") ≡ true → is_written_attribute policy element (rel_attribute policy) ≡ true
 unfolding lib.Utf8.encode
-noopener-written policy element link =
-    or-right (is_kept policy (encode_utf8_all element) (codes "rel") (codes "noopener")) (is_noopener policy (encode_utf8_all element) (codes "rel") (codes "noopener"))
-    (ap (λ b. b && true) link)
+rel-written policy element link =
+    or-right (is_kept policy (encode_utf8_all element) (codes "rel") (rel_text policy)) (is_own_rel policy (encode_utf8_all element) (codes "rel") (rel_text policy))
+    (ap (λ b. b && bytes_eq (rel_text policy) (rel_text policy)) link ∙ bytes_eq-itself (rel_text policy))
 
-written-where : (policy : PolicyOf) (element : List ℕ) (attributes : List NameAndValue) (adds : Bool) → adds_noopener policy element attributes ≡ adds
+written-where : (policy : PolicyOf) (element : List ℕ) (attributes : List NameAndValue) (adds : Bool) → adds_rel policy element attributes ≡ adds
     → list_all (is_written_attribute policy element) attributes ≡ true
-    → list_all (is_written_attribute policy element) (if adds then attributes ++ noopener_attribute ∷ [] else attributes) ≡ true
+    → list_all (is_written_attribute policy element) (if adds then attributes ++ rel_attribute policy ∷ [] else attributes) ≡ true
 written-where policy element attributes true is all =
-    all-more (is_written_attribute policy element) attributes noopener_attribute all
-    (noopener-written policy element (and-left (is_rel_of_link policy (encode_utf8_all element) (codes "rel")) (list_any is_href attributes) is))
+    all-more (is_written_attribute policy element) attributes (rel_attribute policy) all
+    (rel-written policy element (and-left (is_rel_of_link policy (encode_utf8_all element) (codes "rel")) (list_any is_href attributes) is))
 written-where policy element attributes false is all = all
 
-written-kept : (policy : PolicyOf) (element : List ℕ) (attributes : List NameAndValue) → list_all (is_written_attribute policy element) (kept_attributes policy element attributes) ≡ true
+pub written-kept : (policy : PolicyOf) (element : List ℕ) (attributes : List NameAndValue) → list_all (is_written_attribute policy element) (kept_attributes policy element attributes) ≡ true
 unfolding kept_attributes
 written-kept policy element attributes =
     let kept = filter (is_kept_attribute policy element) attributes in
-    written-where policy element kept (adds_noopener policy element kept) refl
+    written-where policy element kept (adds_rel policy element kept) refl
     (all-filtered (is_kept_attribute policy element) (is_written_attribute policy element) attributes
-    (λ a is. or-left (is_kept_attribute policy element a) (is_noopener policy (encode_utf8_all element) (encode_utf8_all a.name) (encode_utf8_all a.value)) is))
+    (λ a is. or-left (is_kept_attribute policy element a) (is_own_rel policy (encode_utf8_all element) (encode_utf8_all a.name) (encode_utf8_all a.value)) is))
 
 -- ---- tags
+
+allowed-end_where : (policy : PolicyOf) (name : List ℕ) (breaks : Bool) → (is_allowed policy (encode_utf8_all name) && (breaks || not (is_void (encode_utf8_all name)))) ≡ true
+    → is_allowed_piece policy (if breaks then StartTagPiece name [] else EndTagPiece name) ≡ true
+unfolding is_allowed_piece
+allowed-end_where policy name true allowed = rw (and-left (is_allowed policy (encode_utf8_all name)) true allowed) refl
+allowed-end_where policy name false allowed = allowed
 
 allowed-piece : (policy : PolicyOf) (kind : TagKind) (name : List ℕ) (attributes : List NameAndValue) → allows_by_kind policy kind (encode_utf8_all name) ≡ true
     → list_all (is_written_attribute policy name) attributes ≡ true → is_allowed_piece policy (piece_by_kind kind name attributes) ≡ true
 unfolding is_allowed_piece
 allowed-piece policy StartTag name attributes allowed all = rw (allowed, all) refl
-allowed-piece policy EndTag name attributes allowed all = allowed
+allowed-piece policy EndTag name attributes allowed all = allowed-end_where policy name (is_break (encode_utf8_all name)) allowed
 
-clean-tag_where : (policy : PolicyOf) (kind : TagKind) (name : List ℕ) (attributes : List NameAndValue) (allows : Bool) → allows_by_kind policy kind (encode_utf8_all name) ≡ allows
+clean-allowed_where : (policy : PolicyOf) (kind : TagKind) (name : List ℕ) (attributes : List NameAndValue) (allows : Bool) → allows_by_kind policy kind (encode_utf8_all name) ≡ allows
     → list_all (is_written_attribute policy name) attributes ≡ true
     → list_all (is_clean policy) (if allows then where_writable (piece_by_kind kind name attributes) else []) ≡ true
-clean-tag_where policy kind name attributes true is all = clean-writable policy (piece_by_kind kind name attributes) (allowed-piece policy kind name attributes is all)
-clean-tag_where policy kind name attributes false is all = refl
+clean-allowed_where policy kind name attributes true is all = clean-writable policy (piece_by_kind kind name attributes) (allowed-piece policy kind name attributes is all)
+clean-allowed_where policy kind name attributes false is all = refl
 
 clean-parts : (policy : PolicyOf) (kind : TagKind) (name : List ℕ) (attributes : List NameAndValue) → list_all (is_written_attribute policy name) attributes ≡ true
     → list_all (is_clean policy) (kept_of_parts policy kind name attributes) ≡ true
 unfolding kept_of_parts
-clean-parts policy kind name attributes all = clean-tag_where policy kind name attributes (allows_by_kind policy kind (encode_utf8_all name)) refl all
+clean-parts policy kind name attributes all = clean-allowed_where policy kind name attributes (allows_by_kind policy kind (encode_utf8_all name)) refl all
+
+clean-tag_where : (policy : PolicyOf) (tag : TagOf) (lost : Bool)
+    → list_all (is_clean policy) (if lost then [] else kept_of_parts policy tag.kind (chars tag.name) (kept_attributes policy (chars tag.name) (map attribute_chars tag.attributes))) ≡ true
+clean-tag_where policy tag true = refl
+clean-tag_where policy tag false =
+    clean-parts policy tag.kind (chars tag.name) (kept_attributes policy (chars tag.name) (map attribute_chars tag.attributes))
+    (written-kept policy (chars tag.name) (map attribute_chars tag.attributes))
 
 clean-tag : (policy : PolicyOf) (tag : TagOf) → list_all (is_clean policy) (kept_of_tag policy tag) ≡ true
 unfolding kept_of_tag
-clean-tag policy tag =
-    clean-parts policy tag.kind (chars tag.name) (kept_attributes policy (chars tag.name) (map attribute_chars tag.attributes))
-    (written-kept policy (chars tag.name) (map attribute_chars tag.attributes))
+clean-tag policy tag = clean-tag_where policy tag (is_lost_image policy tag)
 
 clean-token : (policy : PolicyOf) (told : Told) → list_all (is_clean policy) (kept_of_token policy told) ≡ true
 clean-token policy (Tag tag) = clean-tag policy tag

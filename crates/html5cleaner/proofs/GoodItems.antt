@@ -23,7 +23,7 @@ use Rattle.html5write.specs.Pieces.{NameAndValue, Piece, are_distinct, can_write
 use Rattle.html5write.specs.Pieces.Piece.{TextPiece, StartTagPiece, EndTagPiece, CommentPiece}
 use Rattle.html5cleaner.specs.Allowed.{is_allowed_piece, is_clean, is_kept_attribute, is_written_attribute}
 use Rattle.html5cleaner.specs.Balance.{AreClean, closed_at_end, end_tags, is_end, open_by, written_by}
-use Rattle.html5cleaner.specs.Clean.{Cleaned, clean_step, kept_attributes, kept_where, noopener_attribute}
+use Rattle.html5cleaner.specs.Clean.{Cleaned, clean_step, kept_attributes, kept_where, rel_attribute}
 use Rattle.html5cleaner.specs.Shape.{all_fitted, attribute_in, open_after_all, piece_in, pieces_in, shape_by_balance, shape_of}
 use Rattle.html5cleaner.specs.Shape.Shape.{Tree}
 use Rattle.html5cleaner.proofs.CleanBalanced.{AllClean, CanClose, all-both, are_clean-more, both, can-close-by, clean-closed}
@@ -76,7 +76,7 @@ can-start name can = rw can refl
 -- an element without attributes gets none
 no-attributes : (policy : PolicyOf) (name : List ℕ) → kept_attributes policy name [] ≡ []
 unfolding kept_attributes
-no-attributes policy name = ap (λ (b : Bool). if b then noopener_attribute ∷ [] else []) (and-false (is_rel_of_link policy (encode_utf8_all name) (codes "rel")))
+no-attributes policy name = ap (λ (b : Bool). if b then rel_attribute policy ∷ [] else []) (and-false (is_rel_of_link policy (encode_utf8_all name) (codes "rel")))
 
 module _ (policy : PolicyOf) (sound : IsSound policy) (tree : policy.tree ≡ true) where
   -- ---- texts

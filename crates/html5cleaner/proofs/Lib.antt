@@ -13,6 +13,7 @@ pub mod FittingPieces
 pub mod CleanBalanced
 pub mod CleanPieces
 pub mod Links
+pub mod Images
 pub mod Steady
 pub mod GoodItems
 pub mod Tokens

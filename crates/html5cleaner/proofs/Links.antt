@@ -5,7 +5,7 @@ use Rattle.std.specs.List.{list_any}
 use Rattle.html5policy.specs.Policy.{PolicyOf, is_rel_of_link}
 use Rattle.html5write.specs.Pieces.{NameAndValue}
 use Rattle.html5cleaner.specs.Allowed.{is_kept_attribute}
-use Rattle.html5cleaner.specs.Clean.{adds_noopener, is_href, kept_attributes, noopener_attribute}
+use Rattle.html5cleaner.specs.Clean.{adds_rel, is_href, kept_attributes, rel_attribute}
 
 -- an element, by its bytes and by their characters
 pub link-then : (policy : PolicyOf) (element encoded : List ℕ) (attributes : List NameAndValue) (link has : Bool) → encoded ≡ element
@@ -22,21 +22,21 @@ link-else policy element encoded attributes link same is off =
 
 -- where nothing is written
 pub kept-plain : (policy : PolicyOf) (element : List ℕ) (attributes kept : List NameAndValue) (adds : Bool) → kept ≡ filter (is_kept_attribute policy element) attributes
-    → adds ≡ adds_noopener policy element kept → adds ≡ false → kept ≡ kept_attributes policy element attributes
+    → adds ≡ adds_rel policy element kept → adds ≡ false → kept ≡ kept_attributes policy element attributes
 unfolding kept_attributes
 kept-plain policy element attributes kept adds is adds_is off =
     let passed = filter (is_kept_attribute policy element) attributes in
-    let none : adds_noopener policy element passed ≡ false = ap (adds_noopener policy element) (sym is) ∙ sym adds_is ∙ off in
-    is ∙ sym (ap (λ b. if b then passed ++ noopener_attribute ∷ [] else passed) none)
+    let none : adds_rel policy element passed ≡ false = ap (adds_rel policy element) (sym is) ∙ sym adds_is ∙ off in
+    is ∙ sym (ap (λ b. if b then passed ++ rel_attribute policy ∷ [] else passed) none)
 
 -- and where it is
 pub kept-link : (policy : PolicyOf) (element : List ℕ) (attributes kept : List NameAndValue) (adds : Bool) → kept ≡ filter (is_kept_attribute policy element) attributes
-    → adds ≡ adds_noopener policy element kept → adds ≡ true → (kept ++ noopener_attribute ∷ []) ≡ kept_attributes policy element attributes
+    → adds ≡ adds_rel policy element kept → adds ≡ true → (kept ++ rel_attribute policy ∷ []) ≡ kept_attributes policy element attributes
 unfolding kept_attributes
 kept-link policy element attributes kept adds is adds_is on =
     let passed = filter (is_kept_attribute policy element) attributes in
-    let some : adds_noopener policy element passed ≡ true = ap (adds_noopener policy element) (sym is) ∙ sym adds_is ∙ on in
-    ap (λ l. l ++ noopener_attribute ∷ []) is ∙ sym (ap (λ b. if b then passed ++ noopener_attribute ∷ [] else passed) some)
+    let some : adds_rel policy element passed ≡ true = ap (adds_rel policy element) (sym is) ∙ sym adds_is ∙ on in
+    ap (λ l. l ++ rel_attribute policy ∷ []) is ∙ sym (ap (λ b. if b then passed ++ rel_attribute policy ∷ [] else passed) some)
 
 -- none is kept of none
 and-none : (a : Bool) → (a && false) ≡ false
@@ -45,4 +45,4 @@ and-none false = refl
 
 pub kept-none : (policy : PolicyOf) (element : List ℕ) → kept_attributes policy element [] ≡ []
 unfolding kept_attributes
-kept-none policy element = ap (λ b. if b then [] ++ noopener_attribute ∷ [] else []) (and-none (is_rel_of_link policy (encode_utf8_all element) (codes "rel")))
+kept-none policy element = ap (λ b. if b then [] ++ rel_attribute policy ∷ [] else []) (and-none (is_rel_of_link policy (encode_utf8_all element) (codes "rel")))

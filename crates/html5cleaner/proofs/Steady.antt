@@ -2,6 +2,8 @@
 use Rattle.std.proofs.Common.{◌≡◌, ℕ, zero, suc, Bool, true, false, List, [], ◌∷◌, ◌++◌, filter, map, take, chars, refl, ap, sym, ◌∙◌, subst}
 use Rattle.std.specs.Prelude.{◌==◌, ◌&&◌, ◌||◌, not, codes, encode_utf8_all, if◌then◌else◌}
 use Rattle.std.specs.List.{list_all, list_any}
+use Rattle.std.specs.Str.{bytes_eq}
+use Rattle.std.proofs.Math.Bool.{and-false}
 use Rattle.std.proofs.lemmas.Bool.{false≢true}
 use Rattle.std.proofs.lemmas.List.{append-nil, take-map}
 use Rattle.std.proofs.lemmas.List.Elements.{filter-append}
@@ -17,17 +19,20 @@ use Rattle.html5policy.proofs.Soundness.{allowed-may_keep, allowed-shows}
 use Rattle.html5write.specs.Pieces.{NameAndValue, Piece, can_write, has_no_null, is_tag_name}
 use Rattle.html5write.specs.Pieces.Piece.{TextPiece, StartTagPiece, EndTagPiece, CommentPiece}
 use Rattle.html5write.specs.Told.{attribute_told, end_tag_told, start_tag_told}
-use Rattle.html5cleaner.specs.Allowed.{is_allowed_piece, is_clean, is_kept_attribute}
+use Rattle.html5cleaner.specs.Allowed.{is_allowed_piece, is_clean, is_kept_attribute, is_written_attribute}
 use Rattle.html5cleaner.specs.Balance.{all_balanced, all_open_after, balanced, end_tags, is_end, open_after, written_by}
 use Rattle.html5cleaner.specs.Open.{closed_by}
 use Rattle.html5cleaner.specs.Shape.{shape_by_balance}
-use Rattle.html5cleaner.specs.Clean.{Cleaned, adds_noopener, at_start, allows_by_kind, attribute_chars, clean_step, is_href, kept, kept_attributes, kept_of_parts, kept_of_run, kept_of_tag, kept_of_token, kept_where, noopener_attribute, opens, piece_by_kind, where_writable, with_noopener}
+use Rattle.html5cleaner.specs.Clean.{Cleaned, adds_rel, at_start, allows_by_kind, attribute_chars, clean_step, is_break, is_href, is_lost_image, kept, kept_attributes, kept_of_parts, kept_of_run, kept_of_tag, kept_of_token, kept_where, rel_attribute, opens, piece_by_kind, where_writable, with_rel}
+use Rattle.html5elements.specs.Elements.{is_void}
 use Rattle.html5elements.specs.Hidden.{has_content}
 use Rattle.html5cleaner.proofs.Encoded.{chars-encoded}
 use lib.Utf8.{encode}
 use Rattle.html5cleaner.proofs.Replies.{and-left, and-right}
 use Rattle.html5cleaner.proofs.CleanBalanced.{CanClose, all_can-close, can-close-after, can-close-by}
-use Rattle.html5cleaner.proofs.CleanPieces.{clean-where_shown}
+use Rattle.html5cleaner.proofs.CleanPieces.{clean-where_shown, written-kept}
+use Rattle.html5cleaner.proofs.Images.{no-break, shown-image}
+use Rattle.html5cleaner.proofs.Links.{kept-none}
 
 -- ---- attributes that were kept
 
@@ -48,39 +53,39 @@ never-named true other = refl
 never-named false other = refl
 
 -- the `rel` of a link, for which the policy has a value of its own, is not kept
-rel-not_kept : (policy : PolicyOf) (element : List ℕ) → is_rel_of_link policy (encode_utf8_all element) (codes "rel") ≡ true → is_kept_attribute policy element noopener_attribute ≡ false
+rel-not_kept : (policy : PolicyOf) (element : List ℕ) → is_rel_of_link policy (encode_utf8_all element) (codes "rel") ≡ true → is_kept_attribute policy element (rel_attribute policy) ≡ false
 unfolding is_kept
 rel-not_kept policy element is =
     let named : Bool = is_named policy (encode_utf8_all element) (codes "rel") in
-    let other : Bool = not (is_address (codes "rel")) || is_safe_address policy.schemes (encode_utf8_all (codes "noopener")) in
-    ap (λ rel. is_kept policy (encode_utf8_all element) rel (encode_utf8_all (codes "noopener"))) rel-bytes
+    let other : Bool = not (is_address (codes "rel")) || is_safe_address policy.schemes (encode_utf8_all (chars policy.rel)) in
+    ap (λ rel. is_kept policy (encode_utf8_all element) rel (encode_utf8_all (chars policy.rel))) rel-bytes
     ∙ ap (λ (b : Bool). named && (not b && other)) is
     ∙ never-named named other
 
 -- whether `rel` is written after them is the same the second time
 again-by_test : (policy : PolicyOf) (element : List ℕ) (attributes : List NameAndValue) (adds : Bool)
-    → adds_noopener policy element (filter (is_kept_attribute policy element) attributes) ≡ adds
-    → with_noopener policy element (filter (is_kept_attribute policy element)
-    (if adds then filter (is_kept_attribute policy element) attributes ++ noopener_attribute ∷ [] else filter (is_kept_attribute policy element) attributes))
-    ≡ (if adds then filter (is_kept_attribute policy element) attributes ++ noopener_attribute ∷ [] else filter (is_kept_attribute policy element) attributes)
+    → adds_rel policy element (filter (is_kept_attribute policy element) attributes) ≡ adds
+    → with_rel policy element (filter (is_kept_attribute policy element)
+    (if adds then filter (is_kept_attribute policy element) attributes ++ rel_attribute policy ∷ [] else filter (is_kept_attribute policy element) attributes))
+    ≡ (if adds then filter (is_kept_attribute policy element) attributes ++ rel_attribute policy ∷ [] else filter (is_kept_attribute policy element) attributes)
 again-by_test policy element attributes false is =
     let p = is_kept_attribute policy element in
-    ap (with_noopener policy element) (filter-again p attributes)
-    ∙ ap (λ (b : Bool). if b then filter p attributes ++ noopener_attribute ∷ [] else filter p attributes) is
+    ap (with_rel policy element) (filter-again p attributes)
+    ∙ ap (λ (b : Bool). if b then filter p attributes ++ rel_attribute policy ∷ [] else filter p attributes) is
 again-by_test policy element attributes true is =
     let p = is_kept_attribute policy element in
     let F : List NameAndValue = filter p attributes in
     let rel = rel-not_kept policy element (and-left (is_rel_of_link policy (encode_utf8_all element) (codes "rel")) (list_any is_href F) is) in
-    ap (with_noopener policy element)
-    (filter-append p F (noopener_attribute ∷ [])
-    ∙ (λ i. filter-again p attributes i ++ (if rel i then noopener_attribute ∷ [] else []))
+    ap (with_rel policy element)
+    (filter-append p F (rel_attribute policy ∷ [])
+    ∙ (λ i. filter-again p attributes i ++ (if rel i then rel_attribute policy ∷ [] else []))
     ∙ append-nil F)
-    ∙ ap (λ (b : Bool). if b then F ++ noopener_attribute ∷ [] else F) is
+    ∙ ap (λ (b : Bool). if b then F ++ rel_attribute policy ∷ [] else F) is
 
 attributes-again : (policy : PolicyOf) (element : List ℕ) (attributes : List NameAndValue)
     → kept_attributes policy element (kept_attributes policy element attributes) ≡ kept_attributes policy element attributes
 unfolding kept_attributes
-attributes-again policy element attributes = again-by_test policy element attributes (adds_noopener policy element (filter (is_kept_attribute policy element) attributes)) refl
+attributes-again policy element attributes = again-by_test policy element attributes (adds_rel policy element (filter (is_kept_attribute policy element) attributes)) refl
 
 -- ---- pieces that stay
 
@@ -127,18 +132,41 @@ kept-parts policy kind name attributes allowed can =
     ap (λ allows. if allows then where_writable (piece_by_kind kind name attributes) else []) allowed
     ∙ ap (λ writable. if writable then piece_by_kind kind name attributes ∷ [] else []) can
 
+steady-start : (policy : PolicyOf) → IsSound policy → (name : List ℕ) (attributes : List NameAndValue) → kept_attributes policy name attributes ≡ attributes
+    → is_allowed policy (encode_utf8_all name) ≡ true → can_write (StartTagPiece name attributes) ≡ true → IsSteady policy (StartTagPiece name attributes)
+unfolding kept_of_tag
+steady-start policy sound name attributes same allowed can =
+    let written : list_all (is_written_attribute policy name) attributes ≡ true =
+    ap (list_all (is_written_attribute policy name)) (sym same) ∙ written-kept policy name attributes in (
+      ap (λ (lost : Bool). if lost then [] else kept_of_parts policy StartTag (chars (encode_utf8_all name))
+          (kept_attributes policy (chars (encode_utf8_all name)) (map attribute_chars (map attribute_told attributes))))
+          (shown-image policy name attributes written)
+          ∙ (λ i. kept_of_parts policy StartTag (chars-encoded name i) (kept_attributes policy (chars-encoded name i) (chars-all_told attributes i)))
+          ∙ ap (kept_of_parts policy StartTag name) same
+          ∙ kept-parts policy StartTag name attributes allowed can,
+      ap (λ hidden. hidden && has_content (start_tag_told name attributes)) (allowed-shown policy (encode_utf8_all name) sound allowed),
+    )
+
+-- an end tag, or the start tag as which `</br>` is read
+steady-end_where : (policy : PolicyOf) → IsSound policy → (name : List ℕ) (breaks : Bool) → is_break (encode_utf8_all name) ≡ breaks
+    → (is_allowed policy (encode_utf8_all name) && (breaks || not (is_void (encode_utf8_all name)))) ≡ true
+    → can_write (if breaks then StartTagPiece name [] else EndTagPiece name) ≡ true → IsSteady policy (if breaks then StartTagPiece name [] else EndTagPiece name)
+unfolding kept_of_tag
+steady-end_where policy sound name true is allowed can =
+    steady-start policy sound name [] (kept-none policy name) (and-left (is_allowed policy (encode_utf8_all name)) true allowed) can
+steady-end_where policy sound name false is allowed can =
+    ap (λ (lost : Bool). if lost then [] else kept_of_parts policy EndTag (chars (encode_utf8_all name)) (kept_attributes policy (chars (encode_utf8_all name)) []))
+    (and-false (bytes_eq (encode_utf8_all name) (codes "img")))
+    ∙ (λ i. kept_of_parts policy EndTag (chars-encoded name i) (kept_attributes policy (chars-encoded name i) []))
+    ∙ kept-parts policy EndTag name (kept_attributes policy name [])
+    (ap (λ b. is_allowed policy (encode_utf8_all name) && (b || not (is_void (encode_utf8_all name)))) is ∙ allowed)
+    (ap (λ (b : Bool). can_write (if b then StartTagPiece name [] else EndTagPiece name)) is ∙ can)
+    ∙ ap (λ (b : Bool). (if b then StartTagPiece name [] else EndTagPiece name) ∷ []) is
+
 pub steady-kind : (policy : PolicyOf) → IsSound policy → (kind : TagKind) (name : List ℕ) (attributes : List NameAndValue) → kept_attributes policy name attributes ≡ attributes
     → allows_by_kind policy kind (encode_utf8_all name) ≡ true → can_write (piece_by_kind kind name attributes) ≡ true → IsSteady policy (piece_by_kind kind name attributes)
-unfolding kept_of_tag
-steady-kind policy sound StartTag name attributes same allowed can = (
-  (λ i. kept_of_parts policy StartTag (chars-encoded name i) (kept_attributes policy (chars-encoded name i) (chars-all_told attributes i)))
-      ∙ ap (kept_of_parts policy StartTag name) same
-      ∙ kept-parts policy StartTag name attributes allowed can,
-  ap (λ hidden. hidden && has_content (start_tag_told name attributes)) (allowed-shown policy (encode_utf8_all name) sound allowed),
-)
-steady-kind policy sound EndTag name attributes same allowed can =
-    (λ i. kept_of_parts policy EndTag (chars-encoded name i) (kept_attributes policy (chars-encoded name i) []))
-    ∙ kept-parts policy EndTag name (kept_attributes policy name []) allowed can
+steady-kind policy sound StartTag name attributes same allowed can = steady-start policy sound name attributes same allowed can
+steady-kind policy sound EndTag name attributes same allowed can = steady-end_where policy sound name (is_break (encode_utf8_all name)) refl allowed can
 
 steady-by_tests : (policy : PolicyOf) → IsSound policy → (kind : TagKind) (name : List ℕ) (attributes : List NameAndValue) (allows writable : Bool)
     → kept_attributes policy name attributes ≡ attributes → allows_by_kind policy kind (encode_utf8_all name) ≡ allows → can_write (piece_by_kind kind name attributes) ≡ writable
@@ -153,11 +181,16 @@ unfolding kept_of_parts
 steady-parts policy sound kind name attributes same =
     steady-by_tests policy sound kind name attributes (allows_by_kind policy kind (encode_utf8_all name)) (can_write (piece_by_kind kind name attributes)) same refl refl
 
-steady-tag : (policy : PolicyOf) → IsSound policy → (tag : TagOf) → AreSteady policy (kept_of_tag policy tag)
-unfolding kept_of_tag
-steady-tag policy sound tag =
+steady-tag_where : (policy : PolicyOf) → IsSound policy → (tag : TagOf) (lost : Bool)
+    → AreSteady policy (if lost then [] else kept_of_parts policy tag.kind (chars tag.name) (kept_attributes policy (chars tag.name) (map attribute_chars tag.attributes)))
+steady-tag_where policy sound tag true = tt
+steady-tag_where policy sound tag false =
     steady-parts policy sound tag.kind (chars tag.name) (kept_attributes policy (chars tag.name) (map attribute_chars tag.attributes))
     (attributes-again policy (chars tag.name) (map attribute_chars tag.attributes))
+
+steady-tag : (policy : PolicyOf) → IsSound policy → (tag : TagOf) → AreSteady policy (kept_of_tag policy tag)
+unfolding kept_of_tag
+steady-tag policy sound tag = steady-tag_where policy sound tag (is_lost_image policy tag)
 
 steady-text : (policy : PolicyOf) (text : List ℕ) (writable : Bool) → has_no_null text ≡ writable → AreSteady policy (if writable then TextPiece text ∷ [] else [])
 steady-text policy text true is = (is, tt)
@@ -190,8 +223,8 @@ steady-shown policy sound depth run told = by-test (depth == 0)
 pub steady-end_tag : (policy : PolicyOf) → IsSound policy → (name : List ℕ) → is_clean policy (EndTagPiece name) ≡ true → IsSteady policy (EndTagPiece name)
 unfolding is_allowed_piece
 steady-end_tag policy sound name clean =
-    steady-kind policy sound EndTag name (kept_attributes policy name []) (attributes-again policy name [])
-    (and-left (is_allowed_piece policy (EndTagPiece name)) (can_write (EndTagPiece name)) clean)
+    let allowed = and-left (is_allowed_piece policy (EndTagPiece name)) (can_write (EndTagPiece name)) clean in
+    steady-end_where policy sound name false (no-break (encode_utf8_all name) (and-right (is_allowed policy (encode_utf8_all name)) (not (is_void (encode_utf8_all name))) allowed)) allowed
     (and-right (is_allowed_piece policy (EndTagPiece name)) (can_write (EndTagPiece name)) clean)
 
 pub steady-end_tags : (policy : PolicyOf) → IsSound policy → (references : List (List ℕ)) → CanClose policy references → AreSteady policy (end_tags references)

@@ -1,5 +1,5 @@
 -- A page that is cleaned: what is kept of each run of text and of the token after it, and what is written of that.
-use Rattle.std.specs.Prelude.{ℕ, Bool, not, List, [], ◌∷◌, ◌++◌, ◌&&◌, ◌==◌, filter, map, chars, codes, encode_utf8_all, if◌then◌else◌}
+use Rattle.std.specs.Prelude.{ℕ, Bool, not, List, [], ◌∷◌, ◌++◌, ◌&&◌, ◌||◌, ◌==◌, filter, map, chars, codes, encode_utf8_all, if◌then◌else◌}
 use Rattle.std.specs.List.{list_any}
 use Rattle.std.specs.Str.{bytes_eq}
 use Rattle.html5ever_interface.specs.Token.{Told, TagOf}
@@ -7,7 +7,7 @@ use Rattle.html5ever_interface.specs.Token.Told.{Tag}
 use Rattle.html5ever_interface.specs.declared.interface.token.TagKind.{TagKind}
 use Rattle.html5ever_interface.specs.declared.interface.token.TagKind.TheVariants.{StartTag, EndTag}
 use Rattle.markup5ever.specs.Names.{AttributeOf}
-use Rattle.html5policy.specs.Policy.{PolicyOf, hides, is_allowed, is_rel_of_link}
+use Rattle.html5policy.specs.Policy.{PolicyOf, hides, is_allowed, is_rel_of_link, refuses_address}
 use Rattle.html5write.specs.Pieces.{NameAndValue, Piece, can_write}
 use Rattle.html5write.specs.Pieces.Piece.{TextPiece, StartTagPiece, EndTagPiece}
 use Rattle.html5elements.specs.Elements.{is_void}
@@ -27,33 +27,44 @@ opens policy tag = hides policy tag.name && has_content tag
 abbrev pub attribute_chars : AttributeOf → NameAndValue
 attribute_chars a = record { name = chars a.name.local; value = chars a.value }
 
--- `rel="noopener"`
-abbrev pub noopener_attribute : NameAndValue
-noopener_attribute = record { name = codes "rel"; value = codes "noopener" }
+-- the `rel` that the policy writes into links
+abbrev pub rel_attribute : PolicyOf → NameAndValue
+rel_attribute policy = record { name = codes "rel"; value = chars policy.rel }
 
 abbrev pub is_href : NameAndValue → Bool
 is_href a = bytes_eq (encode_utf8_all a.name) (codes "href")
 
--- whether an element of this name with these attributes is a link into which the policy writes `rel="noopener"`
-abbrev pub adds_noopener : PolicyOf → List ℕ → List NameAndValue → Bool
-adds_noopener policy element attributes = is_rel_of_link policy (encode_utf8_all element) (codes "rel") && list_any is_href attributes
+-- whether an element of this name with these attributes is a link into which the policy writes its `rel`
+abbrev pub adds_rel : PolicyOf → List ℕ → List NameAndValue → Bool
+adds_rel policy element attributes = is_rel_of_link policy (encode_utf8_all element) (codes "rel") && list_any is_href attributes
 
-abbrev pub with_noopener : PolicyOf → List ℕ → List NameAndValue → List NameAndValue
-with_noopener policy element attributes =
-    if adds_noopener policy element attributes then attributes ++ noopener_attribute ∷ [] else attributes
+abbrev pub with_rel : PolicyOf → List ℕ → List NameAndValue → List NameAndValue
+with_rel policy element attributes =
+    if adds_rel policy element attributes then attributes ++ rel_attribute policy ∷ [] else attributes
 
 -- the attributes of an element of this name that are kept, and what the policy writes after them
 unfoldable pub kept_attributes : PolicyOf → List ℕ → List NameAndValue → List NameAndValue
-kept_attributes policy element attributes = with_noopener policy element (filter (is_kept_attribute policy element) attributes)
+kept_attributes policy element attributes = with_rel policy element (filter (is_kept_attribute policy element) attributes)
+
+-- an end tag of `br` is read as its start tag, without attributes
+abbrev pub is_break : List ℕ → Bool
+is_break name = bytes_eq name (codes "br")
+
+abbrev pub end_piece : List ℕ → Piece
+end_piece name = if is_break (encode_utf8_all name) then StartTagPiece name [] else EndTagPiece name
 
 abbrev pub piece_by_kind : TagKind → List ℕ → List NameAndValue → Piece
 piece_by_kind StartTag name attributes = StartTagPiece name attributes
-piece_by_kind EndTag name attributes = EndTagPiece name
+piece_by_kind EndTag name attributes = end_piece name
+
+-- whether an end tag of this name is read
+abbrev pub has_end : List ℕ → Bool
+has_end name = is_break name || not (is_void name)
 
 -- whether a tag of this kind and name is kept: an allowed element, and no end tag of an element that has none
 abbrev pub allows_by_kind : PolicyOf → TagKind → List ℕ → Bool
 allows_by_kind policy StartTag name = is_allowed policy name
-allows_by_kind policy EndTag name = is_allowed policy name && not (is_void name)
+allows_by_kind policy EndTag name = is_allowed policy name && has_end name
 
 -- a piece, where it can be written
 abbrev pub where_writable : Piece → List Piece
@@ -64,10 +75,19 @@ unfoldable pub kept_of_parts : PolicyOf → TagKind → List ℕ → List NameAn
 kept_of_parts policy kind name attributes =
     if allows_by_kind policy kind (encode_utf8_all name) then where_writable (piece_by_kind kind name attributes) else []
 
--- a tag of an allowed element, without the attributes that are not kept
+-- whether an attribute is the `src` of an image, and its address is refused
+abbrev pub is_refused_source : PolicyOf → AttributeOf → Bool
+is_refused_source policy a = bytes_eq a.name.local (codes "src") && refuses_address policy (codes "img") (codes "src") a.value
+
+-- whether it is a tag of an image with such an attribute
+abbrev pub is_lost_image : PolicyOf → TagOf → Bool
+is_lost_image policy tag = bytes_eq tag.name (codes "img") && list_any (is_refused_source policy) tag.attributes
+
+-- a tag of an allowed element, without the attributes that are not kept. An image whose address is refused is dropped
 unfoldable pub kept_of_tag : PolicyOf → TagOf → List Piece
 kept_of_tag policy tag =
-    kept_of_parts policy tag.kind (chars tag.name) (kept_attributes policy (chars tag.name) (map attribute_chars tag.attributes))
+    if is_lost_image policy tag then []
+    else kept_of_parts policy tag.kind (chars tag.name) (kept_attributes policy (chars tag.name) (map attribute_chars tag.attributes))
 
 abbrev pub kept_of_token : PolicyOf → Told → List Piece
 kept_of_token policy (Tag tag) = kept_of_tag policy tag

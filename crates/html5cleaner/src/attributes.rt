@@ -6,7 +6,7 @@ ghost use Rattle.markup5ever.specs.Names.{attribute_of};
 ghost use Rattle.html5policy.specs.Policy.{is_kept};
 ghost use Rattle.html5write.specs.Writing as writing;
 ghost use Rattle.html5cleaner.specs.Allowed.{is_kept_attribute};
-ghost use Rattle.html5cleaner.specs.Clean.{adds_noopener, attribute_chars, is_href, kept_attributes};
+ghost use Rattle.html5cleaner.specs.Clean.{adds_rel, attribute_chars, is_href, kept_attributes};
 
 use html5policy::Policy;
 use html5write::Attribute as Written;
@@ -76,12 +76,8 @@ fn has_href(attributes: &[Written<'_>]) -> bool
 }
 
 // Whether an element of this name with these attributes is a link into which the policy writes one.
-fn adds_noopener<A: Allocator>(
-    policy: &Policy<A>,
-    element: &str,
-    attributes: &[Written<'_>],
-) -> bool
-    ensures { result ≡ adds_noopener policy.now (chars element.now) (map writing.attribute_of attributes.now) }
+fn adds_rel<A: Allocator>(policy: &Policy<A>, element: &str, attributes: &[Written<'_>]) -> bool
+    ensures { result ≡ adds_rel policy.now (chars element.now) (map writing.attribute_of attributes.now) }
 {
     policy.is_rel_of_link(element, "rel") && has_href(attributes)
 }
@@ -90,7 +86,7 @@ fn adds_noopener<A: Allocator>(
 /// writes after them.
 pub fn kept_attributes<'t, A: Allocator + Copy>(
     alloc: A,
-    policy: &Policy<A>,
+    policy: &'t Policy<A>,
     element: &str,
     attributes: &'t [Attribute<A>],
 ) -> Result<Vec<Written<'t>, A>, AllocError>
@@ -98,12 +94,12 @@ pub fn kept_attributes<'t, A: Allocator + Copy>(
         ≡ kept_attributes policy.now (chars element.now) (map attribute_chars (map attribute_of attributes.now))) }
 {
     let mut kept = filtered_attributes(alloc, policy, element, attributes)?;
-    if !adds_noopener(policy, element, &kept) {
+    if !adds_rel(policy, element, &kept) {
         return Ok(kept);
     }
     kept.push(Written {
         name: "rel",
-        value: "noopener",
+        value: policy.rel(),
     })?;
     Ok(kept)
 }

@@ -91,7 +91,7 @@ fn keep_tag<A: Allocator + Copy>(
         (open_by (shape_by_balance policy.now.balance) false opened.old (kept_of_run run.now ++ kept_of_tag policy.now (tag_of tag.now))) }
 {
     let attributes = kept_attributes(alloc, policy, &tag.name.0, &tag.attrs)?;
-    let tag = kept_tag(policy, tag.kind, &tag.name.0, &attributes);
+    let tag = kept_tag(policy, tag, &attributes);
     if policy.balances() {
         return write_balanced(alloc, opened, page, run, tag);
     }

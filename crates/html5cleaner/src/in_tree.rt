@@ -206,7 +206,7 @@ fn keep_tag_with<A: Allocator + Copy>(
         (open_by (Tree opened.old.tree.limit) false opened.old.tree.opened (kept_of_run run.now ++ kept_of_tag policy.now (tag_of tag.now))) }
 {
     let run = kept_run(run);
-    let tag = kept_tag(policy, tag.kind, &tag.name.0, attributes);
+    let tag = kept_tag(policy, tag, attributes);
     write_within(alloc, policy.depth(), opened, page, &run, &tag)
 }
 

@@ -6,7 +6,7 @@ ghost use Rattle.html5policy.specs.Text.{policy_said};
 ghost use Rattle.html5programs.specs.Words.{known_options};
 
 use crate::help::{CHECK, CLEAN, LINKS, REWRITE, TEXT, TOKENS};
-use crate::policy::policy_text;
+use html5policy::standard_text;
 use html5programs::{Choice, Program};
 
 /// What the program prints of pages.
@@ -223,6 +223,6 @@ pub fn program_of(command: Command) -> Program<'static>
         name: "firnuubal",
         help: help_of(command),
         choices: choices_of(command),
-        settings: policy_text(),
+        settings: standard_text(),
     }
 }

@@ -160,10 +160,10 @@ browser builds it as it is nested.
                      everywhere ATTRIBUTE..        attributes of each element
                      schemes SCHEME..              schemes of addresses
                      hide ELEMENT..                elements dropped with what stands in them
-                     noopener                      each link gets rel=noopener
+                     rel WORD..                    each link gets these words as its rel
                      balance                       end tags close what is open, and no more
                      tree                          a browser builds the page as it is nested
-                     depth NUMBER                  how many elements may be open then, or 511
+                     depth NUMBER                  how many may be open then: 256, or 1 to 4096
                    empty lines, and lines that begin with #, say nothing
                    Example: firnuubal clean --policy policy.txt page.html
   --print-policy   the standard policy, to begin one's own from

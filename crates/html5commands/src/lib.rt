@@ -4,11 +4,9 @@
 mod command;
 mod format;
 mod help;
-mod policy;
 mod running;
 
 pub use crate::command::{Command, command_of, program_of};
 pub use crate::format::Format;
 pub use crate::help::HELP;
-pub use crate::policy::policy_text;
 pub use crate::running::{command_by_words, run, run_by_words};

@@ -1,5 +1,5 @@
 //! A page that is read with the places of its tokens as its bytes arrive.
-ghost use Rattle.std.specs.Prelude.{◌≡◌, ◌≢◌, ◌↔◌, ◌++◌, [], false, true, is_err, length, take, drop, min, Err, IfErr, IsErrAnd, OnErr, OnOk};
+ghost use Rattle.std.specs.Prelude.{◌≡◌, ◌≢◌, ◌↔◌, ◌++◌, ◌-◌, ◌^◌, [], false, true, is_err, length, take, drop, min, Err, IfErr, IsErrAnd, OnErr, OnOk};
 ghost use Rattle.std.specs.Str.{chars};
 ghost use Rattle.html5ever.specs.Tokenizer.{rules_of};
 ghost use Rattle.html5ever_interface.specs.Options.{options_of};
@@ -149,6 +149,7 @@ impl<A: Allocator + Copy> PlacedSession<A> {
         ensures rules { (reading_in result).rules ≡ rules_of (options_of opts) references }
         ensures records { result.records ≡ nothing_written }
         ensures references { result.references ≡ references }
+        ensures limit { result.limit ≡ 2 ^ 64 - 1 }
         ensures going_on { is_over result ≡ false }
     {
         let reader = PlaceReader::new(alloc, &references, opts).detach();
@@ -161,6 +162,30 @@ impl<A: Allocator + Copy> PlacedSession<A> {
             error_at: None,
             limit: u64::MAX,
         }
+    }
+
+    /// A session at the start of another page, by the same table and limit. What was written and not taken is gone.
+    pub fn restart(self, opts: TokenizerOpts<A>) -> PlacedSession<A>
+        requires { CanStart opts.initial_state }
+        ensures stands { StandsIn result (start_of (options_of opts)) [] }
+        ensures rules { (reading_in result).rules ≡ rules_of (options_of opts) self.references }
+        ensures records { result.records ≡ nothing_written }
+        ensures references { result.references ≡ self.references }
+        ensures limit { result.limit ≡ self.limit }
+        ensures going_on { is_over result ≡ false }
+    {
+        let PlacedSession {
+            alloc,
+            references,
+            reader: _,
+            records: _,
+            decoder: _,
+            error_at: _,
+            limit,
+        } = self;
+        let mut next = PlacedSession::new(alloc, references, opts);
+        next.set_limit(limit);
+        next
     }
 
     /// Whether a piece of so many bytes is within the limit (`set_limit`). What is held counts: the bytes that were read since

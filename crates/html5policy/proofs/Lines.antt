@@ -1,10 +1,12 @@
 -- Rules and lines, one after the other.
 use Rattle.std.proofs.Common.{◌≡◌, ◌⊎◌, inl, inr, ℕ, ◌+◌, List, [], ◌∷◌, Result, Ok, Err, map, refl, sym, ap, ◌∙◌}
-use Rattle.std.specs.Prelude.{false, codes}
+use Rattle.std.specs.Prelude.{IfErr, OnOk, false, codes}
 use Rattle.std.specs.Str.{bytes_eq}
 use Rattle.html5policy.specs.Policy.{PolicyOf, nothing_kept}
+use Rattle.html5policy.specs.Adding.{Adds}
 use Rattle.html5policy.specs.Rules.{RuleOf, rule_added}
-use Rattle.html5policy.specs.Text.{after_line, after_rule, begins_remark, each_said, line_added, lines, lines_added, policy_said, rules_added, rules_by_word}
+use Rattle.html5policy.specs.Rules.RuleOf.{Rel}
+use Rattle.html5policy.specs.Text.{after_line, after_rule, begins_remark, each_said, line_added, lines, lines_added, noopener_said, policy_said, rules_added, rules_by_word, said_added}
 use Rattle.html5policy.specs.declared.error.RuleError.{RuleError}
 use Rattle.html5policy.specs.declared.error.RuleError.TheVariants.{Memory, NoName, UnknownRule}
 use Rattle.html5policy.specs.declared.error.PolicyError.{PolicyError}
@@ -58,12 +60,23 @@ pub each-none : (rule : List ℕ → RuleOf) (names : List (List ℕ)) → names
 unfolding each_said
 each-none rule names is = ap (each_said rule) is
 
+-- the rule `noopener`
+pub noopener-added : {T : Type 0} (result : Result T RuleError) (p new : PolicyOf) (names : List (List ℕ)) → names ≡ []
+    → OnOk result (rule_added p (Rel (codes "noopener")) ≡ Ok new) → IfErr result (λ fault. (fault ≡ Memory) ⊎ (rule_added p (Rel (codes "noopener")) ≡ Err fault))
+    → Adds result (said_added p (noopener_said names)) new
+unfolding noopener_said
+noopener-added (Ok done) p new names none added faults =
+    ap (λ n. said_added p (noopener_said n)) none ∙ rules-ok p new (Rel (codes "noopener")) [] added ∙ rules-none new
+noopener-added (Err fault) p new names none added (inl memory) = inl memory
+noopener-added (Err fault) p new names none added (inr wrong) =
+    inr (ap (λ n. said_added p (noopener_said n)) none ∙ rules-err p fault (Rel (codes "noopener")) [] wrong)
+
 -- a word that is none of the rules
 pub unknown-word : (word : List ℕ) (names : List (List ℕ)) → begins_remark word ≡ false → bytes_eq word (codes "allow") ≡ false → bytes_eq word (codes "everywhere") ≡ false
-    → bytes_eq word (codes "schemes") ≡ false → bytes_eq word (codes "hide") ≡ false → bytes_eq word (codes "noopener") ≡ false → bytes_eq word (codes "balance") ≡ false
+    → bytes_eq word (codes "schemes") ≡ false → bytes_eq word (codes "hide") ≡ false → bytes_eq word (codes "rel") ≡ false → bytes_eq word (codes "noopener") ≡ false → bytes_eq word (codes "balance") ≡ false
     → bytes_eq word (codes "tree") ≡ false → bytes_eq word (codes "depth") ≡ false → rules_by_word word names ≡ Err UnknownRule
 unfolding rules_by_word
-unknown-word word names remark allow everywhere schemes hide noopener balance tree depth = rw (remark, allow, everywhere, schemes, hide, noopener, balance, tree, depth) refl
+unknown-word word names remark allow everywhere schemes hide rel noopener balance tree depth = rw (remark, allow, everywhere, schemes, hide, rel, noopener, balance, tree, depth) refl
 
 pub same-policy : (said : Result PolicyOf PolicyError) (p q : PolicyOf) → said ≡ Ok p → said ≡ Ok q → p ≡ q
 same-policy said p q first second = cc

@@ -1,6 +1,6 @@
 -- A rule with which nothing is wrong keeps a policy sound.
 use Rattle.std.proofs.Common.{◌≡◌, ℕ, Bool, true, false, List, [], ◌∷◌, ◌++◌, None, Some, refl, sym, ap, ◌∙◌}
-use Rattle.std.specs.Prelude.{◌||◌, ◌&&◌, codes, not, if◌then◌else◌}
+use Rattle.std.specs.Prelude.{◌||◌, ◌&&◌, ◌==◌, codes, not, if◌then◌else◌}
 use Rattle.std.specs.List.{list_all, list_any}
 use Rattle.std.specs.Str.{bytes_eq, chars}
 use Rattle.std.proofs.lemmas.Bool.{false≢true}
@@ -9,12 +9,12 @@ use Rattle.html5reading.specs.Characters.{is_white_space}
 use Rattle.html5tree.specs.Names.{all_names, is_among, kind_in, kind_of}
 use Rattle.html5write.specs.Pieces.{is_tag_name, is_attribute_name, is_name_character}
 use Rattle.markup5ever.proofs.NameOrder.{bytes_eq-itself, bytes_eq-same}
-use Rattle.html5policy.specs.Names.{acts_on_page, always_hides, has_place, is_never_kept, is_one_of, is_scheme, runs_address}
-use Rattle.html5policy.specs.Policy.{PolicyOf, implied_elements, is_allowed, nothing_kept}
-use Rattle.html5policy.specs.Rules.{IsSound, RuleOf, attribute_fault, element_fault, fault_of, hidden_fault, may_hide, may_keep, may_keep_attribute, may_keep_own, may_keep_scheme, scheme_fault, tree_fault, with_rule}
-use Rattle.html5policy.specs.Rules.RuleOf.{Element, Attribute, Everywhere, Scheme, Hidden, Noopener, Balance, Tree, Depth}
+use Rattle.html5policy.specs.Names.{acts_on_page, always_hides, has_place, is_never_kept, is_one_of, is_rel_byte, is_rel_word, is_scheme, runs_address}
+use Rattle.html5policy.specs.Policy.{PolicyOf, implied_elements, is_allowed, nothing_kept, with_word}
+use Rattle.html5policy.specs.Rules.{IsSound, RuleOf, attribute_fault, element_fault, fault_of, hidden_fault, may_hide, may_keep, may_keep_attribute, may_keep_own, may_keep_scheme, may_stand_in_rel, rel_fault, scheme_fault, tree_fault, with_rule}
+use Rattle.html5policy.specs.Rules.RuleOf.{Element, Attribute, Everywhere, Scheme, Hidden, Rel, Balance, Tree, Depth}
 use Rattle.html5policy.specs.declared.error.RuleError.{RuleError}
-use Rattle.html5policy.specs.declared.error.RuleError.TheVariants.{ActsOnPage, AllowedAndHidden, AttributeName, ElementName, HidesContent, NeverKept, NoPlace, RunsAddress, SchemeName}
+use Rattle.html5policy.specs.declared.error.RuleError.TheVariants.{ActsOnPage, AllowedAndHidden, AttributeName, ElementName, HidesContent, NeverKept, NoPlace, RelWord, RunsAddress, SchemeName}
 use Rattle.html5policy.proofs.Searches.{and-left, and-right, holds-one_of}
 
 -- ---- no fault
@@ -180,6 +180,29 @@ may_keep-implied : list_all (may_keep []) implied_elements ≡ true
 unfolding implied_elements is_one_of acts_on_page always_hides is_tag_name is_name_character is_white_space chars
 may_keep-implied = refl
 
+-- ---- words of `rel`
+
+one-passes : (word : Bool) → (if not word then Some RelWord else None) ≡ None → word ≡ true
+one-passes true none = refl
+one-passes false none = absurd cc
+
+byte-stands : (byte : ℕ) → is_rel_byte byte ≡ true → may_stand_in_rel byte ≡ true
+byte-stands byte is = or-first (is_rel_byte byte) (byte == 0x20) is
+
+word-stands : (word : List ℕ) → is_rel_word word ≡ true → list_all may_stand_in_rel word ≡ true
+unfolding is_rel_word
+word-stands [] is = absurd (false≢true is)
+word-stands (byte ∷ word) is = weaker-all is_rel_byte may_stand_in_rel byte-stands (byte ∷ word) is
+
+rel-may : (word : List ℕ) → rel_fault word ≡ None → list_all may_stand_in_rel word ≡ true
+rel-may word none = word-stands word (one-passes (is_rel_word word) none)
+
+rel-more : (rel word : List ℕ) → list_all may_stand_in_rel rel ≡ true → list_all may_stand_in_rel word ≡ true → list_all may_stand_in_rel (with_word rel word) ≡ true
+unfolding with_word
+rel-more [] word before here = here
+rel-more (byte ∷ rel) word before here =
+    all-both may_stand_in_rel (byte ∷ rel) (0x20 ∷ word) before (rw here refl)
+
 -- ---- a policy with a rule more
 
 pub sound-with_rule : (policy : PolicyOf) (rule : RuleOf) → IsSound policy → fault_of policy rule ≡ None → IsSound (with_rule policy rule)
@@ -190,6 +213,7 @@ sound-with_rule policy (Element name) sound none = record {
   everywhere = sound.everywhere;
   schemes = sound.schemes;
   hidden = sound.hidden;
+  rel = sound.rel;
   places = λ tree. all-more has_place policy.elements name (sound.places tree) (element-place policy.tree policy.hidden name none tree);
   implied = λ tree. implied-more policy.elements (name ∷ []) (sound.implied tree);
 }
@@ -199,6 +223,7 @@ sound-with_rule policy (Attribute element name) sound none = record {
   everywhere = sound.everywhere;
   schemes = sound.schemes;
   hidden = sound.hidden;
+  rel = sound.rel;
   places = sound.places;
   implied = sound.implied;
 }
@@ -208,6 +233,7 @@ sound-with_rule policy (Everywhere name) sound none = record {
   everywhere = all-more may_keep_attribute policy.everywhere name sound.everywhere (attribute-may name none);
   schemes = sound.schemes;
   hidden = sound.hidden;
+  rel = sound.rel;
   places = sound.places;
   implied = sound.implied;
 }
@@ -217,6 +243,7 @@ sound-with_rule policy (Scheme scheme) sound none = record {
   everywhere = sound.everywhere;
   schemes = all-more may_keep_scheme policy.schemes scheme sound.schemes (scheme-may scheme none);
   hidden = sound.hidden;
+  rel = sound.rel;
   places = sound.places;
   implied = sound.implied;
 }
@@ -229,15 +256,17 @@ sound-with_rule policy (Hidden name) sound none =
       everywhere = sound.everywhere;
       schemes = sound.schemes;
       hidden = all-more may_hide policy.hidden name sound.hidden (and-left (may_hide name) (not (is_one_of policy.elements name)) may);
+      rel = sound.rel;
       places = sound.places;
       implied = sound.implied;
     }
-sound-with_rule policy Noopener sound none = record {
+sound-with_rule policy (Rel word) sound none = record {
   elements = sound.elements;
   own = sound.own;
   everywhere = sound.everywhere;
   schemes = sound.schemes;
   hidden = sound.hidden;
+  rel = rel-more policy.rel word sound.rel (rel-may word none);
   places = sound.places;
   implied = sound.implied;
 }
@@ -247,6 +276,7 @@ sound-with_rule policy Balance sound none = record {
   everywhere = sound.everywhere;
   schemes = sound.schemes;
   hidden = sound.hidden;
+  rel = sound.rel;
   places = sound.places;
   implied = sound.implied;
 }
@@ -259,6 +289,7 @@ sound-with_rule policy Tree sound none =
       everywhere = sound.everywhere;
       schemes = sound.schemes;
       hidden = sound.hidden;
+      rel = sound.rel;
       places = λ tree. all-both has_place policy.elements implied_elements
           (and-left (list_all has_place policy.elements) (not (list_any (is_one_of policy.hidden) implied_elements)) may) places-implied;
       implied = λ tree. implied-kept policy.elements;
@@ -269,12 +300,13 @@ sound-with_rule policy (Depth depth) sound none = record {
   everywhere = sound.everywhere;
   schemes = sound.schemes;
   hidden = sound.hidden;
+  rel = sound.rel;
   places = sound.places;
   implied = sound.implied;
 }
 
 pub sound-nothing : IsSound nothing_kept
-sound-nothing = record { elements = refl; own = refl; everywhere = refl; schemes = refl; hidden = refl; places = λ tree. absurd (false≢true tree); implied = λ tree. absurd (false≢true tree) }
+sound-nothing = record { elements = refl; own = refl; everywhere = refl; schemes = refl; hidden = refl; rel = refl; places = λ tree. absurd (false≢true tree); implied = λ tree. absurd (false≢true tree) }
 
 -- ---- what follows
 

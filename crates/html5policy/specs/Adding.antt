@@ -2,12 +2,12 @@
 use Rattle.std.specs.Prelude.{◌≡◌, ◌⊎◌, ℕ, List, Result, Ok, Err}
 use Rattle.html5policy.specs.Policy.{PolicyOf}
 use Rattle.html5policy.specs.Rules.{RuleOf}
-use Rattle.html5policy.specs.Rules.RuleOf.{Attribute as AttributeRule, Everywhere as EverywhereRule, Scheme as SchemeRule, Hidden as HiddenRule}
+use Rattle.html5policy.specs.Rules.RuleOf.{Attribute as AttributeRule, Everywhere as EverywhereRule, Scheme as SchemeRule, Hidden as HiddenRule, Rel as RelRule}
 use Rattle.html5policy.specs.declared.error.RuleError.{RuleError}
 use Rattle.html5policy.specs.declared.error.RuleError.TheVariants.{Memory}
 use Rattle.html5policy.specs.declared.error.PolicyError.{PolicyError}
 use Rattle.html5policy.specs.declared.text.Naming.{Naming}
-use Rattle.html5policy.specs.declared.text.Naming.TheVariants.{AttributesOf, Everywhere, Schemes, Hidden}
+use Rattle.html5policy.specs.declared.text.Naming.TheVariants.{AttributesOf, Everywhere, Schemes, Hidden, Rel}
 
 -- the rule of one name
 abbrev pub naming : Naming → List ℕ → RuleOf
@@ -15,6 +15,7 @@ naming (AttributesOf element) = λ name. AttributeRule element.now name
 naming Everywhere = λ name. EverywhereRule name
 naming Schemes = λ name. SchemeRule name
 naming Hidden = λ name. HiddenRule name
+naming Rel = λ name. RelRule name
 
 -- a call left the policy that is said, or answered the fault that is said; but memory may be wanting
 abbrev pub Adds : {T : Type 0} → Result T RuleError → Result PolicyOf RuleError → PolicyOf → Type 0

@@ -2,9 +2,9 @@
 use Rattle.std.specs.Prelude.{map, string_bytes}
 use Rattle.html5policy.specs.Policy.{OwnAttribute, PolicyOf}
 use Rattle.html5policy.specs.Rules.{RuleOf}
-use Rattle.html5policy.specs.Rules.RuleOf.{Element as ElementRule, Attribute as AttributeRule, Everywhere as EverywhereRule, Scheme as SchemeRule, Hidden as HiddenRule, Noopener as NoopenerRule, Balance as BalanceRule, Tree as TreeRule, Depth as DepthRule}
+use Rattle.html5policy.specs.Rules.RuleOf.{Element as ElementRule, Attribute as AttributeRule, Everywhere as EverywhereRule, Scheme as SchemeRule, Hidden as HiddenRule, Rel as RelRule, Balance as BalanceRule, Tree as TreeRule, Depth as DepthRule}
 use Rattle.html5policy.specs.declared.rule.Rule.{Rule as RustRule}
-use Rattle.html5policy.specs.declared.rule.Rule.TheVariants.{Element, Attribute, Everywhere, Scheme, Hidden, Noopener, Balance, Tree, Depth}
+use Rattle.html5policy.specs.declared.rule.Rule.TheVariants.{Element, Attribute, Everywhere, Scheme, Hidden, Rel, Balance, Tree, Depth}
 use Rattle.html5policy.specs.declared.rules.OwnAttribute.{OwnAttribute as RustOwnAttribute}
 use Rattle.html5policy.specs.declared.rules.Rules.{Rules}
 
@@ -18,7 +18,7 @@ policy_of rules = record {
   everywhere = map string_bytes rules.everywhere.items;
   schemes = map string_bytes rules.schemes.items;
   hidden = map string_bytes rules.hidden.items;
-  noopener = rules.noopener;
+  rel = string_bytes rules.rel;
   balance = rules.balance;
   tree = rules.tree;
   depth = rules.depth;
@@ -30,7 +30,7 @@ rule_of (Attribute element name) = AttributeRule element.now name.now
 rule_of (Everywhere name) = EverywhereRule name.now
 rule_of (Scheme scheme) = SchemeRule scheme.now
 rule_of (Hidden name) = HiddenRule name.now
-rule_of Noopener = NoopenerRule
+rule_of (Rel word) = RelRule word.now
 rule_of Balance = BalanceRule
 rule_of Tree = TreeRule
 rule_of (Depth depth) = DepthRule depth

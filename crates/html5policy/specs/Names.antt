@@ -1,6 +1,6 @@
 -- Names, as the bytes of their UTF-8, of which no policy decides.
 use Rattle.std.specs.Prelude.{ℕ, Bool, true, false, List, [], ◌∷◌, ◌||◌, ◌&&◌, ◌==◌, codes, nat_eq}
-use Rattle.std.specs.Char.{is_ascii_lowercase, is_ascii_digit}
+use Rattle.std.specs.Char.{is_ascii_lowercase, is_ascii_uppercase, is_ascii_digit}
 use Rattle.std.specs.List.{list_all, list_any, starts_with}
 use Rattle.std.specs.Str.{bytes_eq}
 use Rattle.html5tree.specs.Names.{kind_of}
@@ -71,6 +71,17 @@ is_address_somewhere name =
 -- whether the value of an attribute of this name is an address
 unfoldable pub is_address : List ℕ → Bool
 is_address name = is_address_now name || is_address_of_old name || is_address_somewhere name
+
+-- ---- words of `rel`
+
+-- "ASCII alphanumeric, or U+002D (-)"
+abbrev pub is_rel_byte : ℕ → Bool
+is_rel_byte byte = is_ascii_lowercase byte || is_ascii_uppercase byte || is_ascii_digit byte || (byte == 0x2D)
+
+-- one such byte at least
+unfoldable pub is_rel_word : List ℕ → Bool
+is_rel_word [] = false
+is_rel_word (byte ∷ word) = is_rel_byte byte && list_all is_rel_byte word
 
 -- ---- schemes
 

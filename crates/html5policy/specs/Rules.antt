@@ -1,11 +1,11 @@
 -- Rules, of which a policy is made: what each says, and which no policy takes.
-use Rattle.std.specs.Prelude.{◌≡◌, ℕ, Bool, true, List, [], ◌∷◌, ◌++◌, ◌==◌, Option, None, Some, Result, Ok, Err, not, ◌&&◌, chars, if◌then◌else◌}
+use Rattle.std.specs.Prelude.{◌≡◌, ℕ, Bool, true, List, [], ◌∷◌, ◌++◌, ◌==◌, ◌||◌, nat_lt, Option, None, Some, Result, Ok, Err, not, ◌&&◌, chars, if◌then◌else◌}
 use Rattle.std.specs.List.{list_all, list_any}
 use Rattle.html5write.specs.Pieces.{is_tag_name, is_attribute_name}
-use Rattle.html5policy.specs.Names.{acts_on_page, always_hides, has_place, is_never_kept, is_one_of, is_scheme, runs_address}
-use Rattle.html5policy.specs.Policy.{OwnAttribute, PolicyOf, implied_elements}
+use Rattle.html5policy.specs.Names.{acts_on_page, always_hides, has_place, is_never_kept, is_one_of, is_rel_byte, is_rel_word, is_scheme, runs_address}
+use Rattle.html5policy.specs.Policy.{OwnAttribute, PolicyOf, implied_elements, with_word}
 use Rattle.html5policy.specs.declared.error.RuleError.{RuleError}
-use Rattle.html5policy.specs.declared.error.RuleError.TheVariants.{ActsOnPage, AllowedAndHidden, AttributeName, Depth as DepthError, ElementName, HidesContent, NeverKept, NoPlace, RunsAddress, SchemeName}
+use Rattle.html5policy.specs.declared.error.RuleError.TheVariants.{ActsOnPage, AllowedAndHidden, AttributeName, Depth as DepthError, ElementName, HidesContent, NeverKept, NoPlace, RelWord, RunsAddress, SchemeName}
 
 pub data RuleOf : Type 0 where
   -- an element is kept
@@ -18,8 +18,8 @@ pub data RuleOf : Type 0 where
   Scheme : List ℕ → RuleOf
   -- an element is dropped with what stands in it
   Hidden : List ℕ → RuleOf
-  -- links get `rel="noopener"`
-  Noopener : RuleOf
+  -- a word stands in the `rel` of links
+  Rel : List ℕ → RuleOf
   -- each end tag closes the innermost open element, and the end of a page those that are still open
   Balance : RuleOf
   -- a page is made to fit, so that a browser builds it as it is nested
@@ -63,7 +63,11 @@ tree_fault elements hidden =
     else None
 
 abbrev pub depth_fault : ℕ → Option RuleError
-depth_fault depth = if depth == 0 then Some DepthError else None
+depth_fault depth = if (depth == 0) || nat_lt 4096 depth then Some DepthError else None
+
+-- a word of `rel`
+abbrev pub rel_fault : List ℕ → Option RuleError
+rel_fault word = if not (is_rel_word word) then Some RelWord else None
 
 -- by the rules that a policy has
 unfoldable pub fault_of : PolicyOf → RuleOf → Option RuleError
@@ -72,7 +76,7 @@ fault_of policy (Attribute element name) = attribute_fault name
 fault_of policy (Everywhere name) = attribute_fault name
 fault_of policy (Scheme scheme) = scheme_fault scheme
 fault_of policy (Hidden name) = hidden_fault policy.elements name
-fault_of policy Noopener = None
+fault_of policy (Rel word) = rel_fault word
 fault_of policy Balance = None
 fault_of policy Tree = tree_fault policy.elements policy.hidden
 fault_of policy (Depth depth) = depth_fault depth
@@ -85,7 +89,7 @@ with_rule policy (Attribute element name) = record policy { own = policy.own ++ 
 with_rule policy (Everywhere name) = record policy { everywhere = policy.everywhere ++ name ∷ [] }
 with_rule policy (Scheme scheme) = record policy { schemes = policy.schemes ++ scheme ∷ [] }
 with_rule policy (Hidden name) = record policy { hidden = policy.hidden ++ name ∷ [] }
-with_rule policy Noopener = record policy { noopener = true }
+with_rule policy (Rel word) = record policy { rel = with_word policy.rel word }
 with_rule policy Balance = record policy { balance = true }
 with_rule policy Tree = record policy { elements = policy.elements ++ implied_elements; tree = true }
 with_rule policy (Depth depth) = record policy { depth = depth }
@@ -115,6 +119,10 @@ may_keep_own own = may_keep_attribute own.attribute
 abbrev pub may_keep_scheme : List ℕ → Bool
 may_keep_scheme scheme = is_scheme scheme && not (runs_address scheme)
 
+-- a byte that may stand in the value of `rel`
+abbrev pub may_stand_in_rel : ℕ → Bool
+may_stand_in_rel byte = is_rel_byte byte || (byte == 0x20)
+
 -- an element that may be hidden
 abbrev pub may_hide : List ℕ → Bool
 may_hide name = is_tag_name (chars name)
@@ -126,6 +134,7 @@ pub record IsSound (policy : PolicyOf) : Type 0 where
   pub everywhere : list_all may_keep_attribute policy.everywhere ≡ true
   pub schemes : list_all may_keep_scheme policy.schemes ≡ true
   pub hidden : list_all may_hide policy.hidden ≡ true
+  pub rel : list_all may_stand_in_rel policy.rel ≡ true
   -- by the rule `tree` each element has a place in the tree, and those that a browser makes are kept
   pub places : policy.tree ≡ true → list_all has_place policy.elements ≡ true
   pub implied : policy.tree ≡ true → list_all (is_one_of policy.elements) implied_elements ≡ true

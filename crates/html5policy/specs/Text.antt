@@ -1,11 +1,11 @@
--- The text form of a policy: a rule a line, its words separated by spaces.
-use Rattle.std.specs.Prelude.{ℕ, ◌+◌, ◌^◌, ◌==◌, ◌&&◌, nat_lt, Bool, true, false, List, [], ◌∷◌, Option, Some, None, Result, Ok, Err, codes, filter, map, if◌then◌else◌}
+-- The text form of a policy: a rule a line, its words separated by white space.
+use Rattle.std.specs.Prelude.{ℕ, ◌+◌, ◌^◌, ◌==◌, ◌&&◌, ◌||◌, nat_lt, Bool, true, false, List, [], ◌∷◌, Option, Some, None, Result, Ok, Err, codes, filter, map, if◌then◌else◌}
 use Rattle.std.specs.List.{slice_split}
 use Rattle.std.specs.Str.{all_ascii_digits, bytes_eq}
 use Rattle.std.specs.Str.Parse.{digits_value}
 use Rattle.html5policy.specs.Policy.{PolicyOf, nothing_kept}
 use Rattle.html5policy.specs.Rules.{RuleOf, rule_added}
-use Rattle.html5policy.specs.Rules.RuleOf.{Element, Attribute, Everywhere, Scheme, Hidden, Noopener, Balance, Tree, Depth}
+use Rattle.html5policy.specs.Rules.RuleOf.{Element, Attribute, Everywhere, Scheme, Hidden, Rel, Balance, Tree, Depth}
 use Rattle.html5policy.specs.declared.error.RuleError.{RuleError}
 use Rattle.html5policy.specs.declared.error.RuleError.TheVariants.{Depth as DepthError, NoName, UnknownRule, WordTooMany}
 use Rattle.html5policy.specs.declared.error.PolicyError.{PolicyError}
@@ -15,14 +15,15 @@ use Rattle.html5policy.specs.declared.error.PolicyError.{PolicyError}
 abbrev pub is_line_feed : ℕ → Bool
 is_line_feed byte = byte == 10
 
+-- a space, a tab, or the CR before a line feed
 abbrev pub is_space : ℕ → Bool
-is_space byte = byte == 32
+is_space byte = (byte == 32) || ((byte == 9) || (byte == 13))
 
 abbrev pub is_word : List ℕ → Bool
 is_word [] = false
 is_word (byte ∷ word) = true
 
--- what stands between spaces
+-- what stands between them
 unfoldable pub words : List ℕ → List (List ℕ)
 words line = filter is_word (slice_split is_space line)
 
@@ -46,9 +47,9 @@ unfoldable pub each_said : (List ℕ → RuleOf) → List (List ℕ) → Result 
 each_said rule [] = Err NoName
 each_said rule (name ∷ names) = Ok (map rule (name ∷ names))
 
--- `noopener`
+-- `noopener`, which is `rel noopener`
 unfoldable pub noopener_said : List (List ℕ) → Result (List RuleOf) RuleError
-noopener_said [] = Ok (Noopener ∷ [])
+noopener_said [] = Ok (Rel (codes "noopener") ∷ [])
 noopener_said (name ∷ names) = Err WordTooMany
 
 -- `balance`
@@ -85,6 +86,7 @@ rules_by_word word names =
     else if bytes_eq word (codes "everywhere") then each_said Everywhere names
     else if bytes_eq word (codes "schemes") then each_said Scheme names
     else if bytes_eq word (codes "hide") then each_said Hidden names
+    else if bytes_eq word (codes "rel") then each_said Rel names
     else if bytes_eq word (codes "noopener") then noopener_said names
     else if bytes_eq word (codes "balance") then balance_said names
     else if bytes_eq word (codes "tree") then tree_said names

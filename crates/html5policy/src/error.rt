@@ -45,9 +45,12 @@ pub enum RuleError {
     /// By the rule `tree` an element has a place in the tree: it is one of the 94 of which html5tree speaks.
     #[error("an element without a place in the tree can't be allowed with the rule tree")]
     NoPlace,
-    /// How many elements may be open is no number, or none from 1 to 4294967295.
-    #[error("a depth that is no number from 1 to 4294967295")]
+    /// How many elements may be open is no number, or none from 1 to 4096.
+    #[error("a depth that is no number from 1 to 4096")]
     Depth,
+    /// A word of `rel` has another character than letters and digits of ASCII and hyphens.
+    #[error("a word of rel with another character than letters, digits and hyphens")]
+    RelWord,
     /// A growth was refused.
     #[error("out of memory")]
     Memory,

@@ -1,6 +1,6 @@
 //! What is wrong with a rule.
 ghost use Rattle.std.specs.Prelude.{◌≡◌, ◌||◌, codes, false, map, string_bytes};
-ghost use Rattle.html5policy.specs.Rules.{attribute_fault, depth_fault, element_fault, fault_of, hidden_fault, scheme_fault, tree_fault};
+ghost use Rattle.html5policy.specs.Rules.{attribute_fault, depth_fault, element_fault, fault_of, hidden_fault, rel_fault, scheme_fault, tree_fault};
 ghost use Rattle.std.specs.List.{list_any};
 ghost use Rattle.html5policy.specs.Names.{is_one_of};
 ghost use Rattle.html5policy.specs.Policy.{implied_elements};
@@ -8,8 +8,8 @@ ghost use Rattle.html5policy.specs.Code.{policy_of, rule_of};
 
 use crate::error::RuleError;
 use crate::names::{
-    acts_on_page, always_hides, has_place, have_places, is_never_kept, is_one_of, is_scheme,
-    runs_address,
+    acts_on_page, always_hides, has_place, have_places, is_never_kept, is_one_of, is_rel_word,
+    is_scheme, runs_address,
 };
 use crate::rule::Rule;
 use crate::rules::Rules;
@@ -75,10 +75,11 @@ fn tree_fault<A: Allocator>(elements: &[String<A>], hidden: &[String<A>]) -> Opt
     None
 }
 
+// What is wrong with how many elements may be open.
 fn depth_fault(depth: usize) -> Option<RuleError>
     ensures { result ≡ depth_fault depth }
 {
-    if depth == 0 {
+    if depth == 0 || depth > 4096 {
         return Some(RuleError::Depth);
     }
     None
@@ -93,6 +94,16 @@ fn scheme_fault(scheme: &str) -> Option<RuleError>
     }
     if runs_address(scheme) {
         return Some(RuleError::RunsAddress);
+    }
+    None
+}
+
+// What is wrong with a word of `rel`.
+fn rel_fault(word: &str) -> Option<RuleError>
+    ensures { result ≡ rel_fault word.now }
+{
+    if !is_rel_word(word) {
+        return Some(RuleError::RelWord);
     }
     None
 }
@@ -121,7 +132,8 @@ pub fn fault_of<A: Allocator>(rules: &Rules<A>, rule: Rule<'_>) -> Option<RuleEr
         Rule::Everywhere(name) => attribute_fault(name),
         Rule::Scheme(scheme) => scheme_fault(scheme),
         Rule::Hidden(name) => hidden_fault(&rules.elements, name),
-        Rule::Noopener | Rule::Balance => None,
+        Rule::Rel(word) => rel_fault(word),
+        Rule::Balance => None,
         Rule::Tree => tree_fault(&rules.elements, &rules.hidden),
         Rule::Depth(depth) => depth_fault(depth),
     }

@@ -19,7 +19,7 @@ fn slot_of(name: &[u8]) -> usize
         return 0;
     }
     let last = name.len() - 1;
-    let sum = 38 * usize::from(name[0]) + 51 * usize::from(name[last]) + 60 * (name.len() % 16);
+    let sum = 184 * usize::from(name[0]) + 21 * usize::from(name[last]) + 165 * (name.len() % 16);
     sum % SLOTS
 }
 

@@ -19,3 +19,5 @@ pub use crate::error::{PolicyError, RuleError};
 pub use crate::names::{acts_on_page, always_hides, is_address};
 pub use crate::policy::Policy;
 pub use crate::rule::Rule;
+pub use crate::standard::standard_text;
+pub use crate::text::number_of;

@@ -12,8 +12,8 @@ pub struct Marks {
     slots: [bool; SLOTS],
 }
 
-// The slot of a name. Of the standard policy's attributes none shares a slot with `class`, `content`, `id`, `name`, `rel`,
-// `style` and `type`.
+// The slot of a name. Of the standard policy's attributes none shares a slot with `class`, `content`, `id`, `name` and `rel`;
+// `scope` shares that of `style`.
 #[tactic(auto, unfolding(crate::specs::Marks::slot_of))]
 fn slot_of(name: &[u8]) -> usize
     ensures slot { result ≡ slot_of name.now }

@@ -1,7 +1,7 @@
 //! Names of which no policy decides.
 ghost use Rattle.std.specs.Prelude.{◌≡◌, map, string_bytes};
 ghost use Rattle.std.specs.List.{list_all};
-ghost use Rattle.html5policy.specs.Names.{acts_on_page, always_hides, has_place, is_address, is_address_now, is_address_of_old, is_address_somewhere, is_never_kept, is_one_of, is_scheme, is_scheme_byte, runs_address};
+ghost use Rattle.html5policy.specs.Names.{acts_on_page, always_hides, has_place, is_address, is_address_now, is_address_of_old, is_address_somewhere, is_never_kept, is_one_of, is_rel_byte, is_rel_word, is_scheme, is_scheme_byte, runs_address};
 
 use html5tree::kinds::Kind;
 use html5tree::names::ElementName;
@@ -169,6 +169,31 @@ pub fn is_address(name: &str) -> bool
     ensures { result ≡ is_address name.now }
 {
     is_address_now(name) || is_address_of_old(name) || is_address_somewhere(name)
+}
+
+// Whether a byte can stand in a word of `rel`.
+fn is_rel_byte(byte: u8) -> bool
+    ensures { result ≡ is_rel_byte byte }
+{
+    byte.is_ascii_lowercase() || byte.is_ascii_uppercase() || byte.is_ascii_digit() || byte == b'-'
+}
+
+// Whether each byte can.
+fn has_rel_bytes(bytes: &[u8]) -> bool
+    ensures { result ≡ list_all is_rel_byte bytes.now }
+{
+    bytes.iter().all(|byte| is_rel_byte(*byte))
+}
+
+/// Whether a text is a word of `rel`: letters and digits of ASCII, and hyphens.
+#[tactic(auto, unfolding(crate::specs::Names::is_rel_word))]
+pub fn is_rel_word(word: &str) -> bool
+    ensures { result ≡ is_rel_word word.now }
+{
+    match word.as_bytes().split_first() {
+        Some((first, others)) => is_rel_byte(*first) && has_rel_bytes(others),
+        None => false,
+    }
 }
 
 // Whether a byte can stand in a scheme.

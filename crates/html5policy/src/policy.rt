@@ -1,6 +1,6 @@
 //! A policy: what is kept of a page.
 ghost use Rattle.std.specs.Prelude.{◌≡◌, ◌⊎◌, IfErr, IfOk, Ok, Err, OnErr, OnOk, codes};
-ghost use Rattle.html5policy.specs.Policy.{hides, is_allowed, is_kept, is_named, is_rel_of_link, nothing_kept};
+ghost use Rattle.html5policy.specs.Policy.{hides, is_allowed, is_kept, is_named, is_rel_of_link, nothing_kept, refuses_address};
 ghost use Rattle.html5policy.specs.Rules.{IsSound, rule_added};
 ghost use Rattle.html5policy.specs.Code.{rule_of};
 ghost use Rattle.html5policy.specs.declared.error.RuleError.{RuleError};
@@ -89,7 +89,14 @@ impl<A: Allocator> Policy<A> {
     pub fn is_rel_of_link(&self, element: &str, attribute: &str) -> bool
         ensures { result ≡ is_rel_of_link self.now element.now attribute.now }
     {
-        self.rules.noopener && element == "a" && attribute == "rel"
+        !self.rules.rel.is_empty() && element == "a" && attribute == "rel"
+    }
+
+    /// The value of `rel` that links get: the words of its rules, with spaces between. It is empty where they get none.
+    pub fn rel(&self) -> &str
+        ensures { result.now ≡ self.now.rel }
+    {
+        &self.rules.rel
     }
 
     /// Whether a page that it keeps is balanced: each end tag closes the innermost open element, and at
@@ -133,6 +140,14 @@ impl<A: Allocator> Policy<A> {
         self.is_named(element, attribute)
             && !self.is_rel_of_link(element, attribute)
             && (!is_address(attribute) || is_safe_address(&self.rules.schemes, value.as_bytes()))
+    }
+
+    /// Whether an attribute of this name is kept in elements of that name, but not with this address.
+    pub fn refuses_address(&self, element: &str, attribute: &str, address: &str) -> bool
+        ensures { result ≡ refuses_address self.now element.now attribute.now address.now }
+    {
+        self.is_named(element, attribute)
+            && !is_safe_address(&self.rules.schemes, address.as_bytes())
     }
 
     /// Each policy is sound. It does nothing at run time.

@@ -13,8 +13,8 @@ pub enum Rule<'t> {
     Scheme(&'t str),
     /// Elements of this name are dropped with what stands in them.
     Hidden(&'t str),
-    /// An `a` with an `href` gets `rel="noopener"`.
-    Noopener,
+    /// This word stands in the `rel` of each `a` with an `href`, after those of the rules before.
+    Rel(&'t str),
     /// Each end tag closes the innermost open element, and at the end of a page none is open.
     Balance,
     /// A page is made to fit, so that a browser builds it as it is nested. It keeps the elements that a browser

@@ -1,6 +1,6 @@
 //! The rules of a policy, as they are stored.
-ghost use Rattle.std.specs.Prelude.{◌≡◌, ◌<◌, ◌+◌, ◌≤◌, ◌++◌, ◌∷◌, [], OnOk, OnErr, map, string_bytes, vec_capacity, vec_len};
-ghost use Rattle.html5policy.specs.Policy.{implied_elements, is_own, nothing_kept};
+ghost use Rattle.std.specs.Prelude.{◌≡◌, ◌<◌, ◌+◌, ◌≤◌, ◌++◌, ◌∷◌, [], IfOk, OnOk, OnErr, map, string_bytes, vec_capacity, vec_len};
+ghost use Rattle.html5policy.specs.Policy.{implied_elements, is_own, nothing_kept, with_word};
 ghost use Rattle.html5policy.specs.Marks.{AllMarked};
 ghost use Rattle.html5policy.specs.Rules.{with_rule};
 ghost use Rattle.html5policy.specs.Code.{own_of, policy_of, rule_of};
@@ -9,6 +9,9 @@ use crate::guesses::Guesses;
 use crate::marks::Marks;
 use crate::rule::Rule;
 use std::alloc::{AllocError, Allocator};
+
+// How many elements may be open where no rule says it.
+const STANDARD_DEPTH: usize = 256;
 
 /// An attribute that is kept in elements of that name.
 #[derive(Drop)]
@@ -29,7 +32,8 @@ pub struct Rules<A: Allocator> {
     pub everywhere: Vec<String<A>, A>,
     pub schemes: Vec<String<A>, A>,
     pub hidden: Vec<String<A>, A>,
-    pub noopener: bool,
+    /// The value of `rel` that links get, or nothing.
+    pub rel: String<A>,
     pub balance: bool,
     pub tree: bool,
     pub depth: usize,
@@ -100,6 +104,20 @@ fn push_own<A: Allocator + Copy>(
     Ok(())
 }
 
+// A value of `rel` with one word more.
+#[tactic(auto, unfolding(crate::specs::Policy::with_word))]
+fn with_word<A: Allocator + Copy>(alloc: A, rel: &str, word: &str) -> Result<String<A>, AllocError>
+    ensures { IfOk result (λ longer. string_bytes longer ≡ with_word rel.now word.now) }
+{
+    if rel.is_empty() {
+        return String::from_str(alloc, word);
+    }
+    let mut longer = String::from_str(alloc, rel)?;
+    longer.push(' ')?;
+    longer.push_str(word)?;
+    Ok(longer)
+}
+
 /// Whether an attribute of this name is among those of an element of that name.
 #[tactic(auto, unfolding(crate::specs::Policy::is_own))]
 pub fn is_own<A: Allocator>(attributes: &[OwnAttribute<A>], element: &str, attribute: &str) -> bool
@@ -127,10 +145,10 @@ impl<A: Allocator + Copy> Rules<A> {
             everywhere: Vec::new(alloc),
             schemes: Vec::new(alloc),
             hidden: Vec::new(alloc),
-            noopener: false,
+            rel: String::new(alloc),
             balance: false,
             tree: false,
-            depth: 511,
+            depth: STANDARD_DEPTH,
         }
     }
 
@@ -156,8 +174,8 @@ impl<A: Allocator + Copy> Rules<A> {
             }
             Rule::Scheme(scheme) => push_name(alloc, &mut self.schemes, scheme),
             Rule::Hidden(name) => push_name(alloc, &mut self.hidden, name),
-            Rule::Noopener => {
-                self.noopener = true;
+            Rule::Rel(word) => {
+                self.rel = with_word(alloc, &self.rel, word)?;
                 Ok(())
             }
             Rule::Balance => {

@@ -20,6 +20,7 @@ pub enum Naming<'t> {
     Everywhere,
     Schemes,
     Hidden,
+    Rel,
 }
 
 // The rule of one name.
@@ -31,6 +32,7 @@ fn rule_named<'t>(kind: Naming<'t>, name: &'t str) -> Rule<'t>
         Naming::Everywhere => Rule::Everywhere(name),
         Naming::Schemes => Rule::Scheme(name),
         Naming::Hidden => Rule::Hidden(name),
+        Naming::Rel => Rule::Rel(name),
     }
 }
 
@@ -86,7 +88,7 @@ fn add_noopener<A: Allocator + Copy>(policy: &mut Policy<A>, names: &str) -> Res
 {
     match next_word(names) {
         Some(_) => Err(RuleError::WordTooMany),
-        None => policy.add(Rule::Noopener),
+        None => policy.add(Rule::Rel("noopener")),
     }
 }
 
@@ -112,9 +114,9 @@ fn add_tree<A: Allocator + Copy>(policy: &mut Policy<A>, names: &str) -> Result<
     }
 }
 
-// A number in decimal digits: at least 1, and below 2 ^ 32.
+/// A number in decimal digits: at least 1, and below 2 ^ 32. The rule `depth` takes not all of them.
 #[tactic(auto, unfolding(crate::specs::Text::number_said))]
-fn number_of(digits: &str) -> Option<usize>
+pub fn number_of(digits: &str) -> Option<usize>
     ensures { result ≡ number_said digits.now }
 {
     if !digits.bytes().all(|byte| byte.is_ascii_digit()) {
@@ -181,6 +183,7 @@ fn add_rules<A: Allocator + Copy>(
         "everywhere" => add_some(policy, Naming::Everywhere, names),
         "schemes" => add_some(policy, Naming::Schemes, names),
         "hide" => add_some(policy, Naming::Hidden, names),
+        "rel" => add_some(policy, Naming::Rel, names),
         "noopener" => add_noopener(policy, names),
         "balance" => add_balance(policy, names),
         "tree" => add_tree(policy, names),
@@ -218,9 +221,9 @@ fn add_numbered<A: Allocator + Copy>(
 }
 
 impl<A: Allocator + Copy> Policy<A> {
-    /// The policy that a text says: a rule a line, its words separated by spaces. `allow ELEMENT
-    /// [ATTRIBUTE..]`, `everywhere ATTRIBUTE..`, `schemes SCHEME..`, `hide ELEMENT..`, `noopener`, `balance`,
-    /// `tree` and `depth NUMBER`. Empty lines, and lines that begin with `#`, say nothing.
+    /// The policy that a text says: a rule a line, its words separated by spaces or tabs. `allow ELEMENT
+    /// [ATTRIBUTE..]`, `everywhere ATTRIBUTE..`, `schemes SCHEME..`, `hide ELEMENT..`, `rel WORD..`, `noopener`,
+    /// `balance`, `tree` and `depth NUMBER`. Empty lines, and lines that begin with `#`, say nothing.
     pub fn parse(alloc: A, text: &str) -> Result<Policy<A>, PolicyError>
         ensures said { IfOk result (λ policy. policy_said text.now ≡ Ok policy) }
         ensures fault { IfErr result (λ error. (error.fault ≡ Memory) ⊎ (policy_said text.now ≡ Err error)) }

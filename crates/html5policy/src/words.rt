@@ -8,7 +8,7 @@ pub fn next_word(line: &str) -> Option<(&str, &str)>
         (λ found. (words line.now ≡ found.0.now ∷ words found.1.now) × (length found.1.now < length line.now)) }
 {
     let mut left = line;
-    while let Some((word, rest)) = left.split_once(' ') {
+    while let Some((word, rest)) = left.split_once([' ', '\t', '\r']) {
         if !word.is_empty() {
             return Some((word, rest));
         }

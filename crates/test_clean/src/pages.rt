@@ -5,13 +5,13 @@ use markup5ever::data::NamedReferences;
 use std::alloc::{Allocator, Global};
 use testing_alloc::Refusing;
 
-const RULES: &str = "allow a href rel\nallow p title\nhide form\nnoopener\ntree\n";
+const RULES: &str = "allow a href rel\nallow p title\nhide form\nrel noopener me\ntree\n";
 
 const PAGE: &str =
     "<p title=a>a text of some length &#60;<script>b</script><a href=c rel=d>e<form>f</form><p>so that the page grows";
 
 const WANTED: &str =
-    "<p title=\"a\">a text of some length &#60;<a href=\"c\" rel=\"noopener\">e</a></p><p>so that the page grows</p>";
+    "<p title=\"a\">a text of some length &#60;<a href=\"c\" rel=\"noopener me\">e</a></p><p>so that the page grows</p>";
 
 // Whether what is kept is what is wanted, or nothing where a growth was refused.
 fn keeps<A: Allocator + Copy>(alloc: A) -> Option<bool> {

@@ -13,8 +13,12 @@ What the library says is proved; this package, which calls it and reads its reco
 `Tokenizer` or a `Cleaner` as pieces arrive: no call waits.
 """
 
-from ._cleaner import ALLOWED_ATTRIBUTES, ALLOWED_TAGS, ALLOWED_URL_SCHEMES, Cleaner, Policy, clean
-from ._errors import PolicyError, Status, TokenizerError
+__version__ = "0.19.0"
+
+# The modules compare the library's version with that one, so they come after it.
+from ._cleaner import Cleaner, clean
+from ._errors import PolicyError, PolicyFault, Status, TokenizerError
+from ._policy import ALLOWED_ATTRIBUTES, ALLOWED_TAGS, ALLOWED_URL_SCHEMES, Policy
 from ._readers import IS_FAST
 from ._records import (
     Comment,
@@ -31,8 +35,6 @@ from ._records import (
     Token,
 )
 from ._tokenizer import Fed, Replies, State, Tokenizer, links, placed_tokens, text, tokens
-
-__version__ = "0.18.0"
 
 __all__ = [
     "ALLOWED_ATTRIBUTES",
@@ -52,6 +54,7 @@ __all__ = [
     "Placed",
     "Policy",
     "PolicyError",
+    "PolicyFault",
     "Replies",
     "StartTag",
     "State",

@@ -3,17 +3,29 @@
 import ctypes
 import os
 import pathlib
+import re
+from typing import Any, List, Optional, Tuple
 
-from ._errors import Status
+from . import __version__
 
 NAME = "libfirnuubal.so"
 HERE = pathlib.Path(__file__).resolve().parent
 
 
 class Handle(ctypes.Structure):
-    """What a call is given: html5_handle of firnuubal.h. One of zeros is closed."""
+    """What a call is given: html5_handle of firnuubal.h. One of zeros is closed. It frees what it holds when it goes."""
 
     _fields_ = [("at", ctypes.c_void_p), ("is_open", ctypes.c_bool)]
+
+    # Set once the library is loaded. Held here, since a handle may go while Python ends, when modules are empty.
+    _free: Any = None
+
+    def close(self) -> None:
+        """Gives the memory back."""
+        if self.is_open:
+            self._free(self)
+
+    __del__ = close
 
 
 class Options(ctypes.Structure):
@@ -30,6 +42,7 @@ class Options(ctypes.Structure):
 
 
 _HANDLE = ctypes.POINTER(Handle)
+# Each pair is given bytes of just that type, and their length. A length that isn't theirs reads memory that isn't there.
 _BYTES = [ctypes.c_char_p, ctypes.c_size_t]
 _STATUS = ctypes.c_uint32
 
@@ -50,47 +63,79 @@ _CALLS = {
     "html5_error_code": ([*_BYTES, *_BYTES], ctypes.c_size_t),
     "html5_is_over": ([_HANDLE], ctypes.c_bool),
     "html5_free": ([_HANDLE], None),
+    "html5_policy_new": ([_HANDLE], _STATUS),
+    "html5_policy_add": ([_HANDLE, ctypes.c_uint32, *_BYTES, *_BYTES], _STATUS),
+    "html5_cleaner_begin": ([_HANDLE], _STATUS),
     "html5_cleaner_new": ([_HANDLE, *_BYTES, ctypes.POINTER(ctypes.c_uint64)], _STATUS),
     "html5_cleaner_restart": ([_HANDLE], _STATUS),
     "html5_cleaner_feed": ([_HANDLE, *_BYTES], _STATUS),
     "html5_cleaner_end": ([_HANDLE], _STATUS),
     "html5_cleaner_take": ([_HANDLE, *_BYTES], ctypes.c_size_t),
     "html5_cleaner_error_at": ([_HANDLE], ctypes.c_uint64),
-    "html5_cleaner_is_over": ([_HANDLE], ctypes.c_bool),
 }
 
 
-def _folders():
-    """Where the library may be: where it is said to be, in the package, or in the repository around it."""
-    if "FIRNUUBAL_LIB" in os.environ:
-        return [pathlib.Path(os.environ["FIRNUUBAL_LIB"])]
-    top = HERE.parents[3] if len(HERE.parents) > 3 else HERE
-    return [HERE, top / "bindings" / "out", top / "dist"]
+def _tree() -> Optional[pathlib.Path]:
+    """The source tree around the package, where it stands in one: its bindings/python is the project of this name."""
+    if HERE.parts[-4:-1] != ("bindings", "python", "src"):
+        return None
+    project = HERE.parents[1] / "pyproject.toml"
+    if not project.is_file() or not re.search('^name = "firnuubal"$', project.read_text(encoding="utf-8"), re.MULTILINE):
+        return None
+    return HERE.parents[3]
 
 
-def _load():
-    found = [folder / NAME for folder in _folders() if (folder / NAME).is_file()]
-    if not found:
-        places = ", ".join(str(folder) for folder in _folders())
-        raise ImportError(f"{NAME} is in none of {places}: install the wheel in dist/, or run bindings/build.sh")
-    loaded = ctypes.CDLL(str(found[0]))
+def _folders() -> List[pathlib.Path]:
+    """Where the library may be: where it is said to be, or else in the package, or in the source tree around it."""
+    said = os.environ.get("FIRNUUBAL_LIB")
+    if said:
+        return [pathlib.Path(said).absolute()]
+    tree = _tree()
+    return [HERE, tree / "bindings" / "out", tree / "dist"] if tree else [HERE]
+
+
+def _version(loaded: ctypes.CDLL) -> str:
+    """The version that a library says of itself."""
+    try:
+        call = loaded.html5_version
+    except AttributeError:
+        return "another version"
+    call.argtypes, call.restype = [], ctypes.c_uint32
+    number = call()
+    return f"version {number >> 16}.{number >> 8 & 0xFF}.{number & 0xFF}"
+
+
+def _load() -> Tuple[ctypes.CDLL, pathlib.Path]:
+    folders = _folders()
+    found = next((folder for folder in folders if (folder / NAME).is_file()), None)
+    if found is None:
+        places = ", ".join(map(str, folders))
+        raise ImportError(f"{NAME} is not in {places}: install the wheel, or build it with bindings/build.sh")
+    try:
+        loaded = ctypes.CDLL(str(found / NAME))
+    except OSError as error:
+        raise ImportError(f"{found / NAME} can't be loaded: {error}") from error
+    version = _version(loaded)
+    if version != f"version {__version__}":
+        raise ImportError(f"{found / NAME} is of {version}, and the package firnuubal of version {__version__}")
     for name, (arguments, answer) in _CALLS.items():
         function = getattr(loaded, name)
         function.argtypes, function.restype = arguments, answer
-    return loaded, found[0].parent
+    return loaded, found
 
 
 # The library, and the folder where it was found.
 library, FOLDER = _load()
+Handle._free = staticmethod(library.html5_free)
 
 ROOM = 1 << 16
 
 
-def taken(take, handle, room):
+def taken(take: Any, handle: Any, room: Any) -> bytes:
     """All the bytes that wait in a handle."""
     count = take(handle, room, ROOM)
     if count < ROOM:
-        return room[:count]
+        return room[:count]  # type: ignore[no-any-return]
     parts = [room[:count]]
     while count == ROOM:
         count = take(handle, room, ROOM)
@@ -98,69 +143,20 @@ def taken(take, handle, room):
     return b"".join(parts)
 
 
-# The encoding of a page of which nothing is said: the page tells.
-AUTO = "auto"
-
-
-def set_encoding(handle, encoding):
-    """Reads a handle's page in the encoding of a label, or in the one that the page tells. It answers the status."""
-    label = b"" if encoding == AUTO else encoding.encode("utf-8", "surrogatepass")
-    status = library.html5_set_encoding(handle, label, len(label))
-    if status == Status.BAD_OPTION or encoding == "":
-        raise LookupError(f"unknown encoding: {encoding}")
-    return status
-
-
-def encoding_of(handle):
+def encoding_of(handle: Handle) -> Optional[str]:
     """The name of the encoding in which a handle's page is read, once it is known."""
     name = ctypes.create_string_buffer(16)
-    return name[: library.html5_encoding(handle, name, len(name))].decode() or None
+    count = library.html5_encoding(handle, name, len(name))
+    return name.raw[:count].decode() or None
 
 
 # There is room for each code in so many bytes.
 _CODE_ROOM = 64
 
 
-def error_code(message):
+def error_code(message: str) -> Optional[str]:
     """The code that the standard has for a parse error with this message, if it has one."""
-    text = message.encode("utf-8", "surrogatepass")
+    text = str.encode(message, "utf-8", "surrogatepass")
     code = ctypes.create_string_buffer(_CODE_ROOM)
-    return code[: library.html5_error_code(text, len(text), code, len(code))].decode() or None
-
-
-def as_bytes(piece):
-    """A piece of a page that has an encoding, which is no text."""
-    if isinstance(piece, str):
-        raise TypeError("a text is in no encoding: hand in bytes, or leave the encoding out")
-    return bytes_of(piece)
-
-
-def bytes_of(piece):
-    """A piece of a page as bytes: a text as its UTF-8."""
-    if isinstance(piece, bytes):
-        return piece
-    if isinstance(piece, str):
-        return piece.encode()
-    return bytes(memoryview(piece))
-
-
-def pieces_of(page, size=ROOM, to_bytes=bytes_of):
-    """The pieces of a page: of a text, of bytes, of a file of either, or of an iterable of either."""
-    if isinstance(page, str):
-        page = to_bytes(page)
-    if isinstance(page, (bytes, bytearray, memoryview)):
-        view = memoryview(page).cast("B")
-        return (bytes(view[at : at + size]) for at in range(0, len(view), size))
-    if hasattr(page, "read"):
-        return _pieces_of_file(page, size, to_bytes)
-    return (to_bytes(piece) for piece in page)
-
-
-def _pieces_of_file(file, size, to_bytes):
-    while True:
-        piece = file.read(size)
-        if piece is None:
-            raise BlockingIOError("the page's read() gave None: it has no bytes now, and doesn't wait for more")
-        if not piece:
-            return
-        yield to_bytes(piece)
+    count = library.html5_error_code(text, len(text), code, len(code))
+    return code.raw[:count].decode() or None

@@ -2,7 +2,7 @@
 
 from typing import List
 
-from ._records import ParseError, Placed
+from ._records import ParseError, Placed, Token
 
 
 class Characters:
@@ -11,7 +11,7 @@ class Characters:
     A token begins no earlier than the one before it ended, errors apart, and so does the text before it. Errors come before
     the text in which they stand. So what stands before the last token that is no error is let go."""
 
-    def __init__(self):
+    def __init__(self) -> None:
         # What was fed, from this byte on.
         self._data = bytearray()
         self._first = 0
@@ -29,13 +29,13 @@ class Characters:
         self._first = self._end[0]
         return found
 
-    def _told(self, token, begin, end):
+    def _told(self, token: Token, begin: int, end: int) -> Placed:
         found = Placed(token, self._character(begin), self._character(end))
         if type(token) is not ParseError:
             self._end = self._last
         return found
 
-    def _character(self, byte):
+    def _character(self, byte: int) -> int:
         begin, number = self._last if self._last[0] <= byte else self._end
         number += len(self._data[begin - self._first : byte - self._first].decode())
         self._last = byte, number

@@ -4,24 +4,35 @@ The extension stands in the package or beside the library. With FIRNUUBAL_PURE=1
 """
 
 import functools
+import importlib.machinery
+import importlib.util
 import os
 import sys
+import warnings
 from typing import Any, Callable
 
 from . import _records
-from ._library import FOLDER
+from ._library import FOLDER, HERE
+
+_NAME = f"{__package__}._fast"
 
 
-def _extension():
-    """The extension, or None."""
+def _extension() -> Any:
+    """The extension, or None where there is none for this Python, as on PyPy."""
     if os.environ.get("FIRNUUBAL_PURE"):
         return None
-    sys.modules[__package__].__path__.append(str(FOLDER))
-    try:
-        from . import _fast
-    except ImportError:
+    spec = importlib.machinery.PathFinder.find_spec(_NAME, [str(HERE), str(FOLDER)])
+    if spec is None or spec.loader is None:
         return None
-    return _fast
+    try:
+        module = importlib.util.module_from_spec(spec)
+        spec.loader.exec_module(module)
+    except ImportError as error:
+        warnings.warn(f"{spec.origin} can't be imported, so pages are read more slowly: {error}", RuntimeWarning, stacklevel=2)
+        return None
+    sys.modules[_NAME] = module
+    setattr(sys.modules[__package__], "_fast", module)
+    return module
 
 
 _extended = _extension()

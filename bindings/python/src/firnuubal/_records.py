@@ -4,24 +4,37 @@ The extension `_fast`, where it is there, has these readers in C (native/_fast.c
 """
 
 import struct
-from typing import Iterable, List, Mapping, NamedTuple, Optional, Tuple, Union
+from typing import Any, Iterable, List, Mapping, NamedTuple, Optional, Tuple, TypeVar, Union, overload
 
 from ._library import error_code
 
 
-def _is_same(token, other):
-    """Equal tokens are of one kind, too."""
-    return type(token) is type(other) and tuple.__eq__(token, other)
+_Default = TypeVar("_Default")
 
 
-def _is_other(token, other):
+_Kind = TypeVar("_Kind", bound=type)
+
+
+def _is_same(token: Any, other: object) -> bool:
+    return type(token) is type(other) and bool(tuple.__eq__(token, other))
+
+
+def _is_other(token: Any, other: object) -> bool:
     return not _is_same(token, other)
 
 
-def _hash(token):
+def _hash(token: Any) -> int:
     return hash((type(token).__name__, tuple(token)))
 
 
+def _token(kind: _Kind) -> _Kind:
+    """A class of tokens: equal ones are of one kind, too."""
+    for name, method in (("__eq__", _is_same), ("__ne__", _is_other), ("__hash__", _hash)):
+        setattr(kind, name, method)
+    return kind
+
+
+@_token
 class StartTag(NamedTuple):
     """A start tag, with the line on which its `>` stands, and its attributes as pairs of a name and a value."""
 
@@ -30,13 +43,19 @@ class StartTag(NamedTuple):
     attributes: Tuple[Tuple[str, str], ...]
     self_closing: bool
     duplicate_attributes: bool
-    __eq__, __ne__, __hash__ = _is_same, _is_other, _hash
 
-    def get(self, name, default=None):
+    @overload
+    def get(self, name: str) -> Optional[str]: ...
+
+    @overload
+    def get(self, name: str, default: _Default) -> Union[str, _Default]: ...
+
+    def get(self, name: str, default: object = None) -> object:
         """The value of the attribute of this name."""
         return next((value for own, value in self.attributes if own == name), default)
 
 
+@_token
 class EndTag(NamedTuple):
     """An end tag."""
 
@@ -45,33 +64,33 @@ class EndTag(NamedTuple):
     attributes: Tuple[Tuple[str, str], ...]
     self_closing: bool
     duplicate_attributes: bool
-    __eq__, __ne__, __hash__ = _is_same, _is_other, _hash
 
 
+@_token
 class Text(NamedTuple):
     """A run of text, all of it, however it was fed, with the line on which it begins."""
 
     line: int
     text: str
-    __eq__, __ne__, __hash__ = _is_same, _is_other, _hash
 
 
+@_token
 class Comment(NamedTuple):
     """A comment, with the line on which it ends."""
 
     line: int
     text: str
-    __eq__, __ne__, __hash__ = _is_same, _is_other, _hash
 
 
+@_token
 class Instruction(NamedTuple):
     """A processing instruction: what stands between `<?` and `>`."""
 
     line: int
     content: str
-    __eq__, __ne__, __hash__ = _is_same, _is_other, _hash
 
 
+@_token
 class Doctype(NamedTuple):
     """A document type. A part that it lacks is None."""
 
@@ -80,22 +99,21 @@ class Doctype(NamedTuple):
     public_id: Optional[str]
     system_id: Optional[str]
     force_quirks: bool
-    __eq__, __ne__, __hash__ = _is_same, _is_other, _hash
 
 
+@_token
 class NullCharacter(NamedTuple):
     """U+0000 in text."""
 
     line: int
-    __eq__, __ne__, __hash__ = _is_same, _is_other, _hash
 
 
+@_token
 class ParseError(NamedTuple):
     """A parse error, with its message as html5ever has it."""
 
     line: int
     message: str
-    __eq__, __ne__, __hash__ = _is_same, _is_other, _hash
 
     @property
     def code(self) -> Optional[str]:
@@ -104,11 +122,11 @@ class ParseError(NamedTuple):
         return error_code(self.message)
 
 
+@_token
 class End(NamedTuple):
     """The end of the page."""
 
     line: int
-    __eq__, __ne__, __hash__ = _is_same, _is_other, _hash
 
 
 class Link(NamedTuple):
@@ -148,7 +166,7 @@ _tag_head = struct.Struct("<QBQ").unpack_from
 _new = tuple.__new__
 
 
-def _attributes(data, at, count):
+def _attributes(data: bytes, at: int, count: int) -> Tuple[Tuple[Tuple[str, str], ...], int]:
     """So many attributes, and the place after them."""
     found = []
     for _ in range(count):
@@ -159,17 +177,17 @@ def _attributes(data, at, count):
     return tuple(found), at
 
 
-def _after_attributes(data, at, count):
+def _after_attributes(data: bytes, at: int, count: int) -> int:
     """The place after so many attributes, which are not read."""
     for _ in range(2 * count):
         at += 8 + _number(data, at)[0]
     return at
 
 
-def _doctype(data, at):
+def _doctype(data: bytes, at: int) -> Tuple[Token, int]:
     line, flags = _number(data, at)[0], data[at + 8]
     at += 9
-    parts = []
+    parts: List[Any] = []
     for flag in (1, 2, 4):
         part = None
         if flags & flag:
@@ -177,10 +195,11 @@ def _doctype(data, at):
             at = begin + _number(data, at)[0]
             part = data[begin:at].decode()
         parts.append(part)
-    return Doctype(line, *parts, flags & 8 > 0), at
+    name, public_id, system_id = parts
+    return Doctype(line, name, public_id, system_id, flags & 8 > 0), at
 
 
-def _other(kind, data, at):
+def _other(kind: int, data: bytes, at: int) -> Tuple[Any, int]:
     """A token that is no tag and no text, from the place after its kind, and the place after it."""
     if kind == _DOCTYPE:
         return _doctype(data, at)
@@ -191,6 +210,13 @@ def _other(kind, data, at):
     return _WITH_TEXT[kind](line, data[at + 16 : end].decode()), end
 
 
+def _exact(taken: bytes) -> bytes:
+    """Bytes of a subclass as bytes of just that type."""
+    if not isinstance(taken, bytes):
+        raise TypeError(f"what was taken is bytes, not of type {type(taken).__name__}")
+    return memoryview(taken).tobytes()
+
+
 class Reader:
     """Reads tokens from records as they are taken. All records but a text are taken whole. With places each is `Placed`, in
     bytes of UTF-8.
@@ -199,14 +225,14 @@ class Reader:
 
     def __init__(
         self, errors: bool = True, texts: bool = True, tags: Optional[Iterable[str]] = None, places: bool = False
-    ):
+    ) -> None:
         # Whether parse errors are read. Else they end no text.
         self._errors = errors
         self._texts = texts
         # The names whose tags are read, in bytes, where not all are.
-        self._tags = None if tags is None else frozenset(name.encode() for name in tags)
+        self._tags = None if tags is None else frozenset(map(str.encode, tags))
         # The parts of the text that is open, and the line on which it begins.
-        self._open: Optional[List[bytes]] = None
+        self._open: Any = None
         self._line = 1
         # The texts that no other token has followed, where errors are left out.
         self._run: List[bytes] = []
@@ -214,11 +240,13 @@ class Reader:
         # Where the next token stands and the run before it, once that is read: where each begins, and where the token ends.
         # With places a run is one text, whatever the errors in it, and comes after them.
         self._with_places = places
-        self._places: Optional[Tuple[int, int, int]] = None
+        self._places: Any = None
 
-    def read(self, taken: bytes) -> List[Union[Token, Placed]]:
+    def read(self, taken: bytes) -> List[Any]:
         """The tokens whose end was taken."""
-        tokens: List[Union[Token, Placed]] = []
+        if type(taken) is not bytes:
+            taken = _exact(taken)
+        tokens: List[Any] = []
         try:
             end = self._read_records(taken, tokens)
         except (struct.error, LookupError, OverflowError):
@@ -227,7 +255,7 @@ class Reader:
             raise ValueError("what was taken is no whole record")
         return tokens
 
-    def _read_records(self, taken, tokens):
+    def _read_records(self, taken: bytes, tokens: List[Any]) -> int:
         """Reads all that was taken, and answers the place where the last record ends, as it says."""
         at, size = 0, len(taken)
         if self._open is not None:
@@ -247,13 +275,13 @@ class Reader:
                 at = self._read_other(kind, taken, at + 1, tokens)
         return at
 
-    def _read_places(self, kind, taken, at):
+    def _read_places(self, kind: int, taken: bytes, at: int) -> int:
         if kind != _PLACES:
             raise LookupError("a record of places stands before each token")
         self._places = _three_numbers(taken, at)
         return at + 24
 
-    def _append(self, token, tokens):
+    def _append(self, token: Any, tokens: List[Any]) -> None:
         """Adds a token, with its place if it has one."""
         if self._places is None:
             tokens.append(token)
@@ -264,7 +292,7 @@ class Reader:
         else:
             tokens.append(Placed(token, begin, end))
 
-    def _read_text(self, taken, at, tokens):
+    def _read_text(self, taken: bytes, at: int, tokens: List[Any]) -> int:
         """Reads on in the open text, up to its end or to all that was taken."""
         end = taken.find(b"\xff", at)
         if self._texts:
@@ -282,11 +310,11 @@ class Reader:
             self._run += parts
         return end + 1
 
-    def _read_tag(self, kind, taken, at, tokens):
+    def _read_tag(self, kind: int, taken: bytes, at: int, tokens: List[Any]) -> int:
         """Reads a tag from the place after its kind, or passes over it, and answers the place after it."""
         which = _TAGS[kind]
         self._line, flags, size = _tag_head(taken, at)
-        end = at + 17 + size
+        end: int = at + 17 + size
         name = taken[at + 17 : end]
         count = _number(taken, end)[0]
         if self._tags is not None and name not in self._tags:
@@ -297,12 +325,13 @@ class Reader:
         self._places = None
         return end
 
-    def _read_other(self, kind, taken, at, tokens):
+    def _read_other(self, kind: int, taken: bytes, at: int, tokens: List[Any]) -> int:
         if kind == _ERROR and not self._errors:
             line, size = _two_numbers(taken, at)
             self._reach(kind, line)
             self._places = None
-            return at + 16 + size
+            after: int = at + 16 + size
+            return after
         if self._run:
             self._end_run(tokens)
         token, at = _other(kind, taken, at)
@@ -311,12 +340,12 @@ class Reader:
         self._places = None
         return at
 
-    def _reach(self, kind, line):
+    def _reach(self, kind: int, line: int) -> None:
         """Notes the line where a text begins that is next. With places an error comes before the text in which it stands."""
         if kind != _ERROR or not self._with_places:
             self._line = line
 
-    def _end_run(self, tokens):
+    def _end_run(self, tokens: List[Any]) -> None:
         tokens.append(Text(self._run_line, b"".join(self._run).decode()))
         self._run = []
 
@@ -324,21 +353,21 @@ class Reader:
 class LinkReader:
     """Reads links: of the tags that are named, the attribute that is named for each."""
 
-    def __init__(self, attributes: Mapping[str, str]):
+    def __init__(self, attributes: Mapping[str, str]) -> None:
         self._attributes = attributes
         self._reader = Reader(texts=False, tags=attributes)
 
     def read(self, taken: bytes) -> List[Link]:
         """The links whose tags were taken."""
         tags = (token for token in self._reader.read(taken) if type(token) is StartTag)
-        found = (Link(tag.line, tag.get(self._attributes[tag.name])) for tag in tags)
-        return [link for link in found if link.address is not None]
+        found = ((tag.line, tag.get(self._attributes[tag.name])) for tag in tags)
+        return [Link(line, address) for line, address in found if address is not None]
 
 
 class TextReader:
     """Reads texts, but those after a start tag of the elements that are hidden and before their end tag."""
 
-    def __init__(self, hidden: Iterable[str]):
+    def __init__(self, hidden: Iterable[str]) -> None:
         self._reader = Reader(tags=hidden)
         self._within = False
 

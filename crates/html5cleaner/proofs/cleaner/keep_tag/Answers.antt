@@ -1,29 +1,27 @@
 use Rattle.std.proofs.Common.{◌≡◌, ℕ, List, ◌++◌, chars, map, false, ap, sym, ◌∙◌}
-use Rattle.html5ever_interface.specs.declared.interface.token.TagKind.{TagKind}
 use Rattle.markup5ever.specs.Names.{attribute_of}
 use Rattle.html5policy.specs.Policy.{PolicyOf}
 use Rattle.html5write.specs.Pieces.{NameAndValue}
 use Rattle.html5write.specs.Writing as writing
 use Rattle.html5cleaner.specs.Balance.{all_balanced, all_open_after}
-use Rattle.html5cleaner.specs.Clean.{attribute_chars, kept_attributes, kept_of_parts, kept_of_run, kept_of_tag}
+use Rattle.html5cleaner.specs.Clean.{attribute_chars, kept_attributes, kept_of_run}
 use Rattle.html5cleaner.proofs.KeepsLemmas.{keeps-plain, keeps-same}
 use Rattle.html5cleaner.proofs.WrittenRuns.{open-by_rule, open-plain, written-by_rule, written-plain}
 use Rattle.html5cleaner.proofs.cleaner.keep_tag.Goals as goal
 
-parts-same : (policy : PolicyOf) (kind : TagKind) (a b : List ℕ) (x y : List NameAndValue) → a ≡ b → x ≡ y → kept_of_parts policy kind a x ≡ kept_of_parts policy kind b y
-parts-same policy kind a b x y name attributes = cc
-
 attributes-same : (policy : PolicyOf) (a b : List ℕ) (x y : List NameAndValue) → a ≡ b → x ≡ y → kept_attributes policy a x ≡ kept_attributes policy b y
 attributes-same policy a b x y element same = ap (λ e. kept_attributes policy e x) element ∙ ap (kept_attributes policy b) same
 
+pub kept_tag-tag-requires : goal.kept_tag-tag-requires
+kept_tag-tag-requires g c =
+    ap (map writing.attribute_of) c.deref-3.ensures.value ∙ c.in_ok-attributes.ensures
+    ∙ attributes-same c.args.policy.now _ _ _ _ (ap chars c.deref.ensures) (ap (λ l. map attribute_chars (map attribute_of l)) c.deref-2.ensures.value)
+
 pub returns-then-balances : goal.returns-then-balances
-unfolding kept_of_tag
 returns-then-balances g c =
     let balance = c.args.policy.now.balance in
     let opened = c.args.opened.now in
-    let attributes = ap (map writing.attribute_of) c.deref-4.ensures.value ∙ c.in_ok-attributes.ensures
-    ∙ attributes-same c.args.policy.now _ _ _ _ (ap chars c.deref.ensures) (ap (λ l. map attribute_chars (map attribute_of l)) c.deref-2.ensures.value) in
-    let tag = c.kept_tag-tag.ensures ∙ parts-same c.args.policy.now _ _ _ _ _ (ap chars c.deref-3.ensures) attributes in
+    let tag = c.kept_tag-tag.ensures in
     let is = sym c.balances.ensures ∙ c.if-balances.true in
     keeps-same c.write_balanced.result c.args.page.now c.write_balanced.new.page opened c.write_balanced.new.opened _ _ _ _
     (ap (λ l. all_balanced opened (kept_of_run c.args.run.now ++ l)) tag ∙ sym (written-by_rule balance opened _ is))
@@ -31,13 +29,10 @@ returns-then-balances g c =
     c.write_balanced.ensures
 
 pub returns : goal.returns
-unfolding kept_of_tag
 returns g c =
     let balance = c.args.policy.now.balance in
     let opened = c.args.opened.now in
-    let attributes = ap (map writing.attribute_of) c.deref-4.ensures.value ∙ c.in_ok-attributes.ensures
-    ∙ attributes-same c.args.policy.now _ _ _ _ (ap chars c.deref.ensures) (ap (λ l. map attribute_chars (map attribute_of l)) c.deref-2.ensures.value) in
-    let tag = c.kept_tag-tag.ensures ∙ parts-same c.args.policy.now _ _ _ _ _ (ap chars c.deref-3.ensures) attributes in
+    let tag = c.kept_tag-tag.ensures in
     let is = sym c.balances.ensures ∙ c.if-balances.false in
     keeps-same c.write_plain.result c.args.page.now c.write_plain.new.page opened opened _ _ _ _
     (ap (λ l. kept_of_run c.args.run.now ++ l) tag ∙ sym (written-plain balance false opened _ is))

@@ -7,7 +7,7 @@ returns-in-StartTag g c = rw (c.in-StartTag.is, encodes-chars c.args.name.now c.
 
 pub returns-then-is_allowed : goal.returns-then-is_allowed
 returns-then-is_allowed g c =
-    rw (c.in-EndTag.is, encodes-chars c.args.name.now c.utf8.name, sym c.is_allowed-in-EndTag.ensures, c.if-is_allowed.true, sym c.is_void.ensures) refl
+    rw (c.in-EndTag.is, encodes-chars c.args.name.now c.utf8.name, sym c.is_allowed-in-EndTag.ensures, c.if-is_allowed.true, sym c.has_end.ensures) refl
 
 pub returns-else-is_allowed : goal.returns-else-is_allowed
 returns-else-is_allowed g c =

@@ -6,4 +6,4 @@ use Rattle.html5policy.proofs.text.add_rules.Goals as goal
 pub returns-in_default : goal.returns-in_default
 returns-in_default g c =
     inr (ap (said_added c.args.policy.now)
-    (unknown-word c.args.word.now (words c.args.names.now) (search rules) (search rules) (search rules) (search rules) (search rules) (search rules) (search rules) (search rules) (search rules)))
+    (unknown-word c.args.word.now (words c.args.names.now) (search rules) (search rules) (search rules) (search rules) (search rules) (search rules) (search rules) (search rules) (search rules) (search rules)))

@@ -2,7 +2,7 @@ use Rattle.std.proofs.Common.{chars, encode_utf8_all, map}
 use Rattle.std.proofs.lemmas.Str.{encodes-chars}
 use Rattle.html5write.specs.Writing as writing
 use Rattle.html5cleaner.proofs.Links.{link-else, link-then}
-use Rattle.html5cleaner.proofs.attributes.adds_noopener.Goals as goal
+use Rattle.html5cleaner.proofs.attributes.adds_rel.Goals as goal
 
 pub returns-then-is_rel_of_link : goal.returns-then-is_rel_of_link
 returns-then-is_rel_of_link g c =
