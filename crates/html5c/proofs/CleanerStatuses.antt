@@ -148,7 +148,7 @@ end_says-error old new Over refused over = record {
 
 -- the status of `html5_cleaner_new`
 
-is_fault : RuleError → Type 0
+abbrev is_fault : RuleError → Type 0
 is_fault error = is_rule_fault (rule_status error) ≡ true
 
 rule-fault_of : (error : RuleError) → error ≢ wrong.Memory → is_fault error

@@ -14,11 +14,11 @@ use Rattle.html5table.specs.Listed.{entries_in}
 use Rattle.markup5ever.specs.NamedReferences.{NamedReference, table_of}
 
 -- it stands at the start of a page, by these options, reads references by this table, and may hold so many bytes
-pub record StartsPlacedBy (references : List NamedReference) (limit : ℕ) (s : PlacedSessionOf) (name : List ℕ) (o : Options) : Type 0 where
+pub record StartsPlacedBy (references : List NamedReference) (most : ℕ) (s : PlacedSessionOf) (name : List ℕ) (o : Options) : Type 0 where
   pub stands : StandsIn s (start_of (options_said o name)) []
   pub rules : (reading_in s).rules ≡ rules_of (options_said o name) references
   pub records : s.records ≡ nothing_written
-  pub limit : s.limit ≡ limit
+  pub limit : s.limit ≡ most
   pub going_on : is_over s ≡ false
   pub named : are_named o ≡ true
   pub utf8 : IsUtf8 name

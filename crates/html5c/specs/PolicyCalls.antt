@@ -67,6 +67,10 @@ rule_said rule name attribute =
     else if rule == 8 then depth_said name attribute
     else Err 9
 
+-- the statuses by which no rule is said: no rule has the number, there is a name too many, or there is no number
+abbrev pub IsRefusal : ℕ → Type 0
+IsRefusal status = (status ≡ 9) ⊎ (status ≡ 18) ⊎ (status ≡ 28)
+
 -- a policy with a rule, or the status of what is wrong with it
 abbrev pub by_status : Result PolicyOf RuleError → Result PolicyOf ℕ
 by_status (Ok policy) = Ok policy

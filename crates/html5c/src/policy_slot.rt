@@ -1,6 +1,6 @@
 //! What the calls of a policy make of what a handle is of.
 ghost use Rattle.std.specs.Prelude.{◌≡◌, IfErr, IfOk, IsNone, None, Ok, Err};
-ghost use Rattle.html5c.specs.PolicyCalls.{AddRuleSays, AddsRule, BeginsCleaner, SaidAdded, alone, bare, depth_said, rule_said};
+ghost use Rattle.html5c.specs.PolicyCalls.{AddRuleSays, AddsRule, BeginsCleaner, IsRefusal, SaidAdded, alone, bare, depth_said, rule_said};
 ghost use Rattle.html5c.specs.Slots.{cleaner_in, placed_in, policy_in, session_in};
 ghost use Rattle.html5policy.specs.Code.{rule_of};
 
@@ -17,6 +17,7 @@ use std::{mem, str};
 fn alone<'t>(attribute: &str, rule: Rule<'t>) -> Result<Rule<'t>, u32>
     ensures said { IfOk result (λ said. alone attribute.now (rule_of rule.entry) ≡ Ok (rule_of said)) }
     ensures refused { IfErr result (λ status. alone attribute.now (rule_of rule.entry) ≡ Err status) }
+    ensures status { IfErr result (λ status. IsRefusal status) }
 {
     if attribute.is_empty() {
         return Ok(rule);
@@ -28,6 +29,7 @@ fn alone<'t>(attribute: &str, rule: Rule<'t>) -> Result<Rule<'t>, u32>
 fn bare<'t>(name: &str, attribute: &str, rule: Rule<'t>) -> Result<Rule<'t>, u32>
     ensures said { IfOk result (λ said. bare name.now attribute.now (rule_of rule.entry) ≡ Ok (rule_of said)) }
     ensures refused { IfErr result (λ status. bare name.now attribute.now (rule_of rule.entry) ≡ Err status) }
+    ensures status { IfErr result (λ status. IsRefusal status) }
 {
     if !name.is_empty() {
         return Err(status::WORD_TOO_MANY);
@@ -39,6 +41,7 @@ fn bare<'t>(name: &str, attribute: &str, rule: Rule<'t>) -> Result<Rule<'t>, u32
 fn depth_rule<'t>(number: &'t str, attribute: &str) -> Result<Rule<'t>, u32>
     ensures said { IfOk result (λ said. depth_said number.now attribute.now ≡ Ok (rule_of said)) }
     ensures refused { IfErr result (λ status. depth_said number.now attribute.now ≡ Err status) }
+    ensures status { IfErr result (λ status. IsRefusal status) }
 {
     match number_of(number) {
         Some(depth) => alone(attribute, Rule::Depth(depth)),
@@ -51,6 +54,7 @@ fn depth_rule<'t>(number: &'t str, attribute: &str) -> Result<Rule<'t>, u32>
 fn rule_said<'t>(rule: u32, name: &'t str, attribute: &'t str) -> Result<Rule<'t>, u32>
     ensures said { IfOk result (λ said. rule_said rule name.now attribute.now ≡ Ok (rule_of said)) }
     ensures refused { IfErr result (λ status. rule_said rule name.now attribute.now ≡ Err status) }
+    ensures status { IfErr result (λ status. IsRefusal status) }
 {
     match rule {
         0 => alone(attribute, Rule::Element(name)),
