@@ -66,7 +66,11 @@ CLEANING_CHANGES = (
     cleaning("an end tag closes one element alone", "self.opened[::-1].index(name) + 1", "1"),
     cleaning("the end closes nothing", "self.close(len(self.opened))", "self.close(0)"),
     cleaning("rel is kept in links", 'if name == "rel" and self.writes_rel(element):', "if False:"),
-    cleaning("each a gets rel=noopener", 'and any(name == "href" for name, _ in attributes)', ""),
+    cleaning("each a gets the policy's rel", 'and any(name == "href" for name, _ in attributes)', ""),
+    cleaning("links get the first word of rel alone", '("rel", self.policy.rel)', '("rel", self.policy.rel.split()[0])'),
+    cleaning("an image is kept without its address", "or self.policy.loses(tag)", ""),
+    cleaning("an end tag of br is dropped", 'if tag.is_end and tag.name != "br":', "if tag.is_end:"),
+    cleaning("an end tag of br keeps its attributes", "said = [] if tag.is_end else tag.attributes", "said = tag.attributes"),
     cleaning("end tags of void elements are kept", END_OF_VOID, END_OF_VOID.replace("tag.name not in VOID", "True")),
     cleaning("a CR is written as it is", "\\r", ""),
     cleaning("comments are shown through what hides", "is_shown = self.depth == 0", "is_shown = not isinstance(token, Tag)"),
@@ -122,4 +126,7 @@ def load_all(changes: tuple[Change, ...], name: str) -> list:
         sys.path.insert(0, folder)
         loaded = [(change, load(change, folder, number, name)) for number, change in enumerate(changes)]
         sys.path.remove(folder)
+    for _, module in loaded:
+        # A copy reads the repository's files, too.
+        module.TOP = MODEL.parent.parent
     return loaded
