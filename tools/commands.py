@@ -67,7 +67,7 @@ PARTS = [
         {
             "links": "1 y\n",
             "text": "a & b c",
-            "clean": '<p>a &#38; b <a href="y">c</a></p>',
+            "clean": '<p>a &#38; b <a href="y" rel="noopener noreferrer">c</a></p>',
             "rewrite": "<p id=x>a &amp; b <a href=y>c</a><!--d-->",
         },
     ),
@@ -178,7 +178,7 @@ def of_itself(folder):
     # The policy that is printed is the one that is gone by.
     (folder / "printed").write_text(POLICY, encoding="utf-8")
     page = b"<p title=a id=b><a href=ftp:x>c</a><a href=http:x>d</a><video>e</video><script>f</script>"
-    kept = '<p title="a"><a>c</a><a href="http:x">d</a>e</p>'
+    kept = '<p title="a"><a>c</a><a href="http:x" rel="noopener noreferrer">d</a>e</p>'
     for words in ([firnuubal, "clean"], [firnuubal, "clean", "--policy", "printed"]):
         yield fault(words, run(folder, words, input=page), kept, "", 0)
 

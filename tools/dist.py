@@ -35,7 +35,7 @@ TOOLCHAINS = (("rt", "version"), ("gcc", "--version"), ("ld", "--version"), ("py
 SHIPPED = ("bindings/c/firnuubal.h", "bindings/c/firnuubal.map", "bindings/c/cpu.c", "bindings/build.sh")
 SHIPPED += ("bindings/python/backend.py", "bindings/python/pyproject.toml")
 SHIPPED += ("bindings/python/native/_fast.c", "bindings/python/native/build.sh", "bindings/python/README.md")
-SHIPPED += ("LICENSE-APACHE", "LICENSE-MIT")
+SHIPPED += ("LICENSE-APACHE", "LICENSE-MIT", "crates/html5policy/README.md")
 
 sys.dont_write_bytecode = True
 sys.path.insert(0, str(TOP / "bindings" / "python"))
