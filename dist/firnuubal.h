@@ -1,17 +1,20 @@
 /*
  * The tokenizer and the cleaner from C (C99), and a reader of the tokenizer's records.
  *
- * The functions of the first two parts are in the library: they are proved, and their contracts are in crates/html5c/src.
+ * A handle is for one call at a time, and there are no locks. Two threads in one handle are undefined behaviour, and so is a
+ * call from a signal handler during another call. Different handles are independent.
+ *
+ * The functions of the first three parts are in the library: they are proved, and their contracts are in crates/html5c/src.
  * What is `static inline` is in this header alone, and is not proved.
  */
 #ifndef FIRNUUBAL_H
 #define FIRNUUBAL_H
 
 /* The version of the library, of this header and of the readers. */
-#define FIRNUUBAL_VERSION "0.18.0"
+#define FIRNUUBAL_VERSION "0.19.0"
 
 /* The same as a number, its three numbers a byte each. `html5_version` says it of the library that is linked. */
-#define FIRNUUBAL_VERSION_NUMBER 0x001200
+#define FIRNUUBAL_VERSION_NUMBER 0x001300
 
 #include <stdbool.h>
 #include <stddef.h>
@@ -29,13 +32,33 @@ uint32_t html5_version(void);
 /* ---- the tokenizer */
 
 /*
- * A tokenizer, or a page that is cleaned. One of zeros is closed: `html5_handle h = {0};`. Never copy an open one, and call it
- * from one thread at a time.
+ * A tokenizer, a policy, or a page that is cleaned. One of zeros is closed: `html5_handle h = {0};`. Never copy an open one.
+ *
+ * `page` is this header's: the library never touches it. Each page has a number, by which a reader sees that the records that
+ * it holds are of another page. The macros of this header set it. A call through a pointer, or one found by `dlsym`, does not.
  */
 typedef struct {
     void *at;
     bool is_open;
+    uint32_t page;
 } html5_handle;
+
+/* The number of the last page that was begun: one for all files of a program. */
+#ifdef __GNUC__
+__attribute__((weak, visibility("hidden"))) uint32_t html5_pages;
+#else
+static uint32_t html5_pages;
+#endif
+
+/* Gives a handle the number of another page. */
+static inline html5_handle *html5_next_page(html5_handle *handle) {
+#ifdef __GNUC__
+    handle->page = __atomic_add_fetch(&html5_pages, 1, __ATOMIC_RELAXED);
+#else
+    handle->page = ++html5_pages;
+#endif
+    return handle;
+}
 
 /* What a call answers. */
 enum html5_status {
@@ -49,15 +72,35 @@ enum html5_status {
     HTML5_OVER = 7,       /* the end was told, or an earlier call was refused for good */
     HTML5_CLOSED = 8,     /* the handle is closed */
     HTML5_BAD_OPTION = 9, /* an option has no such value */
-    HTML5_BAD_POLICY = 10,     /* a line of the policy is no rule that it takes */
+    HTML5_BAD_POLICY = 10,      /* no longer answered: the answer is the cause, one of those from HTML5_UNKNOWN_RULE on */
     HTML5_POLICY_NOT_UTF8 = 11, /* the policy is no UTF-8 */
     HTML5_TAG = 12,             /* a pause: a tag to which the caller replies; what follows it waits */
     HTML5_ITEM_OPEN = 13,       /* a tag or another item is open, so no state can be set */
     HTML5_LIMIT = 14,           /* more bytes would be held than the limit: the piece was not taken */
-    HTML5_BEGUN = 15            /* bytes were fed already, so it can't be set in which encoding they are */
+    HTML5_BEGUN = 15,           /* bytes were fed already, so it can't be set in which encoding they are */
+    /* Why a rule of a policy is refused. */
+    HTML5_UNKNOWN_RULE = 16,       /* of a text: the first word of the line names no rule */
+    HTML5_NO_NAME = 17,            /* of a text: the rule wants a name */
+    HTML5_WORD_TOO_MANY = 18,      /* a name is given that the rule does not take */
+    HTML5_ELEMENT_NAME = 19,       /* no tag is read with this name: it has capital letters or spaces, or is empty */
+    HTML5_ATTRIBUTE_NAME = 20,     /* no attribute is read with this name */
+    HTML5_HIDES_CONTENT = 21,      /* what stands in this element is always dropped, as in script or style */
+    HTML5_ACTS_ON_PAGE = 22,       /* this element acts on the whole page, as meta or base does */
+    HTML5_ALLOWED_AND_HIDDEN = 23, /* an element is allowed and hidden */
+    HTML5_NEVER_KEPT = 24,         /* this attribute runs scripts, or holds no single address, as onclick or srcset */
+    HTML5_SCHEME_NAME = 25,        /* this is no scheme in small letters */
+    HTML5_RUNS_ADDRESS = 26,       /* addresses of this scheme run what stands in them, as javascript */
+    HTML5_NO_PLACE_IN_TREE = 27,   /* with HTML5_TREE: an element that has no place in the tree */
+    HTML5_BAD_DEPTH = 28,          /* the depth is no number from 1 to 4096 */
+    HTML5_REL_WORD = 29            /* a word of rel has another character than ASCII letters, digits and '-' */
 };
 
 typedef enum html5_status html5_status;
+
+/* Whether a status says why a rule of a policy is refused. */
+static inline bool html5_is_rule_fault(html5_status status) {
+    return status >= HTML5_UNKNOWN_RULE && status <= HTML5_REL_WORD;
+}
 
 /* What a status says, in words. */
 static inline const char *html5_status_text(html5_status status) {
@@ -67,7 +110,14 @@ static inline const char *html5_status_text(html5_status status) {
         "the page has ended, or an earlier call was refused for good", "the handle is closed",
         "an option has no such value", "a line of the policy is no rule that it takes", "the policy is no UTF-8",
         "paused after a tag to which the caller replies", "a tag or another item is open",
-        "more bytes would be held than the limit", "bytes were fed already"};
+        "more bytes would be held than the limit", "bytes were fed already",
+        "the first word names no rule", "the rule wants a name", "a name too many for the rule",
+        "no tag is read with this name", "no attribute is read with this name",
+        "what stands in this element is always dropped", "this element acts on the whole page",
+        "an element is both allowed and hidden", "this attribute runs scripts, or holds no single address",
+        "this is no scheme in small letters", "addresses of this scheme run what stands in them",
+        "an element has no place in the tree", "the depth is no number from 1 to 4096",
+        "a word of rel has another character than ASCII letters, digits and '-'"};
     return (size_t)status < sizeof texts / sizeof *texts ? texts[status] : "no such status";
 }
 
@@ -102,8 +152,8 @@ typedef struct {
 /*
  * With `places` the text before a token comes with it, in one piece, and a token that is read has its places
  * (`text_begin`, `begin`, `end` of html5_token). The page is UTF-8, and nothing pauses: `html5_insert`, `html5_reply`,
- * `html5_set_foreign`, `html5_set_encoding` and `html5_restart` answer HTML5_CLOSED. It is slower, and holds the text since the
- * last token, which counts against the limit. Options that `places` doesn't go with are answered HTML5_BAD_OPTION.
+ * `html5_set_foreign` and `html5_set_encoding` answer HTML5_CLOSED. It is slower, and holds the text since the last token,
+ * which counts against the limit. Options that `places` doesn't go with are answered HTML5_BAD_OPTION.
  */
 
 /*
@@ -120,13 +170,27 @@ static inline const uint8_t *html5_bytes_or_none(const void *bytes) {
  */
 html5_status html5_new(html5_handle *handle, const uint8_t *last_start_tag, size_t len, const html5_options *options);
 
+static inline html5_status html5_new_page(html5_handle *handle, const uint8_t *last_start_tag, size_t len,
+                                          const html5_options *options) {
+    return html5_new(html5_next_page(handle), last_start_tag, len, options);
+}
+#define html5_new(...) html5_new_page(__VA_ARGS__)
+
 /*
  * Begins another page in an open handle, as html5_new does, but with the table of the standard's names that the handle has: to
  * make that anew takes as long as reading some 70,000 bytes. The limit stays, and so does the encoding that was said. What was
- * not taken is gone. After any status but HTML5_DONE nothing changes: HTML5_BAD_OPTION is also for `places`, and a page that is
- * read with places is HTML5_CLOSED here.
+ * not taken is gone. After any status but HTML5_DONE nothing changes. A page that is read with `places` goes on with them, and
+ * another goes on without: options that say otherwise are HTML5_BAD_OPTION.
  */
 html5_status html5_restart(html5_handle *handle, const uint8_t *last_start_tag, size_t len, const html5_options *options);
+
+static inline html5_status html5_restart_page(html5_handle *handle, const uint8_t *last_start_tag, size_t len,
+                                              const html5_options *options) {
+    html5_status status = html5_restart(handle, last_start_tag, len, options);
+    if (status == HTML5_DONE) html5_next_page(handle);
+    return status;
+}
+#define html5_restart(...) html5_restart_page(__VA_ARGS__)
 
 /*
  * Reads the next bytes, in pieces of any size. After a pause it goes on, with what waits and these bytes.
@@ -211,6 +275,7 @@ bool html5_is_over(html5_handle *handle);
 
 /* Gives the memory back. The handle is closed then, and may be opened again. */
 void html5_free(html5_handle *handle);
+#define html5_free(handle) html5_free(html5_next_page(handle))
 
 /*
  * The code that the standard has for a parse error, "eof-in-tag" and so on, by its message: that of a token
@@ -224,18 +289,74 @@ size_t html5_error_code(const uint8_t *message, size_t message_len, uint8_t *out
 /* There is room for each code in so many bytes. */
 #define HTML5_ERROR_CODE_ROOM 64
 
+/* ---- policies, rule by rule */
+
+/* What a rule says, and what its name is. Only HTML5_ATTRIBUTE takes an attribute. */
+enum html5_rule {
+    HTML5_ALLOW = 0,      /* an element that is kept */
+    HTML5_ATTRIBUTE = 1,  /* an element; the attribute is kept in it, where the element is kept */
+    HTML5_EVERYWHERE = 2, /* an attribute that is kept in each element */
+    HTML5_SCHEME = 3,     /* a scheme of addresses that are kept, in small letters, without its colon */
+    HTML5_HIDE = 4,       /* an element that is dropped with what stands in it */
+    HTML5_REL = 5,        /* a word. Each `a` that is kept with an `href` gets a `rel` of all such words, and no other */
+    HTML5_BALANCE = 6,    /* no name: each end tag closes what was opened inside its element */
+    HTML5_TREE = 7,       /* no name: the page is made to fit, so that a browser builds it as its tags are nested */
+    HTML5_DEPTH = 8       /* how many elements may be open, in decimal digits: 1 to 4096. It is 256 where nothing is said */
+};
+
+/*
+ * Opens a handle as a policy that keeps text alone. What it held before is freed. It answers HTML5_DONE, or HTML5_NO_MEMORY:
+ * then it is closed. To each call but `html5_policy_add`, `html5_cleaner_begin` and those that open or free a handle, a policy
+ * is closed.
+ */
+html5_status html5_policy_new(html5_handle *handle);
+#define html5_policy_new(handle) html5_policy_new(html5_next_page(handle))
+
+/*
+ * Adds a rule (one of enum html5_rule) to a policy. A name is one name, as it stands: nothing in it separates names or rules. It
+ * is UTF-8, else the answer is HTML5_NOT_UTF8. HTML5_BAD_OPTION: no rule has this number. From HTML5_UNKNOWN_RULE on it is
+ * why the rule is refused (`html5_is_rule_fault`). After any status but HTML5_DONE the policy is as it was.
+ */
+html5_status html5_policy_add(html5_handle *handle, uint32_t rule, const uint8_t *name, size_t name_len,
+                              const uint8_t *attribute, size_t attribute_len);
+#define html5_policy_add(handle, rule, name, name_len, attribute, attribute_len) \
+    html5_policy_add(handle, rule, html5_bytes_or_none(name), name_len, html5_bytes_or_none(attribute), attribute_len)
+
+/*
+ * Makes of a policy a cleaner by it, at the start of a page. It answers HTML5_DONE; HTML5_NO_MEMORY: it is still the policy; or
+ * HTML5_CLOSED: the handle is no policy.
+ */
+html5_status html5_cleaner_begin(html5_handle *handle);
+
+static inline html5_status html5_cleaner_begin_page(html5_handle *handle) {
+    html5_status status = html5_cleaner_begin(handle);
+    if (status == HTML5_DONE) html5_next_page(handle);
+    return status;
+}
+#define html5_cleaner_begin(handle) html5_cleaner_begin_page(handle)
+
 /* ---- the cleaner */
 
 /*
  * Opens a handle at the start of a page that is cleaned. What it held before is freed. The policy is a text, a rule a line
- * (crates/html5policy/README.md); one of no bytes is the standard policy, which has the rule `tree`. After HTML5_BAD_POLICY
- * `place` is the number of the line, after HTML5_POLICY_NOT_UTF8 the place of the first such byte, and after any other status
- * it is 0. To the calls of a tokenizer the handle is closed, but for html5_free.
+ * (crates/html5policy/README.md); one of no bytes is the standard policy, which has the rule `tree`. Where a rule is refused
+ * the answer is why (`html5_is_rule_fault`), and `place` is the number of its line, from 1. After HTML5_POLICY_NOT_UTF8 `place`
+ * is the place of the first such byte, and after any other status it is 0. To the calls of a tokenizer the handle is closed,
+ * but for html5_free.
  */
 html5_status html5_cleaner_new(html5_handle *handle, const uint8_t *policy, size_t len, uint64_t *place);
+#define html5_cleaner_new(handle, policy, len, place) \
+    html5_cleaner_new(html5_next_page(handle), html5_bytes_or_none(policy), len, place)
 
 /* Begins another page, by the same policy, limit and encoding that was said. What was not taken is gone. */
 html5_status html5_cleaner_restart(html5_handle *handle);
+
+static inline html5_status html5_cleaner_restart_page(html5_handle *handle) {
+    html5_status status = html5_cleaner_restart(handle);
+    if (status == HTML5_DONE) html5_next_page(handle);
+    return status;
+}
+#define html5_cleaner_restart(handle) html5_cleaner_restart_page(handle)
 
 /*
  * Reads the next bytes of the page, in pieces of any size. Where bytes of them are no UTF-8, those before are read, and then
@@ -347,15 +468,16 @@ enum html5_stop {
     HTML5_NOT_WHOLE = 2  /* what is left is no whole record: not all was taken, or it is no record */
 };
 
-/* The bytes that were taken of a handle and not read yet. One of zeros is empty. */
+/* The bytes that were taken of a handle and not read yet, all of one page. One of zeros is empty. */
 typedef struct {
     uint8_t *bytes;
     size_t len, room;
-    size_t at;       /* where the next record begins */
-    size_t searched; /* how far the end of an open text was looked for */
+    size_t at;            /* where the next record begins */
+    size_t searched;      /* how far the end of an open text was looked for */
     enum html5_stop stop; /* after `html5_next_token` answered false */
-    bool has_places;                     /* places were read that are those of the next tokens */
+    bool has_places;      /* places were read that are those of the next tokens */
     uint64_t places[3];
+    uint32_t page; /* the number of the page that it was filled from */
 } html5_reader;
 
 /* Written out, this is one load where the processor puts low bytes first. */
@@ -509,17 +631,24 @@ static inline bool html5_next_token(html5_reader *reader, html5_token *token) {
     return true;
 }
 
-/* Makes room for `more` bytes. What was read goes. It answers whether there was memory. */
+/* Lets what was read go. */
+static inline void html5_drop_read(html5_reader *reader) {
+    reader->len -= reader->at;
+    memmove(reader->bytes, reader->bytes + reader->at, reader->len);
+    reader->searched -= reader->searched < reader->at ? reader->searched : reader->at;
+    reader->at = 0;
+}
+
+/*
+ * Makes room for `more` bytes. It answers whether there was memory. Bytes are moved only where at least as many were read, and
+ * the room is doubled: so each byte is moved a few times at most, however often a page is filled from.
+ */
 static inline bool html5_make_room(html5_reader *reader, size_t more) {
-    size_t left = reader->len - reader->at;
-    if (reader->at > 0) {
-        memmove(reader->bytes, reader->bytes + reader->at, left);
-        reader->searched -= reader->searched < reader->at ? reader->searched : reader->at;
-        reader->len = left;
-        reader->at = 0;
-    }
-    if (reader->room - left >= more) return true;
-    size_t room = 2 * reader->room > left + more ? 2 * reader->room : left + more;
+    if (reader->at > 0 && reader->at == reader->len) html5_drop_read(reader);
+    if (reader->room - reader->len >= more) return true;
+    if (reader->at > 0 && reader->at >= reader->len - reader->at) html5_drop_read(reader);
+    if (reader->room - reader->len >= more) return true;
+    size_t least = reader->len + more, room = 2 * reader->room > least ? 2 * reader->room : least;
     uint8_t *bytes = (uint8_t *)realloc(reader->bytes, room);
     if (!bytes) return false;
     reader->bytes = bytes;
@@ -527,14 +656,26 @@ static inline bool html5_make_room(html5_reader *reader, size_t more) {
     return true;
 }
 
-/* Takes all that waits in the handle. Texts of earlier tokens are gone then. It answers whether there was memory. */
+/* Empties the reader, for records of this page. */
+static inline void html5_begin_reading(html5_reader *reader, uint32_t page) {
+    reader->len = reader->at = reader->searched = 0;
+    reader->has_places = false;
+    reader->stop = HTML5_ALL_READ;
+    reader->page = page;
+}
+
+/*
+ * Takes all that waits in the handle. Texts of earlier tokens are gone then. Where the handle has begun another page, or it is
+ * another handle, what was not read of the page before is gone, too. It answers whether there was memory.
+ */
 static inline bool html5_fill(html5_reader *reader, html5_handle *handle) {
     enum { MORE = 1 << 14 };
+    if (reader->page != handle->page) html5_begin_reading(reader, handle->page);
     for (;;) {
         if (!html5_make_room(reader, MORE)) return false;
-        size_t taken = html5_take(handle, reader->bytes + reader->len, reader->room - reader->len);
-        if (taken == 0) return true;
+        size_t room = reader->room - reader->len, taken = html5_take(handle, reader->bytes + reader->len, room);
         reader->len += taken;
+        if (taken < room) return true;
     }
 }
 

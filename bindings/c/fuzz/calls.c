@@ -163,9 +163,10 @@ static void call_restart(session *of, script *in) {
     html5_options options = options_of(in);
     buffer tag = ONE_OF(in, tags);
     html5_status status = html5_restart(&of->handle, html5_bytes_or_none(tag.at), tag.len, &options);
-    check_status(of, IS(TOKENIZER), status, IS(HTML5_DONE) | IS(HTML5_BAD_OPTION) | IS(HTML5_NOT_UTF8));
+    check_status(of, IS(TOKENIZER) | IS(PLACED), status, IS(HTML5_DONE) | IS(HTML5_BAD_OPTION) | IS(HTML5_NOT_UTF8));
     if (status == HTML5_DONE) {
-        begin(of, TOKENIZER);
+        CHECK(options.places == (of->is == PLACED));
+        begin(of, of->is);
         of->replies = options.replies;
     }
     free(tag.at);
