@@ -262,6 +262,7 @@ with_readers() {
     local run=(env "FIRNUUBAL_LIB=$library" PYTHONDONTWRITEBYTECODE=1 FIRNUUBAL_PURE="${pure#0}" python3)
     check "$readers" env PYTHONPATH=python/src "${run[@]}" -c "import firnuubal; assert firnuubal.IS_FAST == (not $pure)"
     check "the tests in Python, $readers" env PYTHONPATH=python/src "${run[@]}" -m unittest discover --quiet -s python/tests
+    check "the recipes in Python, $readers" env PYTHONPATH=python/src "${run[@]}" -m doctest ../docs/use/python.md
     check "the tokens from Python, $readers" prints_as tokens "${run[@]}" python/examples/tokens.py
     check "the places from Python, $readers" prints_as places "${run[@]}" python/examples/tokens.py
 }
