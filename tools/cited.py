@@ -211,7 +211,7 @@ def checked(page, code):
 def main():
     code = Code()
     # The changelog speaks of names that were.
-    pages = [*sorted(it for it in TOP.glob("*.md") if it.name != "CHANGELOG.md"), *sorted(TOP.glob("docs/*.md")), *sorted(CRATES.glob("*/*.md"))]
+    pages = [*sorted(it for it in TOP.glob("*.md") if it.name != "CHANGELOG.md"), *sorted(TOP.glob("docs/**/*.md")), *sorted(CRATES.glob("*/*.md"))]
     pages += sorted(TOP.glob("bench/*.md"))
     faults = [f"{page.relative_to(TOP)}:{number}: {it}" for page in pages for number, it in checked(page, code)]
     faults += [f"docs/ARCHITECTURE.md: {it}" for it in check_map(TOP / "docs" / "ARCHITECTURE.md", code)]
