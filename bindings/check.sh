@@ -198,6 +198,24 @@ is_a_whole_crate() {
         prints_as cleaned "$target/alone/release/examples/clean"
 }
 
+# Whether the programs of docs/use/c.md end well, as they stand there.
+c_recipes_hold() {
+    local recipes=$out/recipes file
+    rm -rf "$recipes"
+    mkdir "$recipes"
+    awk -v into="$recipes" '/^```c$/ {n++; file = into "/" n ".c"; next} /^```/ {file = ""} file {print > file}' ../docs/use/c.md
+    [ -f "$recipes/1.c" ] || return 1
+    for file in "$recipes"/*.c; do
+        gcc -std=c99 -Wall -Wextra -Werror -O2 -I c "$file" "$library/libfirnuubal.a" -o "$recipes/program" && "$recipes/program" || return 1
+    done
+}
+
+# Whether the pieces of docs/use/rust.md are right, with the crate that was built last.
+rust_recipes_hold() {
+    local built=$out/target/release
+    rustdoc --test ../docs/use/rust.md --edition 2021 --extern "firnuubal=$built/libfirnuubal.rlib" -L "dependency=$built/deps" >/dev/null
+}
+
 packages() {
     (cd "$1" && CARGO_TARGET_DIR=$out/target cargo package --quiet --offline --allow-dirty "$2") 2>"$out/crate.log"
 }
@@ -234,6 +252,7 @@ in_c() {
     check "the counter in C" built_in_c examples/count.c count-c
     check "the cleaner in C" built_in_c examples/clean.c clean-c
     check "cleaned pages from C" prints_as cleaned "$out/clean-c"
+    check "the recipes in C" c_recipes_hold >/dev/null
     check "a policy that isn't there, from C" has_status 2 "$out/clean-c" 7 "$out/no-such-policy" 2>/dev/null
     check "the line of README.md in C" runs_as_the_readme_says
     check "the calls of the shared library" exports_what_the_header_declares
@@ -247,7 +266,8 @@ in_c() {
 
 in_rust() {
     check "the tests in Rust" rust test >/dev/null
-    check "the examples in Rust" rust build --release --examples
+    check "the library and the examples in Rust" rust build --release --lib --examples
+    check "the recipes in Rust" rust_recipes_hold
     check "the tokens from Rust" prints_as tokens "$out/target/release/examples/tokens"
     check "the places from Rust" prints_as places "$out/target/release/examples/tokens"
     check "cleaned pages from Rust" prints_as cleaned "$out/target/release/examples/clean"

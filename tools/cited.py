@@ -10,7 +10,8 @@ the top but for the changelog, those of docs/ and those of the crates. Checked a
 - each name in code type that can only be one of the code: a path with `::`, a name with `_`, a name in CamelCase;
 - in a table with a column "Contract", or with "Call" and "Clause", each name there: a clause is one of a function,
   or a field of a record, that the row names;
-- each line of Rust in a fenced example, but for comments: some one file of a crate has all of them;
+- each line of Rust in a fenced example, but for comments: some one file of a crate has all of them (those of
+  docs/use are run instead, by bindings/check.sh);
 - in docs/ARCHITECTURE.md, that the table of a crate names each of its modules and files of specs/, and no other.
 """
 
@@ -58,7 +59,8 @@ class Code:
         for file in sorted(CRATES.glob("*/*/**/*")):
             if file.suffix in (".rt", ".antt", ".edit") and "out" not in file.relative_to(CRATES).parts:
                 self.read(file)
-        for file in [TOP / "tools/edits", *TOP.glob("tools/**/*.py"), *TOP.glob("bench/*.py"), TOP / "crates.txt"]:
+        others = [*TOP.glob("tools/**/*.py"), *TOP.glob("bench/*.py"), *TOP.glob("bindings/rust/src/*.rs")]
+        for file in [TOP / "tools/edits", *others, TOP / "crates.txt"]:
             self.words.update(words_of(file.read_text()))
 
     def read(self, file):
@@ -205,7 +207,8 @@ def check_map(page, code):
 
 
 def checked(page, code):
-    return [*check_page(page, code), *check_examples(page, code)]
+    is_run = page.parent == TOP / "docs" / "use"
+    return [*check_page(page, code), *([] if is_run else check_examples(page, code))]
 
 
 def main():
