@@ -1,5 +1,5 @@
 #!/usr/bin/env python3
-"""Checks what the documents cite against the code: paths, modules, functions, clauses and definitions.
+"""Checks what the documents cite against the code: paths, functions, clauses and definitions.
 
     python3 tools/cited.py
 
@@ -11,8 +11,7 @@ the top but for the changelog, those of docs/ and those of the crates. Checked a
 - in a table with a column "Contract", or with "Call" and "Clause", each name there: a clause is one of a function,
   or a field of a record, that the row names;
 - each line of Rust in a fenced example, but for comments: some one file of a crate has all of them (those of
-  docs/use are run instead, by bindings/check.sh);
-- in docs/ARCHITECTURE.md, that the table of a crate names each of its modules and files of specs/, and no other.
+  docs/use are run instead, by bindings/check.sh).
 """
 
 import pathlib
@@ -47,12 +46,11 @@ FOREIGN = {
 
 
 class Code:
-    """What the code has: its words, the modules of its crates, clauses of functions, fields of records."""
+    """What the code has: its words, clauses of functions, fields of records."""
 
     def __init__(self):
         self.words = set(FOREIGN)
         self.defined = set(FOREIGN)
-        self.modules = {}
         self.clauses = {}
         self.fields = {}
         self.sources = []
@@ -74,7 +72,6 @@ class Code:
             self.fields.setdefault(record[1], set()).update(FIELD.findall(record[0]))
         if part == "src":
             self.sources.append({it.strip() for it in text.splitlines()})
-            self.modules.setdefault(crate, set()).add("::".join(inside))
             if not is_test:
                 self.read_functions(text)
 
@@ -189,23 +186,6 @@ def check_examples(page, code):
             yield text[: example.start()].count("\n") + 1, "no file has every line of this example"
 
 
-def check_map(page, code):
-    """Yields modules and files of specs/ that the map doesn't name under their crate, and rows of no module or file."""
-    heads = rf"^\*\*(`{WORD}`(?:, `{WORD}`)*)\*\*"
-    parts = re.split(heads, page.read_text().partition("## Modules")[2], flags=re.M)
-    for crates, text in zip(parts[1::2], parts[2::2]):
-        named = set(re.findall(NAME, " ".join(CODE.findall(text))))
-        rows = {it for row in re.findall(r"^\|([^|]*)\|", text, re.M) for it in CODE.findall(row) if "/" not in it}
-        for crate in re.findall(WORD, crates):
-            modules = code.modules.get(crate, set()) - {"lib", "main", "tests"}
-            files = {it.stem for it in (CRATES / crate).glob("*/*.antt")}
-            yield from (f"{crate}: the map names {it}, which is none of its modules" for it in rows - modules - files)
-            words = {it.stem for it in (CRATES / crate / "specs").glob("*.antt")} - {"Lib"}
-            for missing in sorted((modules | words) - named):
-                if not any(it.startswith(f"{missing}::") for it in modules & named):
-                    yield f"{crate}: the map does not name {missing}"
-
-
 def checked(page, code):
     is_run = page.parent == TOP / "docs" / "use"
     return [*check_page(page, code), *([] if is_run else check_examples(page, code))]
@@ -217,7 +197,6 @@ def main():
     pages = [*sorted(it for it in TOP.glob("*.md") if it.name != "CHANGELOG.md"), *sorted(TOP.glob("docs/**/*.md")), *sorted(CRATES.glob("*/*.md"))]
     pages += sorted(TOP.glob("bench/*.md"))
     faults = [f"{page.relative_to(TOP)}:{number}: {it}" for page in pages for number, it in checked(page, code)]
-    faults += [f"docs/ARCHITECTURE.md: {it}" for it in check_map(TOP / "docs" / "ARCHITECTURE.md", code)]
     print("".join(f"{it}\n" for it in faults), end="")
     print(f"tools/cited.py: {len(pages)} pages, {len(faults)} citations that find nothing")
     return 1 if faults else 0
