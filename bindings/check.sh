@@ -210,6 +210,18 @@ c_recipes_hold() {
     done
 }
 
+# Whether a comment stands over each function of the header, except those that its macros call.
+header_is_documented() {
+    awk '/^([a-z0-9_]+ |static inline .*)html5_[a-z0-9_]*\(/ && !/_page\(/ && before !~ /\*\/$/ { print; bad = 1 }
+        /[^ ]/ { before = $0 }
+        END { exit bad }' c/firnuubal.h
+}
+
+# Whether all that the crate shows is documented, without a warning.
+crate_is_documented() {
+    RUSTDOCFLAGS="-D warnings -D missing-docs" rust doc --no-deps
+}
+
 # Whether the pieces of docs/use/rust.md are right, with the crate that was built last.
 rust_recipes_hold() {
     local built=$out/target/release
@@ -246,6 +258,7 @@ in_c() {
         check "what they test, $test" "$out/$test-c"
     done
     has g++ "the header in C++" && check "the header in C++" g++ -std=c++11 -Wall -Wextra -Werror -fsyntax-only -x c++ c/firnuubal.h
+    check "the comments of the header" header_is_documented
     check "the reader in C" built_in_c examples/tokens.c tokens-c
     check "the tokens from C" prints_as tokens "$out/tokens-c"
     check "the places from C" prints_as places "$out/tokens-c"
@@ -271,6 +284,7 @@ in_rust() {
     check "the tokens from Rust" prints_as tokens "$out/target/release/examples/tokens"
     check "the places from Rust" prints_as places "$out/target/release/examples/tokens"
     check "cleaned pages from Rust" prints_as cleaned "$out/target/release/examples/clean"
+    check "the reference of the crate" crate_is_documented
     check "the crate as it is packaged" is_a_whole_crate
     has rustfmt "the layout of the sources in Rust" && check "the layout of the sources in Rust" cargo fmt --check --manifest-path rust/Cargo.toml
     return 0

@@ -19,6 +19,7 @@
 //! }
 //! # Ok::<(), firnuubal::Error>(())
 //! ```
+#![warn(missing_docs)]
 
 mod builder;
 mod cleaner;
@@ -81,7 +82,7 @@ pub enum Replies {
 /// [`Encoding::StrictUtf8`].
 ///
 /// What takes whole pages of bytes reads them by [`Encoding::Auto`], unless it is told otherwise. A [`Tokenizer`] and a
-/// [`Cleaner`](crate::Cleaner) are strict, unless they are told otherwise. A `&str` is UTF-8, whatever it says of itself.
+/// [`Cleaner`] are strict, unless they are told otherwise. A `&str` is UTF-8, whatever it says of itself.
 ///
 /// ```
 /// use firnuubal::{read_text, Encoding};
