@@ -679,6 +679,7 @@ static inline bool html5_fill(html5_reader *reader, html5_handle *handle) {
     }
 }
 
+/* Gives back the reader's memory. It may be used again then, and tokens that were read of it are gone. */
 static inline void html5_reader_free(html5_reader *reader) {
     free(reader->bytes);
     memset(reader, 0, sizeof *reader);
