@@ -6,8 +6,9 @@
     python3 tools/map.py --find WORD   # the files of all crates whose head has a word that begins so
     python3 tools/map.py --check       # that each file has a head, and docs/ARCHITECTURE.md names each crate
 
-A head is the comment at the top of a file, or of its first item. Crates are in the order of crates.txt, in which each
-stands after those that it uses. Tests, and answers in the proof of one function, need no head.
+A head is the comment at the top of a file, or where there is none that of its first documented item. Crates are in the
+order of crates.txt, in which each stands after those that it uses. Tests, and answers in the proof of one function, need
+no head.
 """
 
 import pathlib
@@ -17,7 +18,7 @@ import sys
 
 TOP = pathlib.Path(__file__).resolve().parent.parent
 CRATES = TOP / "crates"
-MARKS = {".rt": "//[!/]? ", ".antt": "-- "}
+MARKS = {".rt": "//!? ", ".antt": "-- "}
 ROOTS = ("lib", "main")
 
 
@@ -26,11 +27,16 @@ def crates():
     return [line.partition(":")[0].split()[0] for line in lines if line.strip() and not line.startswith("#")]
 
 
-def head_of(file):
-    """The first paragraph of the first comment of a file that stands at the beginning of a line, on one line."""
-    mark = MARKS[file.suffix]
-    found = re.search(rf"(?:^{mark}\S.*\n)+", file.read_text(), re.M)
+def paragraph(mark, text):
+    """The first lines that begin with a mark, without it, as one line."""
+    found = re.search(rf"^(?:{mark}\S.*\n)+", text, re.M)
     return " ".join(re.sub(f"^{mark}", "", line) for line in found[0].splitlines()) if found else ""
+
+
+def head_of(file):
+    """The first paragraph of a file's head."""
+    text, mark = file.read_text(), MARKS[file.suffix]
+    return paragraph(mark, text) if re.match(mark, text) else paragraph("/// ", text)
 
 
 def root_of(crate):

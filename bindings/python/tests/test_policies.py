@@ -143,6 +143,14 @@ class Refusals(unittest.TestCase):
 
 
 class Defaults(unittest.TestCase):
+    def test_a_policy_stays_where_another_is_refused(self):
+        policy = Policy(tags={"p"})
+        for given in ({"tags": {"script"}}, {"text": "allow script"}):
+            with self.assertRaises(PolicyError):
+                policy.__init__(**given)
+            self.assertEqual(policy, Policy(tags={"p"}))
+            self.assertEqual(clean("<p><b>1", policy), "<p>1</p>")
+
     def test_the_page_is_made_to_fit(self):
         self.assertEqual(clean("<p>1<p>2", tags={"p"}), "<p>1</p><p>2</p>")
         self.assertEqual(clean("<p>1<p>2", tags={"p"}, tree=True), "<p>1</p><p>2</p>")

@@ -205,8 +205,8 @@ def clean(
 
     What is kept is made to fit, or balanced, as `Policy` says. A tokenizer that goes on after the kept tags, as the standard's
     does, reads it as exactly these tags and the text. Where it is made to fit, what a browser builds of it in a `div`, by the
-    standard's rules, is the nesting of these tags, but for a line feed straight after a `<pre>`, which is ignored; else no
-    promise is made of the tree.
+    standard's rules, is the nesting of these tags, but for a line feed straight after a `<pre>` or `<listing>`, which is
+    ignored; else no promise is made of the tree.
 
     >>> clean("<p onclick=x>1")
     '<p>1</p>'

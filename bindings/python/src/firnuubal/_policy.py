@@ -303,11 +303,12 @@ class Policy:
             if said is not None:
                 raise TypeError("a policy has a text or keywords, not both")
             said = text_of("text", text)
-        self._said = said
+        # It is tried first, so that where it is refused a policy of before stays as it was.
         if isinstance(said, Keywords):
             policy_handle(said)
         elif said is not None:
             cleaner_handle(said)
+        self._said = said
 
     @property
     def text(self) -> Optional[str]:
