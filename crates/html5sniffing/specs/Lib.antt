@@ -3,3 +3,4 @@ pub mod Meta
 pub mod PageDecoding
 pub mod PageEncoding
 pub mod Pages
+pub mod XmlDeclaration

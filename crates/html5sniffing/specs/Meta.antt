@@ -68,9 +68,14 @@ says_content_type attributes = unwrap_or (option_map (λ value. str_eq_ignore_as
 abbrev pub encoding_by_pragma : List AttributeOf → Option Encoding
 encoding_by_pragma attributes = if says_content_type attributes then option_and_then encoding_in (value_of (codes "content") attributes) else None
 
--- the encoding that the attributes of a meta element name
+-- The encoding that the attributes of a meta element name, as in "prescan a byte stream to determine its encoding": a `charset` that names
+-- none hides the pragma.
+abbrev pub encoding_named_by : Option (List ℕ) → List AttributeOf → Option Encoding
+encoding_named_by (Some label) attributes = encoding_of label
+encoding_named_by None attributes = encoding_by_pragma attributes
+
 abbrev pub encoding_named : List AttributeOf → Option Encoding
-encoding_named attributes = option_or (option_and_then encoding_of (value_of (codes "charset") attributes)) (encoding_by_pragma attributes)
+encoding_named attributes = encoding_named_by (value_of (codes "charset") attributes) attributes
 
 -- "Changing the encoding while parsing": which encoding a hint means. A hint that was read says that the page is no UTF-16.
 abbrev pub meant_by : Encoding → Encoding

@@ -16,6 +16,7 @@ use Rattle.html5encodings.specs.declared.encoding.Encoding.{Encoding}
 use Rattle.html5encodings.specs.declared.encoding.Encoding.TheVariants as encoding
 use Rattle.html5encodings.specs.declared.encoding.SingleByte.TheVariants.{Windows1252}
 use Rattle.html5sniffing.specs.Meta.{meta_encoding}
+use Rattle.html5sniffing.specs.XmlDeclaration.{utf16_declared, xml_encoding}
 
 -- the encoding that a byte order mark names
 abbrev pub marked : List ℕ → Option Encoding
@@ -48,16 +49,21 @@ hint_step hint tag line = option_or hint (meta_encoding tag)
 unfoldable pub hint_of_text : List NamedReference → List ℕ → Option Encoding
 hint_of_text references text = first_hint (tags_page hint_step references None text)
 
--- The first hint of the front of a page that is decoded by the tentative encoding. "Changing the encoding while parsing": by UTF-16
+-- The first hint by a tag of the front of a page that is decoded by the tentative encoding. "Changing the encoding while parsing": by UTF-16
 -- none counts, since it would be in a page of another encoding.
 abbrev pub hint_by : Encoding → List NamedReference → List ℕ → Option Encoding
 hint_by encoding.Utf16Be references front = None
 hint_by encoding.Utf16Le references front = None
 hint_by tentative references front = hint_of_text references (encode_utf8_all (decoded tentative front))
 
+-- The hint in the front of a page, as "prescan a byte stream to determine its encoding" has it: an XML declaration in UTF-16; else the
+-- first `meta` that names an encoding; else an XML declaration.
+abbrev pub hint_in : Encoding → List NamedReference → List ℕ → Option Encoding
+hint_in tentative references front = option_or (utf16_declared front) (option_or (hint_by tentative references front) (xml_encoding front))
+
 -- the encoding of a page by the hint in it, or else the default
 abbrev pub hinted : List NamedReference → Option Encoding → List ℕ → Encoding
-hinted references fallback front = let tentative : Encoding = default_of fallback front in unwrap_or (hint_by tentative references front) tentative
+hinted references fallback front = let tentative : Encoding = default_of fallback front in unwrap_or (hint_in tentative references front) tentative
 
 -- The encoding of a page with this front: by its byte order mark; else what is said of it, as by a header of the transport; else the
 -- hint in it; else the default.
@@ -68,7 +74,7 @@ encoding_of_page references said fallback front = unwrap_or (option_or (marked f
 -- no mark, nothing said and no hint in them tells the encoding.
 abbrev pub looks_further : List NamedReference → Option Encoding → Option Encoding → List ℕ → Bool
 looks_further references said fallback first =
-    is_none (option_or (marked first) said) && (list_all is_plain first && is_none (hint_by (default_of fallback first) references first))
+    is_none (option_or (marked first) said) && (list_all is_plain first && is_none (hint_in (default_of fallback first) references first))
 
 -- The front of a page: its first 1,024 bytes; or, where they tell nothing, the plain ASCII that it begins with, as long as that is, but at
 -- most 65,536 bytes.

@@ -10,6 +10,7 @@ mod page;
 mod page_decoder;
 mod page_encoding;
 mod plain;
+mod xml_declaration;
 
 pub use crate::front::{FRONT_LEN, Front, LONG_FRONT_LEN};
 pub use crate::fronted::Fronted;

@@ -84,8 +84,8 @@ fn quote_in(quote: u8, bytes: &[u8]) -> Option<usize>
     bytes.iter().position(|byte| *byte == quote)
 }
 
-// The bytes up to the first quote.
-fn up_to_quote(quote: u8, bytes: &[u8]) -> Option<&[u8]>
+/// The bytes up to the first one that is this quote.
+pub(crate) fn up_to_quote(quote: u8, bytes: &[u8]) -> Option<&[u8]>
     ensures { option_map (λ label. label.now) result ≡ up_to_quote quote bytes.now }
 {
     match quote_in(quote, bytes) {
@@ -194,12 +194,10 @@ fn encoding_by_pragma<A: Allocator>(attributes: &[Attribute<A>]) -> Option<Encod
 fn encoding_named<A: Allocator>(attributes: &[Attribute<A>]) -> Option<Encoding>
     ensures { result ≡ encoding_named (map attribute_of attributes.now) }
 {
-    if let Some(label) = value_of(attributes, "charset")
-        && let Some(encoding) = Encoding::for_label(label)
-    {
-        return Some(encoding);
+    match value_of(attributes, "charset") {
+        Some(label) => Encoding::for_label(label),
+        None => encoding_by_pragma(attributes),
     }
-    encoding_by_pragma(attributes)
 }
 
 // Which encoding a hint means.
@@ -213,8 +211,8 @@ fn meant_by(hint: Encoding) -> Encoding
     }
 }
 
-/// The encoding that a tag is a hint of: a start tag named `meta`, by its `charset`, or by its `content`
-/// where its `http-equiv` is `content-type`.
+/// The encoding that a tag is a hint of: a start tag named `meta`, by its `charset`, or without one by its
+/// `content` where its `http-equiv` is `content-type`.
 pub fn meta_encoding<A: Allocator>(tag: &Tag<A>) -> Option<Encoding>
     ensures { result ≡ meta_encoding (tag_of tag.now) }
 {

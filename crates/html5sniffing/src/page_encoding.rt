@@ -1,10 +1,11 @@
 //! The encoding of a page, by its front.
 ghost use Rattle.std.specs.Prelude.{◌≡◌, ◌≤◌, ◌==◌, ◌&&◌, is_none, length, take, IfOk};
-ghost use Rattle.html5sniffing.specs.PageEncoding.{default_of, encoding_by, encoding_of_page, front_of, hint_by, hint_of_text, hinted, is_utf8_front, looks_further, marked};
+ghost use Rattle.html5sniffing.specs.PageEncoding.{default_of, encoding_by, encoding_of_page, front_of, hint_by, hint_in, hint_of_text, hinted, is_utf8_front, looks_further, marked};
 
 use crate::front::{FRONT_LEN, LONG_FRONT_LEN};
 use crate::meta::meta_encoding;
 use crate::plain::{are_plain, plain_len};
+use crate::xml_declaration::{utf16_declared, xml_encoding};
 use devices::ReadSource;
 use html5encodings::{Encoding, SingleByte, decode_all};
 use html5ever_interface::interface::token::{SinkFault, Tag};
@@ -54,7 +55,7 @@ fn hint_of_text<A: Allocator + Copy>(
     }
 }
 
-// The first hint of the front of a page, by the tentative encoding.
+// The first hint by a tag of the front of a page, by the tentative encoding.
 fn hint_by<A: Allocator + Copy>(
     alloc: A,
     tentative: Encoding,
@@ -68,6 +69,22 @@ fn hint_by<A: Allocator + Copy>(
     }
     let text = decode_all(alloc, tentative, &[front])?;
     hint_of_text(alloc, references, text.as_str())
+}
+
+// The hint in the front of a page.
+fn hint_in<A: Allocator + Copy>(
+    alloc: A,
+    tentative: Encoding,
+    references: &NamedReferences<A>,
+    front: &[u8],
+) -> Result<Option<Encoding>, AllocError>
+    ensures { IfOk result (λ hint. hint ≡ hint_in tentative references.now front.now) }
+{
+    if let Some(encoding) = utf16_declared(front) {
+        return Ok(Some(encoding));
+    }
+    let hint = hint_by(alloc, tentative, references, front)?;
+    Ok(hint.or(xml_encoding(front)))
 }
 
 // Whether the bytes that a page's front ends with, which are no character, may be one that is cut by 1,024 bytes.
@@ -118,13 +135,14 @@ fn hinted<A: Allocator + Copy>(
     ensures { IfOk result (λ encoding. encoding ≡ hinted references.now fallback front.now) }
 {
     let tentative = default_of(fallback, front);
-    let hint = hint_by(alloc, tentative, references, front)?;
+    let hint = hint_in(alloc, tentative, references, front)?;
     Ok(hint.unwrap_or(tentative))
 }
 
 /// The encoding of a page, by the first bytes of it, as many as `FRONT_LEN` or all: a byte order mark; else
-/// what is said of it, as by a header of the transport; else a hint in it; else the fallback; else UTF-8
-/// where these bytes are UTF-8, and windows-1252.
+/// what is said of it, as by a header of the transport; else a hint in it, by an XML declaration in UTF-16, a
+/// `meta` or an XML declaration, in this order; else the fallback; else UTF-8 where these bytes are UTF-8, and
+/// windows-1252.
 pub fn sniff<A: Allocator + Copy>(
     alloc: A,
     references: &NamedReferences<A>,
@@ -154,7 +172,7 @@ pub(crate) fn looks_further<A: Allocator + Copy>(
     if marked(first).or(said).is_some() || !are_plain(first) {
         return Ok(false);
     }
-    let hint = hint_by(alloc, default_of(fallback, first), references, first)?;
+    let hint = hint_in(alloc, default_of(fallback, first), references, first)?;
     Ok(hint.is_none())
 }
 

@@ -101,10 +101,6 @@ first_none X waiting front r is none = (
 
 -- ---- what a text gains
 
--- a text that is appended where the call answers Ok
-pub appended : (grown text back : List ℕ) (ok : Bool) → ok ≡ true → grown ≡ (if ok then text ++ back else text) → grown ≡ text ++ back
-appended grown text back ok is e = rw is at e
-
 pub IsReadTo-append : (text grown back : List ℕ) (offset : ℕ) → IsReadTo text offset → IsUtf8 back → grown ≡ text ++ back → IsReadTo grown offset
 IsReadTo-append text grown back offset read utf8 e = rw e (record {
   within = omega (arith, read.within, length-append text back);
@@ -119,6 +115,12 @@ IsReadTo-pushed text new back offset false read utf8 same = rw same read
 pub chars_after : (text grown back : List ℕ) (offset : ℕ) → IsReadTo text offset → grown ≡ text ++ back → chars (drop offset grown) ≡ chars (drop offset text) ++ chars back
 chars_after text grown back offset read e =
     ap (λ bs. chars (drop offset bs)) e ∙ ap chars (drop-append-le offset text back read.within) ∙ chars-append (drop offset text) back read.rest_utf8
+
+-- ---- what comes in front
+
+-- the rest after an offset that is within the text, and is UTF-8
+pub IsReadTo-rest : (text rest : List ℕ) (offset : ℕ) → offset ≤ length text → IsUtf8 rest → drop offset text ≡ rest → IsReadTo text offset
+IsReadTo-rest text rest offset within utf8 e = record { within = within; rest_utf8 = rw e utf8 }
 
 -- ---- what a queue gains and gives
 

@@ -3,6 +3,7 @@ ghost use Rattle.std.specs.Prelude.{◌≡◌, ◌≢◌, ℕ, true, false, ◌+
 ghost use Rattle.std.specs.Char.{IsScalar, len_utf8};
 ghost use Rattle.std.specs.Str.{IsAscii, IsUtf8, chars};
 ghost use Rattle.std.specs.String.{string_bytes};
+ghost use Rattle.std.specs.String.Boundary.{IsSplitPoint};
 ghost use Rattle.markup5ever.specs.BufferQueue.{Gains, GainsFront, IsReadTo, TakesBack, Takes};
 ghost use Rattle.markup5ever.specs.SmallCharSet.{IsMember};
 
@@ -96,6 +97,65 @@ fn append<A: Allocator>(
         }
     }
     push_text(text, back)
+}
+
+// A blank for each byte of the widest character.
+const BLANKS: &str = "    ";
+
+// Makes a place in what was taken a boundary of characters. A character that it cuts is overwritten with blanks.
+fn make_boundary<A: Allocator>(text: &mut String<A>, offset: usize, at: usize) -> bool
+    requires read_to { IsReadTo (string_bytes text.old) offset }
+    requires before { at ≤ offset }
+    ensures boundary { IsTrue result → IsSplitPoint (string_bytes text.new) at }
+    ensures waits { drop offset (string_bytes text.new) ≡ drop offset (string_bytes text.old) }
+    ensures len { length (string_bytes text.new) ≡ length (string_bytes text.old) }
+{
+    let (from, to) = (text.floor_char_boundary(at), text.ceil_char_boundary(at));
+    let width = to - from;
+    if to <= offset && width <= BLANKS.len() {
+        let _ = text.replace_range(from..to, &BLANKS[..width]);
+    }
+    text.is_char_boundary(at)
+}
+
+// Writes a text over the end of what was taken, so that it waits in front of the rest. Answers `false` where there is no
+// room: then what waits stays.
+fn write_in_front<A: Allocator>(text: &mut String<A>, offset: &mut usize, front: &str) -> bool
+    requires { IsReadTo (string_bytes text.old) offset.old }
+    ensures written { IsTrue result → drop offset.new (string_bytes text.new)
+        ≡ front.now ++ drop offset.old (string_bytes text.old) }
+    ensures no_room { result ≡ false → drop offset.new (string_bytes text.new)
+        ≡ drop offset.old (string_bytes text.old) }
+    ensures within { offset.new ≤ length (string_bytes text.new) }
+{
+    if front.len() > *offset {
+        return false;
+    }
+    let start = *offset - front.len();
+    if !make_boundary(text, *offset, start) {
+        return false;
+    }
+    if text.replace_range(start..*offset, front).is_err() {
+        return false;
+    }
+    *offset = start;
+    true
+}
+
+// Appends the rest to a text. A copy of the rest's first half comes before both, and the answer is its length: it is room
+// for further texts, so that many short ones don't copy the rest each time.
+fn append_with_room<A: Allocator>(text: &mut String<A>, rest: &str) -> Result<usize, AllocError>
+    ensures waits { IfOk result (λ offset. drop offset (string_bytes text.new)
+        ≡ string_bytes text.old ++ rest.now) }
+    ensures within { IfOk result (λ offset. offset ≤ length (string_bytes text.new)) }
+    ensures err { OnErr result (string_bytes text.new ≡ string_bytes text.old) }
+{
+    let room = rest.floor_char_boundary(rest.len() / 2);
+    text.reserve(room + rest.len())?;
+    if text.insert_str(0, &rest[..room]).is_err() || text.push_str(rest).is_err() {
+        unreachable!();
+    }
+    Ok(room)
 }
 
 // The first character of a text, and how many bytes it takes. Most are ASCII, which the first byte tells.
@@ -193,11 +253,14 @@ impl<A: Allocator> BufferQueue<A> {
         if text.is_empty() {
             return Ok(());
         }
-        if text.push_str(self.front_text()).is_err() {
-            return Err(text);
+        if write_in_front(&mut self.text, &mut self.offset, &text) {
+            return Ok(());
         }
+        let Ok(room) = append_with_room(&mut text, self.front_text()) else {
+            return Err(text);
+        };
         self.text = text;
-        self.offset = 0;
+        self.offset = room;
         Ok(())
     }
 

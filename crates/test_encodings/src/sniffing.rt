@@ -22,7 +22,7 @@ const BIG5: Option<Encoding> = Some(Encoding::Big5);
 const UTF_16: Option<Encoding> = Some(Encoding::Utf16Le);
 
 // A page, what is said of it, the fallback, and the name of its encoding.
-const PAGES: [(&[u8], Option<Encoding>, Option<Encoding>, &str); 38] = [
+const PAGES: [(&[u8], Option<Encoding>, Option<Encoding>, &str); 58] = [
     (b"", NONE, NONE, "UTF-8"),
     (b"plain", NONE, NONE, "UTF-8"),
     (b"caf\xc3\xa9", NONE, NONE, "UTF-8"),
@@ -152,9 +152,35 @@ const PAGES: [(&[u8], Option<Encoding>, Option<Encoding>, &str); 38] = [
         b"<meta charset=no-such http-equiv=content-type content='charset=gbk'>",
         NONE,
         NONE,
-        "GBK",
+        "UTF-8",
     ),
-    // Byte order marks, and UTF-16 without one.
+    (
+        b"<meta http-equiv=content-type content='charset=gbk' charset=koi8-r>",
+        NONE,
+        NONE,
+        "KOI8-R",
+    ),
+    // XML declarations.
+    (b"<?xml version=\"1.0\" encoding=\"windows-1251\"?>", NONE, NONE, "windows-1251"),
+    (b"<?xml encoding \t=\n'koi8-r' ?>caf\xc3\xa9", NONE, BIG5, "KOI8-R"),
+    (b"<?xml encoding='koi8-r'?>", GBK, NONE, "GBK"),
+    (b"<?xml encoding='utf-16'?>", NONE, BIG5, "UTF-8"),
+    (b"<?xml encoding='x-user-defined'?>", NONE, NONE, "x-user-defined"),
+    (b"<?xml encoding='koi8-r'?><meta charset=gbk>", NONE, NONE, "GBK"),
+    (b"<?xml encoding='koi8-r'", NONE, NONE, "UTF-8"),
+    (b"<?xml?><p encoding='koi8-r'>", NONE, NONE, "UTF-8"),
+    (b" <?xml encoding='koi8-r'?>", NONE, NONE, "UTF-8"),
+    (b"<?XML encoding='koi8-r'?>", NONE, NONE, "UTF-8"),
+    (b"<?xml encoding=' koi8-r'?>", NONE, NONE, "UTF-8"),
+    (b"<?xml encoding=koi8-r?>", NONE, NONE, "UTF-8"),
+    (b"<?xml encoding='koi8-r\"?>", NONE, NONE, "UTF-8"),
+    (b"<?xml encodings='gbk' encoding='koi8-r'?>", NONE, NONE, "UTF-8"),
+    (b"<?xml encoding='no-such'?>", NONE, NONE, "UTF-8"),
+    (b"<\0?\0x\0m\0l\0", NONE, BIG5, "UTF-16LE"),
+    (b"\0<\0?\0x\0m\0l", NONE, NONE, "UTF-16BE"),
+    (b"<\0?\0x\0", KOI8_R, NONE, "KOI8-R"),
+    (b"<\0?\0", NONE, NONE, "UTF-8"),
+    // Byte order marks.
     (b"\xef\xbb\xbf<meta charset=koi8-r>", GBK, BIG5, "UTF-8"),
     (b"\xfe\xff\0<", GBK, NONE, "UTF-16BE"),
     (b"\xff\xfe<\0", GBK, NONE, "UTF-16LE"),
