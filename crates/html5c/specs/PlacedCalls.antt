@@ -39,24 +39,36 @@ pub record PlacedRestartSays (old new : PlacedSessionOf) (name : List ℕ) (o : 
   pub not_utf8 : (status ≡ 4) ↔ ((are_placed o ≡ true) × ¬ (IsUtf8 name))
   pub only : (status ≡ 0) ⊎ (status ≡ 3) ⊎ (status ≡ 4) ⊎ (status ≡ 9)
 
+-- the table of references and the limit are the same
+pub record KeepsTable (old new : PlacedSessionOf) : Type 0 where
+  pub references : new.references ≡ old.references
+  pub limit : new.limit ≡ old.limit
+
 pub record PlacedFeedSays (old new : PlacedSessionOf) (bytes : List ℕ) (status : ℕ) : Type 0 where
   pub done : status ≡ 0 → Feeds old new bytes
+  pub going_on : status ≡ 0 → is_over new ≡ false
   pub no_memory : status ≡ 3 → FeedRefused old new bytes Memory
   pub not_utf8 : status ≡ 4 → (place : ℕ) × SaysFault old new bytes place
   pub limit : (status ≡ 14) ↔ ((is_over old ≡ false) × (has_room old (length bytes) ≡ false))
   pub over : (status ≡ 7) ↔ (is_over old ≡ true)
   -- at those two nothing changes
   pub unchanged : (status ≡ 7) ⊎ (status ≡ 14) → new ≡ old
+  -- whatever the status is, the page is read on by the same rules, with the same table and limit
+  pub rules : (reading_in new).rules ≡ (reading_in old).rules
+  pub keeps : KeepsTable old new
   -- no records are taken, and more come after them
   pub records : WritesOn old.records new.records
   pub only : (status ≡ 0) ⊎ (status ≡ 3) ⊎ (status ≡ 4) ⊎ (status ≡ 7) ⊎ (status ≡ 14)
 
 pub record PlacedEndSays (old new : PlacedSessionOf) (status : ℕ) : Type 0 where
   pub done : status ≡ 0 → Ends old new
+  pub ended : status ≡ 0 → is_over new ≡ true
   pub no_memory : status ≡ 3 → EndRefused old new Memory
   pub cut : status ≡ 5 → EndsWithin old new
   pub over : (status ≡ 7) ↔ (is_over old ≡ true)
   pub unchanged : status ≡ 7 → new ≡ old
+  -- another page begins with the same table and limit
+  pub keeps : KeepsTable old new
   pub records : WritesOn old.records new.records
   pub only : (status ≡ 0) ⊎ (status ≡ 3) ⊎ (status ≡ 5) ⊎ (status ≡ 7)
 

@@ -78,7 +78,7 @@ pub const SCHEME_NAME: u32 = 25;
 /// An address of such a scheme runs what stands in it.
 pub const RUNS_ADDRESS: u32 = 26;
 
-/// With the rule `tree` an allowed element has a place in the tree.
+/// The policy makes a tree, and the element has no place in it.
 pub const NO_PLACE: u32 = 27;
 
 /// How many elements may be open is no number from 1 to 4096.

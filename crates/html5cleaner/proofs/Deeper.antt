@@ -10,12 +10,11 @@ use Rattle.markup5ever.specs.NamedReferences.{NamedReference}
 use Rattle.html5elements.specs.Hidden.{hidden_after}
 use Rattle.html5nested.specs.PageItems.{items_of}
 use Rattle.html5policy.specs.Policy.{PolicyOf}
-use Rattle.html5tree.specs.Fitting.{all_open_after, open_after}
+use Rattle.html5tree.specs.Fitting.{open_after}
 use Rattle.html5tree.specs.Items.{Item}
 use Rattle.html5tree.specs.Keeping.{Keeps}
 use Rattle.html5tree.specs.Normal.{IsReady, Plan, fitted, open_after_fitted, stack_after, stays_within, written}
 use Rattle.html5tree.proofs.Normalising.{item-after, ready-after, within-first}
-use Rattle.html5tree.proofs.RightPlans.{open-fitting}
 use Rattle.html5tree.proofs.Room.{same-plan, stays-later}
 use Rattle.html5write.specs.Pieces.{Piece}
 use Rattle.html5cleaner.specs.Balance.{closed_at_end, is_end, open_by, with_depth, without_tree, written_by}
@@ -28,8 +27,7 @@ use Rattle.html5cleaner.proofs.ItemPieces.{items-append}
 use Rattle.html5cleaner.proofs.NestedPages.{GoesOn, IsReadyFor, goes-start, goes-step, shape-tree}
 use Rattle.html5cleaner.proofs.OtherPieces.{same-hidden, same-kept}
 use Rattle.html5cleaner.proofs.SameReadings.{page-same}
-use Rattle.html5cleaner.proofs.TreePages.{go-fitting}
-use Rattle.html5cleaner.proofs.TreeTwins.{page-keeps, written-items}
+use Rattle.html5cleaner.proofs.TreeTwins.{open-is, page-keeps, written-items}
 
 stays-before : (limit : ℕ) (items more : List Item) (stack : List (List ℕ)) → stays_within limit stack (items ++ more) ≡ true → stays_within limit stack items ≡ true
 unfolding stays_within
@@ -100,10 +98,6 @@ record IsDeeper (more : ℕ) (policy : PolicyOf) (c deep : Cleaned) : Type 0 whe
   goes : GoesOn deep
   same : stays_within policy.depth [] (items_of deep.pieces) ≡ true → IsSameSoFar c deep
 
--- what is open is what its pieces leave open
-open-is : (limit : ℕ) (pieces : List Piece) (opened : List (List ℕ)) → AllGo (Tree limit) [] pieces opened → all_open_after [] (items_of pieces) ≡ opened
-open-is limit pieces opened go = open-fitting limit [] opened (items_of pieces) (go-fitting limit [] opened pieces go)
-
 deeper-step : (more : ℕ) (policy : PolicyOf) (c deep : Cleaned) (run : List ℕ) (told : Told) (line : ℕ) → IsDeeper more policy c deep
     → IsDeeper more policy (clean_step c run told line) (clean_step deep run told line)
 deeper-step more policy c deep run told line t =
@@ -172,7 +166,7 @@ page-not_reached policy references bytes more tree less w =
 pub page-keeps_all : (policy : PolicyOf) (references : List NamedReference) (bytes : List ℕ) (more : ℕ) → policy.tree ≡ true → policy.depth ≤ more
     → 8 * length (items_of (kept_of_page (without_tree policy) references bytes)) ≤ more
     → stays_within policy.depth [] (items_of (kept_of_page (with_depth more policy) references bytes)) ≡ true
-    → Keeps true (items_of (kept_of_page (without_tree policy) references bytes)) (items_of (kept_of_page policy references bytes))
+    → Keeps true [] (items_of (kept_of_page (without_tree policy) references bytes)) (items_of (kept_of_page policy references bytes))
 page-keeps_all policy references bytes more tree less enough w =
-    subst (λ p. Keeps true (items_of (kept_of_page (without_tree policy) references bytes)) (items_of p)) (sym (page-not_reached policy references bytes more tree less w))
+    subst (λ p. Keeps true [] (items_of (kept_of_page (without_tree policy) references bytes)) (items_of p)) (sym (page-not_reached policy references bytes more tree less w))
     (page-keeps true more policy references bytes tree (λ e. enough))

@@ -13,34 +13,39 @@ use Rattle.html5nested.specs.PageItems.{items_of}
 use Rattle.html5policy.specs.Policy.{PolicyOf}
 use Rattle.html5tree.specs.Items.{Item}
 use Rattle.html5tree.specs.Items.Item.{EndTag}
-use Rattle.html5tree.specs.Keeping.{Keeps}
+use Rattle.html5tree.specs.Keeping.{AreAdded, Keeps}
+use Rattle.html5tree.specs.Fitting.{all_open_after}
 use Rattle.html5tree.specs.Normal as normal
 use Rattle.html5tree.specs.Normal.{IsReady, fitted, open_after_fitted}
 use Rattle.html5tree.proofs.Bounds.{item-cost}
-use Rattle.html5tree.proofs.Keeping.{keeps-append, keeps-ends, keeps-item, keeps-same}
+use Rattle.html5tree.proofs.Keeping.{added-ends, added-none, keeps-added, keeps-append, keeps-item}
+use Rattle.html5tree.proofs.Normalising.{ready-after}
+use Rattle.html5tree.proofs.RightPlans.{open-fitting}
 use Rattle.html5write.specs.Pieces.{Piece}
 use Rattle.html5cleaner.specs.Balance.{closed_at_end, end_tags, is_end, open_by, with_depth, without_tree, written_by}
 use Rattle.html5cleaner.specs.Clean.{Cleaned, at_start, clean_step, kept_where, opens}
 use Rattle.html5cleaner.specs.Cleaning.{kept_of_page}
 use Rattle.html5cleaner.specs.Shape.{Shape, all_fitted, open_after_all, pieces_in, shape_by_balance, shape_of}
 use Rattle.html5cleaner.specs.Shape.Shape.{AsKept, Tree}
+use Rattle.html5cleaner.proofs.Balancing.{AllGo}
 use Rattle.html5cleaner.proofs.FittedItems.{of-all}
 use Rattle.html5cleaner.proofs.ItemPieces.{IsSame, items-append, same-closed, same-items, same-open, same-pieces}
 use Rattle.html5cleaner.proofs.NestedPages.{GoesOn, IsReadyFor, goes-start, goes-step, shape-tree}
 use Rattle.html5cleaner.proofs.OtherPieces.{same-hidden, same-kept}
 use Rattle.html5cleaner.proofs.SameReadings.{page-same}
+use Rattle.html5cleaner.proofs.TreePages.{go-fitting}
 
 -- ---- what is written for some pieces
 
-fitted-keeps : (enough : Bool) (limit : ℕ) (stack : List (List ℕ)) (items : List Item) → (enough ≡ true → length stack + 8 * length items ≤ limit)
-    → Keeps enough items (all_fitted limit stack items)
+fitted-keeps : (enough : Bool) (limit : ℕ) (stack : List (List ℕ)) (items : List Item) → IsReady limit stack → (enough ≡ true → length stack + 8 * length items ≤ limit)
+    → Keeps enough stack items (all_fitted limit stack items)
 unfolding all_fitted
-fitted-keeps enough limit stack [] room = keeps-same enough []
-fitted-keeps enough limit stack (item ∷ items) room =
+fitted-keeps enough limit stack [] ready room = keeps-added enough stack [] added-none
+fitted-keeps enough limit stack (item ∷ items) ready room =
     let cost = item-cost limit stack item in
-    keeps-append enough (item ∷ []) (fitted limit stack item) items (all_fitted limit (open_after_fitted limit stack item) items)
-    (keeps-item enough limit stack item (λ e. let r = room e in omega (arith, r)))
-    (fitted-keeps enough limit (open_after_fitted limit stack item) items (λ e. let r = room e in omega (arith, r, cost)))
+    keeps-item enough limit stack item items (all_fitted limit (open_after_fitted limit stack item) items) ready
+    (λ e. let r = room e in omega (arith, r))
+    (fitted-keeps enough limit (open_after_fitted limit stack item) items (ready-after limit stack item ready) (λ e. let r = room e in omega (arith, r, cost)))
 
 fitted-short : (limit : ℕ) (stack : List (List ℕ)) (items : List Item) → length (open_after_all limit stack items) ≤ length stack + 8 * length items
 unfolding open_after_all
@@ -62,22 +67,22 @@ written-items limit stack pieces ready =
     same-items (all_fitted limit stack (items_of pieces))
     (of-all IsSame same-closed limit stack (items_of pieces) (same-open stack ready.stand) (same-pieces pieces)).0
 
-end-keeps : (enough ends : Bool) (stack : List (List ℕ)) → Keeps enough [] (items_of (closed_at_end ends stack))
+end-added : (ends : Bool) (stack : List (List ℕ)) → AreAdded (items_of (closed_at_end ends stack))
 unfolding items_of
-end-keeps enough true stack = subst (Keeps enough []) (sym (ends-items stack)) (keeps-ends enough (map encode_utf8_all stack))
-end-keeps enough false stack = keeps-same enough []
+end-added true stack = subst AreAdded (sym (ends-items stack)) (added-ends (map encode_utf8_all stack))
+end-added false stack = added-none
 
 written-keeps : (enough : Bool) (limit : ℕ) (ends : Bool) (stack : List (List ℕ)) (pieces : List Piece) → IsReady limit stack
     → (enough ≡ true → length stack + 8 * length (items_of pieces) ≤ limit)
-    → Keeps enough (items_of pieces) (items_of (written_by (Tree limit) ends stack pieces))
+    → Keeps enough stack (items_of pieces) (items_of (written_by (Tree limit) ends stack pieces))
 unfolding written_by
 written-keeps enough limit ends stack pieces ready room =
     let items : List Item = items_of pieces in
     let closing : List Piece = closed_at_end ends (open_after_all limit stack items) in
-    subst (Keeps enough items) (sym (items-append (pieces_in (all_fitted limit stack items)) closing ∙ ap (λ l. l ++ items_of closing) (written-items limit stack pieces ready)))
-    (subst (λ l. Keeps enough l (all_fitted limit stack items ++ items_of closing)) (append-nil items)
-    (keeps-append enough items (all_fitted limit stack items) [] (items_of closing) (fitted-keeps enough limit stack items room)
-    (end-keeps enough ends (open_after_all limit stack items))))
+    subst (Keeps enough stack items) (sym (items-append (pieces_in (all_fitted limit stack items)) closing ∙ ap (λ l. l ++ items_of closing) (written-items limit stack pieces ready)))
+    (subst (λ l. Keeps enough stack l (all_fitted limit stack items ++ items_of closing)) (append-nil items)
+    (keeps-append enough stack items (all_fitted limit stack items) [] (items_of closing) (fitted-keeps enough limit stack items ready room)
+    (keeps-added enough _ (items_of closing) (end-added ends (open_after_all limit stack items)))))
 
 open-short : (limit : ℕ) (ends : Bool) (stack : List (List ℕ)) (pieces : List Piece)
     → length (open_by (Tree limit) ends stack pieces) ≤ length stack + 8 * length (items_of pieces)
@@ -95,16 +100,22 @@ length-items : (first second : List Piece) → length (items_of (first ++ second
 length-items first second = ap length (items-append first second) ∙ length-append (items_of first) (items_of second)
 
 step-keeps : (enough : Bool) (limit : ℕ) (ends : Bool) (opened : List (List ℕ)) (plain made kept : List Piece) → IsReady limit opened
-    → length opened ≤ 8 * length (items_of plain) → (HasRoomFor enough limit plain → Keeps enough (items_of plain) (items_of made))
-    → HasRoomFor enough limit (plain ++ kept) → Keeps enough (items_of (plain ++ kept)) (items_of (made ++ written_by (Tree limit) ends opened kept))
-step-keeps enough limit ends opened plain made kept ready short before room =
+    → length opened ≤ 8 * length (items_of plain) → all_open_after [] (items_of made) ≡ opened
+    → (HasRoomFor enough limit plain → Keeps enough [] (items_of plain) (items_of made))
+    → HasRoomFor enough limit (plain ++ kept) → Keeps enough [] (items_of (plain ++ kept)) (items_of (made ++ written_by (Tree limit) ends opened kept))
+step-keeps enough limit ends opened plain made kept ready short open before room =
     let both = length-items plain kept in
     let more : List Piece = written_by (Tree limit) ends opened kept in
-    subst (λ l. Keeps enough l (items_of (made ++ more))) (sym (items-append plain kept))
-    (subst (λ l. Keeps enough (items_of plain ++ items_of kept) l) (sym (items-append made more))
-    (keeps-append enough (items_of plain) (items_of made) (items_of kept) (items_of more)
+    subst (λ l. Keeps enough [] l (items_of (made ++ more))) (sym (items-append plain kept))
+    (subst (λ l. Keeps enough [] (items_of plain ++ items_of kept) l) (sym (items-append made more))
+    (keeps-append enough [] (items_of plain) (items_of made) (items_of kept) (items_of more)
     (before (λ e. let r = room e in omega (arith, r, both)))
-    (written-keeps enough limit ends opened kept ready (λ e. let r = room e in omega (arith, r, both, short)))))
+    (subst (λ (o : List (List ℕ)). Keeps enough o (items_of kept) (items_of more)) (sym open)
+    (written-keeps enough limit ends opened kept ready (λ e. let r = room e in omega (arith, r, both, short))))))
+
+-- what is open is what its pieces leave open
+pub open-is : (limit : ℕ) (pieces : List Piece) (opened : List (List ℕ)) → AllGo (Tree limit) [] pieces opened → all_open_after [] (items_of pieces) ≡ opened
+open-is limit pieces opened go = open-fitting limit [] opened (items_of pieces) (go-fitting limit [] opened pieces go)
 
 record IsTwin (enough : Bool) (limit : ℕ) (policy : PolicyOf) (c twin : Cleaned) : Type 0 where
   keeps : c.policy ≡ with_depth limit policy
@@ -113,7 +124,7 @@ record IsTwin (enough : Bool) (limit : ℕ) (policy : PolicyOf) (c twin : Cleane
   tree : policy.tree ≡ true
   goes : GoesOn c
   short : length c.opened ≤ 8 * length (items_of twin.pieces)
-  kept : HasRoomFor enough limit twin.pieces → Keeps enough (items_of twin.pieces) (items_of c.pieces)
+  kept : HasRoomFor enough limit twin.pieces → Keeps enough [] (items_of twin.pieces) (items_of c.pieces)
 
 as-kept : (shape : Shape) (ends : Bool) (opened : List (List ℕ)) (pieces : List Piece) → shape ≡ AsKept → written_by shape ends opened pieces ≡ pieces
 unfolding written_by
@@ -135,6 +146,7 @@ twin-step enough limit policy c twin run told line t =
     let opening : open_by (shape_of c.policy) (is_end told) c.opened kept ≡ open_by (Tree limit) (is_end told) c.opened other =
     λ i. open_by (shape i) (is_end told) c.opened (same i) in
     let ready : IsReady limit c.opened = subst (λ s. IsReadyFor s c.opened) shape t.goes.1 in
+    let open = open-is limit c.pieces c.opened (subst (λ s. AllGo s [] c.pieces c.opened) shape t.goes.0) in
     record {
       keeps = t.keeps;
       plain = t.plain;
@@ -151,9 +163,9 @@ twin-step enough limit policy c twin run told line t =
           (subst (λ (o : List (List ℕ)). length o ≤ 8 * length (items_of (twin.pieces ++ other))) (sym opening) m);
       kept = λ room.
           let room_for : HasRoomFor enough limit (twin.pieces ++ other) = subst (λ p. HasRoomFor enough limit (twin.pieces ++ p)) plain room in
-          subst (λ p. Keeps enough (items_of (twin.pieces ++ p)) (items_of (c.pieces ++ written_by (shape_of c.policy) (is_end told) c.opened kept))) (sym plain)
-          (subst (λ p. Keeps enough (items_of (twin.pieces ++ other)) (items_of (c.pieces ++ p))) (sym written)
-          (step-keeps enough limit (is_end told) c.opened twin.pieces c.pieces other ready t.short t.kept room_for));
+          subst (λ p. Keeps enough [] (items_of (twin.pieces ++ p)) (items_of (c.pieces ++ written_by (shape_of c.policy) (is_end told) c.opened kept))) (sym plain)
+          (subst (λ p. Keeps enough [] (items_of (twin.pieces ++ other)) (items_of (c.pieces ++ p))) (sym written)
+          (step-keeps enough limit (is_end told) c.opened twin.pieces c.pieces other ready t.short open t.kept room_for));
     }
 
 start-twins : (enough : Bool) (limit : ℕ) (policy : PolicyOf) → policy.tree ≡ true → IsTwin enough limit policy (at_start (with_depth limit policy)) (at_start (without_tree policy))
@@ -164,13 +176,13 @@ start-twins enough limit policy tree = record {
   tree = tree;
   goes = goes-start (with_depth limit policy);
   short = omega arith;
-  kept = λ room. keeps-same enough (items_of []);
+  kept = λ room. keeps-added enough [] (items_of []) added-none;
 }
 
 -- of a page whose bytes are given, by a policy of any depth
 pub page-keeps : (enough : Bool) (limit : ℕ) (policy : PolicyOf) (references : List NamedReference) (bytes : List ℕ) → policy.tree ≡ true
     → (enough ≡ true → 8 * length (items_of (kept_of_page (without_tree policy) references bytes)) ≤ limit)
-    → Keeps enough (items_of (kept_of_page (without_tree policy) references bytes)) (items_of (kept_of_page (with_depth limit policy) references bytes))
+    → Keeps enough [] (items_of (kept_of_page (without_tree policy) references bytes)) (items_of (kept_of_page (with_depth limit policy) references bytes))
 page-keeps enough limit policy references bytes tree room =
     let start : Cleaned = at_start (with_depth limit policy) in
     let M : List Message = runs_page clean_step references start bytes in
@@ -178,9 +190,9 @@ page-keeps enough limit policy references bytes tree room =
     ap (λ N. (runs_handed clean_step (at_start (without_tree policy)) N).pieces)
     (page-same clean_step clean_step references start (at_start (without_tree policy)) bytes) in
     let twins = between-handed clean_step clean_step (IsTwin enough limit policy) (twin-step enough limit policy) start (at_start (without_tree policy)) M (start-twins enough limit policy tree) in
-    subst (λ p. Keeps enough (items_of p) (items_of (kept_of_page (with_depth limit policy) references bytes))) same
+    subst (λ p. Keeps enough [] (items_of p) (items_of (kept_of_page (with_depth limit policy) references bytes))) same
     (twins.kept (λ e. subst (λ p. 8 * length (items_of p) ≤ limit) (sym same) (room e)))
 
 pub page-keeps_some : (policy : PolicyOf) (references : List NamedReference) (bytes : List ℕ) → policy.tree ≡ true
-    → Keeps false (items_of (kept_of_page (without_tree policy) references bytes)) (items_of (kept_of_page policy references bytes))
+    → Keeps false [] (items_of (kept_of_page (without_tree policy) references bytes)) (items_of (kept_of_page policy references bytes))
 page-keeps_some policy references bytes tree = page-keeps false policy.depth policy references bytes tree (λ e. absurd (false≢true e))

@@ -117,10 +117,11 @@ pub fn tree_of_cleaned_page<S: TokenSink<Token<A>>, A: Allocator>()
     fitting_pieces_are_markup::<S, A>();
 }
 
-/// Such a page that is put into a host, wherever it is read in Data (`cleaned_part` says what it tells there): where it
-/// suits the host (`suits`), it is built in place, as its pieces are nested (`in_place`), and leaves the host's open
-/// elements, insertion mode, form element pointer and foster parenting as they were (`back`). Each page suits a flow
-/// host, such as a `div` or a cell (`html5tree::laws::flow_hosts`).
+/// Such a page that is put into a host (`IsHost`), wherever it is read in Data with no CR directly before (`cleaned_part`
+/// says what it tells there). If it suits the host (`suits`), it is built in place, as its pieces are nested. A newline
+/// straight after the start tag of a `pre` is ignored (`as_read`); without one it is built as it stands (`in_place`). It
+/// leaves the host's open elements, insertion mode, form element pointer and foster parenting as they were (`back`). Each
+/// page suits a flow host, such as a `div` or a cell that stands in no form (`html5tree::laws::flow_hosts`).
 pub fn cleaned_page_in_host()
     ensures in_place { (policy : PolicyOf) (references : List NamedReference) (text : List ℕ) (exact : Bool) (input : Input)
         (fresh : Bool) (p : Parser) (path : Path) → policy.tree ≡ true → IsHost p path
@@ -128,6 +129,11 @@ pub fn cleaned_page_in_host()
         → keeps_newlines fresh (items_of (kept_of_page policy references text)) ≡ true
         → tree_in (parsed fresh p (items_told (proper (pieces_messages exact input (kept_of_page policy references text)))))
         ≡ whole (put_at path (nesting (items_of (kept_of_page policy references text)))) }
+    ensures as_read { (policy : PolicyOf) (references : List NamedReference) (text : List ℕ) (exact : Bool) (input : Input)
+        (fresh : Bool) (p : Parser) (path : Path) → policy.tree ≡ true → IsHost p path
+        → suits (names p.page.opened) (items_of (kept_of_page policy references text)) ≡ true
+        → tree_in (parsed fresh p (items_told (proper (pieces_messages exact input (kept_of_page policy references text)))))
+        ≡ whole (put_at path (nesting (read_items fresh (items_of (kept_of_page policy references text))))) }
     ensures back { (policy : PolicyOf) (references : List NamedReference) (text : List ℕ) (exact : Bool) (input : Input)
         (fresh : Bool) (p : Parser) (path : Path) → policy.tree ≡ true → IsHost p path
         → suits (names p.page.opened) (items_of (kept_of_page policy references text)) ≡ true
@@ -137,19 +143,19 @@ pub fn cleaned_page_in_host()
     fits_in_host();
 }
 
-/// What the rule `tree` leaves out of what the same policy keeps without it, and what it adds (`Keeps`, of html5tree): all
-/// text is kept, and each start tag with its attributes, in their order, but for parts of tables and forms, which may be
-/// left out (`html5tree::laws::normal_item` says where); end tags come and go, and start tags of `tbody`, `tr`,
-/// `colgroup`, `td`, `p` and `br` are added, without attributes. That is so where nowhere more elements would be open than
-/// the policy's depth, if any number could be, such as eight for each piece (`all`). Of any page a start tag may be left
-/// out, too, and of its text what is no white space (`some`).
+/// What the rule `tree` leaves out of what the same policy keeps without it, and what it adds (`Keeps`, of html5tree). All
+/// text is kept, and each start tag with its attributes, in one order. A start tag is left out only where it has no place
+/// (`has_place`): a part of a table outside one, or a form in another or straight in a table. End tags come and go. Start
+/// tags of `tbody`, `tr`, `colgroup`, `td`, `p` and `br` are added, without attributes. That is so where nowhere more elements
+/// would be open than the policy's depth, if any number could be, such as eight for each piece (`all`). Of any page a start
+/// tag may be left out, too, and of its text what is no white space (`some`).
 pub fn kept_in_tree()
     ensures all { (policy : PolicyOf) (references : List NamedReference) (text : List ℕ) (more : ℕ) → policy.tree ≡ true
         → policy.depth ≤ more → 8 * length (items_of (kept_of_page (without_tree policy) references text)) ≤ more
         → stays_within policy.depth [] (items_of (kept_of_page (with_depth more policy) references text)) ≡ true
-        → Keeps true (items_of (kept_of_page (without_tree policy) references text)) (items_of (kept_of_page policy references text)) }
+        → Keeps true [] (items_of (kept_of_page (without_tree policy) references text)) (items_of (kept_of_page policy references text)) }
     ensures some { (policy : PolicyOf) (references : List NamedReference) (text : List ℕ) → policy.tree ≡ true
-        → Keeps false (items_of (kept_of_page (without_tree policy) references text)) (items_of (kept_of_page policy references text)) }
+        → Keeps false [] (items_of (kept_of_page (without_tree policy) references text)) (items_of (kept_of_page policy references text)) }
 {}
 
 /// Cleaning twice by a policy changes nothing, whatever the table of each reading: what was kept of a text

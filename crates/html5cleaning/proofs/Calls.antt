@@ -188,9 +188,8 @@ feeds_piece old new bytes going at_once feeds =
           fed_text policy references old new before (before ++ bytes) feeds.text whole.utf8 reads waits.taken feeds.feeds.rules fed
           (subst (λ (i : IntakeOf). IsTextSoFar references i (before ++ bytes) (fed.text ++ feeds.text)) (sym feeds.intake)
           (on before fed.text fed.parts));
+      feeds = feeds;
       waits = waits;
-      kept = feeds.kept;
-      going_on = feeds.going_on;
     }
 
 says_front : (old new : CleaningOf) (bytes : List ℕ) (place : ℕ) → is_over old ≡ false → ReadsAtOnce old.intake
@@ -325,6 +324,7 @@ pub rest_refused : (old mid : CleaningOf) (error : SessionError) → is_over old
 rest_refused old mid Memory going decoding at_once (inl unchanged) = subst (λ (b : Bool). EndWantsMemory b old mid) (sym decoding) (inl unchanged)
 rest_refused old mid Memory going decoding at_once (inr loses) =
     subst (λ (b : Bool). EndWantsMemory b old mid) (sym decoding) (inr (record {
+      loses = inl loses;
       waits = on_refused old mid TheEnd Memory going (inr loses);
       references = ap (λ (w : CleaningOf). w.references) loses.kept;
       over = lost_over mid loses.lost;
@@ -342,6 +342,7 @@ pub decoded_refused : (old mid new : CleaningOf) (error : SessionError) → is_o
     → ReadsRest old mid → session.EndRefused buffer_means mid new error → EndRefused old new error
 decoded_refused old mid new Memory going decoding at_once feeds loses =
     subst (λ (b : Bool). EndWantsMemory b old new) (sym decoding) (inr (record {
+      loses = inr (record { between = mid; reads = feeds; loses = loses });
       waits = waits_on-trans (buffer_of old) (buffer_of mid) (buffer_of new) (on_feed old mid TheEnd KeepOn going feeds)
           (on_end_refused mid new Memory feeds.going_on loses);
       references = ap (λ (w : CleaningOf). w.references) loses.kept ∙ ap (λ (w : CleaningOf). w.references) feeds.kept;

@@ -6,12 +6,13 @@ use Rattle.outbox.specs.Outgoing.{waiting}
 use Rattle.utf8_pieces.specs.Pieces.{place_after}
 use Rattle.html5ever_interface.specs.Options.{default_options}
 use Rattle.html5ever_interface.specs.Sink.{Means}
+use Rattle.html5ever_interface.specs.Token.Reply.{KeepOn}
 use Rattle.html5reading.specs.Start.{start_of}
 use Rattle.html5sinks.specs.Runs.{RunSink, Running, joined_of}
 use Rattle.html5ever.specs.Tokenizer.{StandsAt, rules_of}
 use Rattle.html5stream.specs.Pages.{runs_means, runs_start}
 use Rattle.html5session.specs.Intake.{IntakeOf, IsTextSoFar, has_room, is_decoding, nothing_taken, whole_text}
-use Rattle.html5session.specs.Intake.Piece.{Bytes}
+use Rattle.html5session.specs.Intake.Piece.{Bytes, TheEnd}
 use Rattle.html5sniffing.specs.PageDecoding.{PageDecoding}
 use Rattle.html5session.specs.Session as session
 use Rattle.html5session.specs.Session.{AllRead, IsCutShort, SessionOf, StaysOver, is_over, tokenizer_of}
@@ -120,12 +121,11 @@ pub record ReadsAtOnce (i : IntakeOf) : Type 0 where
   pub read : i.text ≡ []
   pub no_fault : i.fault ≡ false
 
--- a piece was fed. What waited waits on, and what is kept of the piece comes after it.
+-- a piece was fed, as the session below feeds it up to no pause. What waited waits on, and what is kept of the piece comes after it.
 pub record FeedsPiece (old new : CleaningOf) (bytes : List ℕ) : Type 0 where
   pub fed : FedMore old new bytes
+  pub feeds : session.FeedsPiece buffer_means old new (Bytes bytes) KeepOn
   pub waits : WaitsOn (buffer_of old) (buffer_of new)
-  pub kept : new ≡ record old { detached = new.detached; intake = new.intake }
-  pub going_on : is_over new ≡ false
 
 -- a piece was fed up to bytes in it that are no UTF-8. What waited waits on, and what is kept of what stands before them comes after it.
 pub record SaysFault (old new : CleaningOf) (bytes : List ℕ) (place : ℕ) : Type 0 where
@@ -162,8 +162,16 @@ pub record LosesEnd (old new : CleaningOf) : Type 0 where
   pub loses : session.LosesEnd buffer_means old new
   pub waits : WaitsOn (buffer_of old) (buffer_of new)
 
--- the same of a page that is decoded
+-- of a page that is decoded the rest of the text was read, and then the end was lost
+pub record LosesAfterRest (old new : CleaningOf) : Type 0 where
+  pub between : CleaningOf
+  pub reads : session.FeedsPiece buffer_means old between TheEnd KeepOn
+  pub loses : session.LosesEnd buffer_means between new
+
+-- of a page that is decoded the rest of the text was lost, or the end after it. What waited waits on, and maybe a beginning of the rest of
+-- what is kept comes after it.
 pub record LosesRest (old new : CleaningOf) : Type 0 where
+  pub loses : session.LosesPiece buffer_means old new TheEnd ⊎ LosesAfterRest old new
   pub waits : WaitsOn (buffer_of old) (buffer_of new)
   pub references : new.references ≡ old.references
   pub over : is_over new ≡ true

@@ -45,8 +45,9 @@ pub fn tree_of_written_page<S: TokenSink<Token<A>>, A: Allocator>()
 
 /// The same of a part of a page, wherever it is put in Data (`html5write::laws::all_pieces` says what it tells
 /// there), and whatever is open there: in a host (`IsHost`) its items are built in place, if they fit above the
-/// open elements and close all that they open, and nothing else (`in_place`). Its open elements, insertion mode, form
-/// element pointer and foster parenting are afterwards what they were (`back`).
+/// open elements and close all that they open, and nothing else: as they are read, where a newline straight after the start
+/// tag of a `pre` is ignored (`as_read`), or as they stand if there is none (`in_place`). Its open elements, insertion mode,
+/// form element pointer and foster parenting are afterwards what they were (`back`).
 pub fn tree_of_written_part()
     ensures items { (exact : Bool) (input : Input) (pieces : List pieces.Piece)
         → whole_texts (items_told (proper (pieces_messages exact input pieces))) ≡ whole_texts (items_of pieces) }
@@ -56,6 +57,10 @@ pub fn tree_of_written_part()
         → keeps_newlines fresh (items_of pieces) ≡ true
         → tree_in (parsed fresh p (items_told (proper (pieces_messages exact input pieces))))
         ≡ whole (put_at path (nesting (items_of pieces))) }
+    ensures as_read { (exact : Bool) (input : Input) (pieces : List pieces.Piece) (fresh : Bool) (p : Parser) (path : Path)
+        → IsHost p path → each_fits (names p.page.opened) (items_of pieces) ≡ true → balanced 0 (items_of pieces) ≡ true
+        → tree_in (parsed fresh p (items_told (proper (pieces_messages exact input pieces))))
+        ≡ whole (put_at path (nesting (read_items fresh (items_of pieces)))) }
     ensures back { (exact : Bool) (input : Input) (pieces : List pieces.Piece) (fresh : Bool) (p : Parser) (path : Path)
         → IsHost p path → each_fits (names p.page.opened) (items_of pieces) ≡ true → balanced 0 (items_of pieces) ≡ true
         → IsBack p (parsed fresh p (items_told (proper (pieces_messages exact input pieces)))) }

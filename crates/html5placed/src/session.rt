@@ -240,6 +240,7 @@ impl<A: Allocator + Copy> PlacedSession<A> {
         ensures err { IsErrAnd result.1 (λ error. error ≢ SessionError.Over) }
         ensures on { WritesOn self.records result.0.records }
         ensures rules { (reading_in result.0).rules ≡ (reading_in self).rules }
+        ensures references { result.0.references ≡ self.references }
         ensures limit { result.0.limit ≡ self.limit }
     {
         let Ok(text) = self.decoder.decode_front(self.alloc, bytes) else {
@@ -269,6 +270,7 @@ impl<A: Allocator + Copy> PlacedSession<A> {
         // What it keeps.
         ensures on { WritesOn self.records result.0.records }
         ensures rules { (reading_in result.0).rules ≡ (reading_in self).rules }
+        ensures references { result.0.references ≡ self.references }
         ensures limit { result.0.limit ≡ self.limit }
     {
         if self.is_over() {
@@ -295,6 +297,7 @@ impl<A: Allocator + Copy> PlacedSession<A> {
         ensures memory { IfErr result.1 (λ error. error ≡ SessionError.Memory) }
         ensures over { is_over result.0 ≡ true }
         ensures on { WritesOn self.records result.0.records }
+        ensures references { result.0.references ≡ self.references }
         ensures limit { result.0.limit ≡ self.limit }
     {
         let PlacedSession {
@@ -331,6 +334,7 @@ impl<A: Allocator + Copy> PlacedSession<A> {
 
         // What it keeps.
         ensures on { WritesOn self.records result.0.records }
+        ensures references { result.0.references ≡ self.references }
         ensures limit { result.0.limit ≡ self.limit }
     {
         if self.is_over() {

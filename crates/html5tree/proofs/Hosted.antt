@@ -55,3 +55,11 @@ host-tree fresh p path items host h b k =
     let after = host-after fresh p path items host h in
     shows-whole (parsed fresh p items).page (nested path (read_items fresh items)) after.shown
     ∙ ap whole (nested-read fresh items path k ∙ in-place items path b)
+
+-- the same, where a newline may be ignored
+pub host-read : (fresh : Bool) (p : Parser) (path : Path) (items : List Item) → IsHost p path → each_fits (names p.page.opened) items ≡ true
+    → balanced 0 items ≡ true → tree_in (parsed fresh p items) ≡ whole (put_at path (nesting (read_items fresh items)))
+host-read fresh p path items host h b =
+    let after = host-after fresh p path items host h in
+    shows-whole (parsed fresh p items).page (nested path (read_items fresh items)) after.shown
+    ∙ ap whole (in-place (read_items fresh items) path (balanced-read fresh items b))

@@ -1,13 +1,13 @@
 -- A limit changes nothing where no more elements would be open.
-use Rattle.std.proofs.Common.{◌≡◌, ℕ, suc, ◌+◌, ◌<◌, ◌≤◌, Bool, true, false, List, [], ◌∷◌, length, take, drop, refl, ap, sym, ◌∙◌, subst, arith}
+use Rattle.std.proofs.Common.{◌≡◌, ℕ, suc, ◌+◌, ◌<◌, ◌≤◌, Bool, true, false, List, [], ◌∷◌, length, refl, ap, sym, ◌∙◌, subst, arith}
 use Rattle.std.specs.Prelude.{◌++◌, codes, not, ◌&&◌, nat_le, nat_lt, if◌then◌else◌}
 use Rattle.std.specs.List.{list_all}
 use Rattle.std.proofs.lemmas.Bool.{false≢true, and_parts, le-leb, leb-true, lt-ltb, ltb-true}
 use Rattle.html5tree.specs.Fitting.{all_open_after, holds_parts, is_space, open_after}
-use Rattle.html5tree.specs.Items.{Attribute, Item}
+use Rattle.html5tree.specs.Items.{Item}
 use Rattle.html5tree.specs.Items.Item.{EndTag, StartTag, Text}
 use Rattle.html5tree.specs.declared.kinds.Kind.{Kind}
-use Rattle.html5tree.specs.Names.{is_void, kind_of, named}
+use Rattle.html5tree.specs.Names.{kind_of, named}
 use Rattle.html5tree.specs.declared.kinds.Kind.TheVariants.{Paragraph, Void}
 use Rattle.html5tree.specs.Normal.{IsReady, Plan, bounds_end, cell_plan, closing, count_inside, dropped, end_plan, fitted, is_ended, kept, limited, lone_end_plan, moved, normal, normal_above, open_after_fitted, plan_of, stack_after, start_plan, stays_within, text_plan, written}
 use Rattle.html5tree.specs.declared.plans.Written.TheVariants.{EmptyParagraph, LineBreak, Parted, WhiteSpace}

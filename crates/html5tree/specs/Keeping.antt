@@ -1,11 +1,11 @@
 -- What the normaliser keeps of items, and what it adds: their texts, and their start tags with all attributes. End tags come and go.
-use Rattle.std.specs.Prelude.{◌≡◌, ℕ, Bool, true, false, not, List, [], ◌∷◌, ◌++◌, ◌&&◌, ◌||◌, codes, flat_map, if◌then◌else◌}
+use Rattle.std.specs.Prelude.{◌≡◌, ℕ, Bool, true, false, not, List, [], ◌∷◌, ◌++◌, ◌&&◌, ◌||◌, codes, flat_map, map, if◌then◌else◌}
 use Rattle.std.specs.List.{list_any}
 use Rattle.html5tree.specs.declared.kinds.Kind.{Kind}
 use Rattle.html5tree.specs.declared.kinds.Kind.TheVariants.{Form, Unknown}
-use Rattle.html5tree.specs.Fitting.{holds_parts, is_space}
+use Rattle.html5tree.specs.Fitting.{all_open_after, holds_parts, is_space}
 use Rattle.html5tree.specs.Items.{Attribute, Item}
-use Rattle.html5tree.specs.Items.Item.{StartTag, Text}
+use Rattle.html5tree.specs.Items.Item.{EndTag, StartTag, Text}
 use Rattle.html5tree.specs.Names.{is_form, is_part, kind_of, named, no_kind, of_kind}
 use Rattle.html5tree.specs.Normal.{is_context}
 use Rattle.html5tree.specs.Scopes.{kind_on_top, near}
@@ -16,23 +16,21 @@ pub data IsWithout {X : Type 0} (may : X → Bool) : List X → List X → Type 
   Kept : {xs ys : List X} (x : X) → IsWithout may xs ys → IsWithout may (x ∷ xs) (x ∷ ys)
   LeftOut : {xs ys : List X} (x : X) → may x ≡ true → IsWithout may xs ys → IsWithout may (x ∷ xs) ys
 
--- ---- texts and start tags
+-- ---- content
 
-abbrev pub text_in : Item → List ℕ
-text_in (Text text) = text
-text_in other = []
+-- a character of a text, or a start tag with its attributes
+pub data Content : Type 0 where
+  Character : ℕ → Content
+  Start : List ℕ → List Attribute → Content
 
--- all text of items
-unfoldable pub text_of : List Item → List ℕ
-text_of items = flat_map text_in items
+abbrev pub content_in : Item → List Content
+content_in (Text text) = map Character text
+content_in (StartTag name attributes) = Start name attributes ∷ []
+content_in (EndTag name) = []
 
-abbrev pub start_in : Item → List Item
-start_in (StartTag name attributes) = StartTag name attributes ∷ []
-start_in other = []
-
--- all start tags of items
-unfoldable pub starts_of : List Item → List Item
-starts_of items = flat_map start_in items
+-- the content of items, in its order
+unfoldable pub content_of : List Item → List Content
+content_of items = flat_map content_in items
 
 -- ---- what is added
 
@@ -45,9 +43,13 @@ has_none [] = true
 has_none (a ∷ attributes) = false
 
 -- a start tag of one of them, with no attributes
-abbrev pub may_be_added : Item → Bool
-may_be_added (StartTag name attributes) = list_any (λ added. named added name) added_names && has_none attributes
-may_be_added other = false
+abbrev pub may_be_added : Content → Bool
+may_be_added (Start name attributes) = list_any (λ added. named added name) added_names && has_none attributes
+may_be_added (Character c) = false
+
+-- items whose content was added
+abbrev pub AreAdded : List Item → Type 0
+AreAdded items = IsWithout may_be_added (content_of items) []
 
 -- ---- what is left out
 
@@ -63,25 +65,25 @@ pub record EndsWith (items : List Item) (last : Item) : Type 0 where
   pub before : List Item
   pub whole : items ≡ before ++ last ∷ []
 
--- the kinds that have no place somewhere
-abbrev pub wants_place : Kind → Bool
-wants_place Form = true
-wants_place Unknown = true
-wants_place kind = is_part kind
+-- Above these open elements. Where enough elements may be open, a start tag may be left out if it has no place there, and no text. Else also a
+-- start tag whose element would be too deep; and of a text what is no white space, where a table would have to make a cell for it.
+abbrev pub may_leave_out : Bool → List (List ℕ) → Content → Bool
+may_leave_out enough stack (Start name attributes) = not enough || not (has_place (kind_of name) stack)
+may_leave_out enough stack (Character c) = not enough && not (is_space c)
 
--- where enough elements may be open, a start tag of these kinds alone may be left out; else also one whose element would be too deep
-abbrev pub may_leave_out : Bool → Item → Bool
-may_leave_out enough (StartTag name attributes) = not enough || wants_place (kind_of name)
-may_leave_out enough other = false
+-- ---- what is kept
 
--- where enough may be open, no text is left out; else what is no white space may be, where a table would have to make a cell for it
-abbrev pub may_lose : Bool → ℕ → Bool
-may_lose enough c = not enough && not (is_space c)
+-- what is written for an item, above these open elements: its content, without what may be left out, and start tags that may be added
+pub record KeepsItem (enough : Bool) (stack : List (List ℕ)) (item : Item) (part : List Item) : Type 0 where
+  pub kept : List Content
+  pub left : IsWithout (may_leave_out enough stack) (content_in item) kept
+  pub added : IsWithout may_be_added (content_of part) kept
 
--- The text is kept, and so are the start tags, each with its attributes and in its order, but for what may be left out; and start tags are added that
--- may be added.
-pub record Keeps (enough : Bool) (items written : List Item) : Type 0 where
-  pub text : IsWithout (may_lose enough) (text_of items) (text_of written)
-  pub kept : List Item
-  pub starts : IsWithout (may_leave_out enough) (starts_of items) kept
-  pub added : IsWithout may_be_added (starts_of written) kept
+-- What is written has a part for each item, in their order, and adds what stands before it and after the last. Each item is kept above the
+-- elements that are open where its part begins.
+unfoldable pub Keeps : Bool → List (List ℕ) → List Item → List Item → Type 0
+Keeps enough stack [] written = AreAdded written
+Keeps enough stack (item ∷ items) written =
+    (before : List Item) × (part : List Item) × (rest : List Item) × (written ≡ before ++ (part ++ rest))
+    × AreAdded before × KeepsItem enough (all_open_after stack before) item part
+    × Keeps enough (all_open_after stack (before ++ part)) items rest

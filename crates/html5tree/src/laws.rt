@@ -36,8 +36,8 @@ pub fn tree_of_fitting()
 /// each by all names that are open, leave a parser that is a host again, whose tree is that of the items nested
 /// there (`host`). Where they close all that they open, and nothing else (`balanced`), the open elements, the
 /// insertion mode, the form element pointer and foster parenting are afterwards what they were (`back`); and the
-/// document is what it was, with the nesting of the items at the end of the innermost open element
-/// (`in_place`). Of the list of active formatting elements `host` says that no entry has to be opened again.
+/// document is what it was, with the nesting of the items at the end of the innermost open element: of the items as they
+/// are read (`as_read`), or as they stand if no newline is ignored (`in_place`). Of the list of active formatting elements `host` says that no entry has to be opened again.
 ///
 /// `fresh` says whether the start tag of a `pre` or a `listing` stands straight before the items. Where the
 /// innermost open element is a table, or a part of one that holds parts, no text may stand straight before
@@ -55,6 +55,9 @@ pub fn tree_of_fitting_in_host()
         → each_fits (names p.page.opened) items ≡ true → balanced 0 items ≡ true
         → keeps_newlines fresh items ≡ true
         → tree_in (parsed fresh p items) ≡ whole (put_at path (nesting items)) }
+    ensures as_read { (fresh : Bool) (p : Parser) (path : Path) (items : List Item) → IsHost p path
+        → each_fits (names p.page.opened) items ≡ true → balanced 0 items ≡ true
+        → tree_in (parsed fresh p items) ≡ whole (put_at path (nesting (read_items fresh items))) }
     ensures first { IsHost start_parser empty_path }
 {}
 
@@ -115,15 +118,16 @@ pub fn normal_items()
         → whole_texts (normal limit items) ≡ whole_texts (normal limit others) }
 {}
 
-/// What the normaliser keeps of items, and what it adds (`Keeps`, specs/Keeping). All text is kept, and each start tag
-/// with its attributes, in their order; end tags come and go. Parts of tables, forms and tags of other names than the 94
-/// may be left out: `normal_item` says where they are. Added are start tags of `tbody`, `tr`, `colgroup`, `td`, `p` and
-/// `br` alone, without attributes. That is so where eight elements may be open for each item (`all`). By any limit a
-/// start tag may be left out, too, and of a text what is no white space (`some`). Where no more elements would be open
-/// than the limit, a greater one changes nothing (`not_reached`).
+/// What the normaliser keeps of items, and what it adds (`Keeps`, specs/Keeping). It writes a part for each item, in their
+/// order. The part has all characters of a text, or the start tag with all its attributes; end tags come and go. A start
+/// tag is left out exactly where it has no place (`has_place`): a part of a table outside one, a form in another, and a tag of
+/// other names than the 94. Added are start tags of `tbody`, `tr`, `colgroup`, `td`, `p` and `br` alone, without attributes.
+/// That is so where eight elements may be open for each item (`all`). By any limit a start tag may be left out, too, and of a
+/// text what is no white space (`some`). Where no more elements would be open than the limit, if more could be, the limit
+/// changes nothing (`not_reached`).
 pub fn kept_items()
-    ensures some { (limit : ℕ) (items : List Item) → Keeps false items (normal limit items) }
-    ensures all { (limit : ℕ) (items : List Item) → 8 * length items ≤ limit → Keeps true items (normal limit items) }
+    ensures some { (limit : ℕ) (items : List Item) → Keeps false [] items (normal limit items) }
+    ensures all { (limit : ℕ) (items : List Item) → 8 * length items ≤ limit → Keeps true [] items (normal limit items) }
     ensures not_reached { (limit more : ℕ) (items : List Item) → limit ≤ more
         → stays_within limit [] (normal more items) ≡ true → normal limit items ≡ normal more items }
 {}

@@ -12,4 +12,5 @@ returns-in-Err c =
     let s = c.args.session in let t = c.feed-session.result.0 in let bytes = c.args.bytes.now in
     let refused = subst (λ (r : Result (Unit {0}) SessionError). IfErr r (λ error. FeedRefused s t bytes error)) c.in-Err.is c.feed-session.ensures.refused in
     subst (λ (n : ℕ). PlacedFeedSays s t bytes n) (sym c.status_of_error.ensures)
-    (feed_says-error s t bytes c.in-Err.error refused (sym c.is_over.ensures ∙ c.if-is_over.false) (sym c.has_room.ensures ∙ c.if-not-has_room.false) c.feed-session.ensures.on)
+    (feed_says-error s t bytes c.in-Err.error refused (sym c.is_over.ensures ∙ c.if-is_over.false) (sym c.has_room.ensures ∙ c.if-not-has_room.false)
+    c.feed-session.ensures.rules (record { references = c.feed-session.ensures.references; limit = c.feed-session.ensures.limit }) c.feed-session.ensures.on)

@@ -17,3 +17,10 @@ returns-clause-back c = λ policy references text exact input fresh p path tree 
     let fit = page-fits policy references text tree in
     c.tree_of_written_part.ensures.back exact input pieces fresh p path host
     (c.fits_in_host.ensures.fragment (names p.page.opened) (items_of pieces) suit fit) (c.fits_in_host.ensures.balanced (items_of pieces) fit)
+
+pub returns-clause-as_read : goal.returns-clause-as_read
+returns-clause-as_read c = λ policy references text exact input fresh p path tree host suit.
+    let pieces = kept_of_page policy references text in
+    let fit = page-fits policy references text tree in
+    c.tree_of_written_part.ensures.as_read exact input pieces fresh p path host
+    (c.fits_in_host.ensures.fragment (names p.page.opened) (items_of pieces) suit fit) (c.fits_in_host.ensures.balanced (items_of pieces) fit)

@@ -18,3 +18,8 @@ pub returns-clause-back : goal.returns-clause-back
 returns-clause-back c = λ exact input pieces fresh p path host fit balance.
     subst (λ l. IsBack p (run p (without_newlines fresh l))) (sym (same-part exact input pieces))
     (c.tree_of_fitting_in_host.ensures.back fresh p path (items_of pieces) host fit balance)
+
+pub returns-clause-as_read : goal.returns-clause-as_read
+returns-clause-as_read c = λ exact input pieces fresh p path host fit balance.
+    ap (λ l. tree_in (run p (without_newlines fresh l))) (same-part exact input pieces)
+    ∙ c.tree_of_fitting_in_host.ensures.as_read fresh p path (items_of pieces) host fit balance

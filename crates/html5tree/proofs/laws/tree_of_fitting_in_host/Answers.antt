@@ -1,4 +1,4 @@
-use Rattle.html5tree.proofs.Hosted.{first-host, host-after, host-back, host-tree}
+use Rattle.html5tree.proofs.Hosted.{first-host, host-after, host-back, host-read, host-tree}
 use Rattle.html5tree.proofs.laws.tree_of_fitting_in_host.Goals as goal
 
 pub returns-clause-first : goal.returns-clause-first
@@ -12,3 +12,6 @@ returns-clause-back c = host-back
 
 pub returns-clause-in_place : goal.returns-clause-in_place
 returns-clause-in_place c = host-tree
+
+pub returns-clause-as_read : goal.returns-clause-as_read
+returns-clause-as_read c = host-read
