@@ -10,8 +10,7 @@ Where html5lib goes otherwise:
 
 - It looks for the hint in the bytes (the Standard's "prescan"), and so finds it in scripts and titles, within a tag that
   the front cuts, and where the fallback is of UTF-16. Here a hint is a tag of the page's reading.
-- Of `charset` with no label it goes on to the next tag, where the tree construction of the Standard, and this program,
-  look at `http-equiv` and `content` of the same tag.
+- It reads no XML declaration, in ASCII or in UTF-16.
 - Where nothing is found it goes by windows-1252; here a page that is UTF-8 is read as that.
 - It knows x-user-defined by that name, where the Standard says windows-1252.
 - It gives up at a "charset" without an equals sign, and takes `<meta/` for no tag.
