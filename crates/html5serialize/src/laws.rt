@@ -23,6 +23,7 @@ ghost use Rattle.html5serialize.specs.Tokens.{can_write, read_back, tokens_text}
 ghost use Rattle.html5write.specs.Told.{IsOpen, proper, tokens_of};
 ghost use Rattle.markup5ever.specs.NamedReferences.{IsTable};
 
+use crate::scripting_sink::ScriptingSink;
 use html5ever_interface::interface::sink::TokenSink;
 use html5ever_interface::interface::token::{Tag, Token};
 use html5sinks::tags::{TagHandler, TagsOnly};
@@ -100,11 +101,17 @@ pub fn page_read_again<S: TokenSink<Token<A>>, R: TokenSink<Token<A>>, A: Alloca
 {}
 
 /// The sinks of tags and of runs of text ask for what the standard's elements ask for without scripting, whatever
-/// their handlers, where these leave the replies to the standard. So pages that such a sink is sent can be
-/// written as `page_read_again` says.
-pub fn standard_sinks<T: TagHandler<Tag<A>>, H: TokenHandler<Token<A>>, A: Allocator>()
+/// their handlers, where these leave the replies to the standard; a `ScriptingSink` asks for what they ask for with
+/// scripting, whatever its sink. So pages that such a sink is sent can be written as `page_read_again` says.
+pub fn standard_sinks<
+    T: TagHandler<Tag<A>>,
+    H: TokenHandler<Token<A>>,
+    S: TokenSink<Token<A>>,
+    A: Allocator,
+>()
     ensures tags { AsksAsStandard false ⟦<TagsOnly<T> as TokenSink<Token<A>>>⟧.means.reply }
     ensures runs { AsksAsStandard false ⟦<TextRuns<H, A> as TokenSink<Token<A>>>⟧.means.reply }
+    ensures scripting { AsksAsStandard true ⟦<ScriptingSink<S> as TokenSink<Token<A>>>⟧.means.reply }
 {}
 
 /// Raw text is refused for some reason exactly where it can't be written.

@@ -11,6 +11,7 @@ mod names;
 mod page_writer;
 mod raw_texts;
 mod scripting;
+mod scripting_sink;
 mod tags;
 mod tokens;
 
@@ -22,5 +23,6 @@ pub use crate::names::{is_attribute_name, is_tag_name};
 pub use crate::page_writer::{PageOptions, PageWriter, Place, push_page};
 pub use crate::raw_texts::{push_raw_text, raw_text_refusal};
 pub use crate::scripting::reply_by;
+pub use crate::scripting_sink::ScriptingSink;
 pub use crate::tags::push_tag;
 pub use crate::tokens::push_token;
