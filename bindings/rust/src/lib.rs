@@ -154,8 +154,8 @@ pub fn error_code(message: &str) -> Option<String> {
 
 /// A tokenizer. Its tokens wait in it until they are read.
 ///
-/// One that is dropped, and has no limit, no label of an encoding and no places, leaves its table of names to the thread's next
-/// one: to make it takes most of a millisecond. Four are kept.
+/// One that is dropped leaves its table of names to the thread's next one, unless it has a limit or a label of an encoding.
+/// Building the table takes most of a millisecond. Four are kept.
 ///
 /// It may go to another thread. Two threads can't share it:
 ///
