@@ -7,9 +7,11 @@ from typing import NamedTuple
 
 from commands import HELP, MISSING, POLICY, VERSION
 
-FAILED, FULL, CLOSED, NOTHING = 5, 28, 32, 0
+FAILED, TOO_LARGE, FULL, CLOSED, OVER_QUOTA, NOTHING = 5, 27, 28, 32, 122, 0
 WHY_FAILED = "Input/output error (os error 5)"
 WHY_FULL = "No space left on device (os error 28)"
+WHY_TOO_LARGE = "File too large (os error 27)"
+WHY_OVER_QUOTA = "Disk quota exceeded (os error 122)"
 
 # A table and policies that ask for little memory, and pages.
 FILES = {
@@ -232,7 +234,8 @@ def failing_writes():
     for words, text in [(["--help"], HELP["help"]), (["clean", "--print-policy"], POLICY)]:
         yield Row(["firnuubal", *words], b"", text, refusals=REFUSALS, writes=(1, 2, 500))
     links = by_own(["links"], b"<a href=x>" * 3000, "1 x\n" * 3000)
-    yield links._replace(refusals=REFUSALS, writes=(1, 4096, 4097, 4098, 10_000))
+    lost = ((TOO_LARGE, said("output", WHY_TOO_LARGE), 1), (OVER_QUOTA, said("output", WHY_OVER_QUOTA), 1))
+    yield links._replace(refusals=REFUSALS + lost, writes=(1, 4096, 4097, 4098, 10_000))
     refusals = tuple((error, UNREAD, 6) for error in (FAILED, FULL, CLOSED, NOTHING))
     for words, given, lines in [(PLAIN, MIXED, MIXED_LINES), (["html5tok"], META, META_LINES)]:
         yield Row(words, given, lines, refusals=refusals)

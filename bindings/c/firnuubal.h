@@ -11,10 +11,10 @@
 #define FIRNUUBAL_H
 
 /* The version of the library, of this header and of the readers. */
-#define FIRNUUBAL_VERSION "0.19.0"
+#define FIRNUUBAL_VERSION "0.20.0"
 
 /* The same as a number, its three numbers a byte each. `html5_version` says it of the library that is linked. */
-#define FIRNUUBAL_VERSION_NUMBER 0x001300
+#define FIRNUUBAL_VERSION_NUMBER 0x001400
 
 #include <stdbool.h>
 #include <stddef.h>

@@ -1,7 +1,7 @@
 //! The version of the library.
 ghost use Rattle.std.specs.Prelude.{◌≡◌};
 
-const VERSION: u32 = 0x001300;
+const VERSION: u32 = 0x001400;
 
 /// The version of the library: its three numbers, a byte each, so that a later one is greater.
 #[unsafe(no_mangle)]

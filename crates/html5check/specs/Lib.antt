@@ -12,4 +12,5 @@ pub mod Lines
 pub mod Laws
 pub mod Asked
 pub mod Making
+pub mod Matching
 pub mod Whole

@@ -1,11 +1,12 @@
 //! The filter that checks pages.
-ghost use Rattle.std.specs.Prelude.{◌≡◌, ◌+◌, ◌++◌, [], false, IfOk, Ok, OnErr, OnOk, map, string_bytes};
+ghost use Rattle.std.specs.Prelude.{◌≡◌, ◌≤◌, ◌<◌, ◌+◌, ◌++◌, [], false, IfOk, Ok, OnErr, OnOk, length, map, string_bytes};
 ghost use Rattle.html5check.specs.Located.{located_by, located_in};
 ghost use Rattle.html5check.specs.Seen.{seen_by, seen_in};
 ghost use Rattle.html5check.specs.Templates.{masked_by};
 ghost use Rattle.html5check.specs.Making.{Checks, checks_after, checks_of};
-ghost use Rattle.html5check.specs.Whole.{IsWhole, StopsWhole};
+ghost use Rattle.html5check.specs.Whole.{Grows, IsWhole, StopsWhole};
 ghost use Rattle.html5stream.specs.Streams.{failed_reads};
+ghost use Rattle.std.specs.Io.KnownBytes.{IsAtEnd};
 
 use crate::findings::findings_in;
 use crate::located::{Located, locate};
@@ -13,13 +14,14 @@ use crate::report::Report;
 use crate::seen::{SeenToken, read_seen};
 use crate::settings::CheckSettings;
 use crate::template::{Template, masked};
-use devices::{Fault, Printer, Source, Target, read_to_end};
+use devices::{Printer, Source, Target};
 use html5ever::tokenizer::TokenizerError;
 use html5programs::Filter;
 use html5stream::StreamError;
 use markup5ever::data::NamedReferences;
 use std::alloc::{AllocError, Global};
 use std::marker::PhantomData;
+use utf8_pieces::Decoder;
 
 /// Prints what is found in pages. It reads each page whole before it checks it.
 #[derive(Drop)]
@@ -31,22 +33,55 @@ pub struct Check<W, P> {
     has_found: bool,
 }
 
-// Reads a page whole.
+// How many bytes are read at once.
+const CHUNK: usize = 4096;
+
+// One read, whose text goes to the end of a text. Answers how many bytes were read.
+fn read_piece<R: Source>(
+    alloc: Global,
+    source: &mut R,
+    buffer: &mut [u8],
+    decoder: &mut Decoder,
+    text: &mut String,
+) -> Result<usize, StreamError>
+    requires { 0 < length buffer.old }
+    ensures grows { IfOk result (λ count. Grows (R.remaining source.old) (R.remaining source.new)
+        (string_bytes text.old ++ decoder.old.held) (string_bytes text.new ++ decoder.new.held) count) }
+    ensures end { IfOk result (λ count. count ≡ 0 → IsAtEnd (R.remaining source.new)) }
+    ensures few { OnOk result (length decoder.new.held ≤ 3) }
+    ensures stops { OnErr result (StopsWhole (R.remaining source.old) (R.remaining source.new)) }
+    ensures read { R.failures source.new ≡ R.failures source.old + failed_reads result }
+{
+    let Ok(count) = source.read(buffer) else {
+        return Err(StreamError::Read);
+    };
+    let piece = match decoder.decode(alloc, &buffer[..count]) {
+        Ok(piece) => piece,
+        Err(error) => return Err(StreamError::from(error)),
+    };
+    match text.push_str(&piece) {
+        Ok(()) => Ok(count),
+        Err(AllocError) => Err(StreamError::Memory),
+    }
+}
+
+// Reads a page whole. Bytes that are not UTF-8 end it at once, so that their line is known.
 fn read_whole<R: Source>(alloc: Global, source: &mut R) -> Result<String, StreamError>
     ensures whole { IfOk result (λ text. IsWhole (R.remaining source.old) (R.remaining source.new) (string_bytes text)) }
     ensures stops { OnErr result (StopsWhole (R.remaining source.old) (R.remaining source.new)) }
     ensures read { R.failures source.new ≡ R.failures source.old + failed_reads result }
 {
-    let bytes = match read_to_end(alloc, source) {
-        Ok(bytes) => bytes,
-        Err(Fault::Memory) => return Err(StreamError::Memory),
-        Err(_) => return Err(StreamError::Read),
-    };
-    match String::from_utf8(bytes) {
-        Ok(text) => Ok(text),
-        Err(error) => Err(StreamError::NotUtf8 {
-            valid_up_to: error.utf8_error().valid_up_to() as u64,
-        }),
+    let mut decoder = Decoder::new();
+    let mut text = String::new(alloc);
+    let mut buffer = [0; CHUNK];
+    loop {
+        if read_piece(alloc, source, &mut buffer, &mut decoder, &mut text)? == 0 {
+            break;
+        }
+    }
+    match decoder.finish() {
+        Ok(()) => Ok(text),
+        Err(error) => Err(StreamError::from(error)),
     }
 }
 

@@ -1,7 +1,9 @@
 //! Where what is found stands.
-ghost use Rattle.std.specs.Prelude.{All, List, ℕ};
+ghost use Rattle.std.specs.Prelude.{◌≡◌, All, List, ℕ};
+ghost use Rattle.std.specs.List.{list_all};
 ghost use Rattle.std.specs.Str.{chars};
-ghost use Rattle.html5check.specs.Checking.{findings_in};
+ghost use Rattle.html5check.specs.Checking.{findings_in, found_by, nothing_checked};
+ghost use Rattle.html5check.specs.Matching.{all_match, has_other};
 ghost use Rattle.html5check.specs.Places.{StandsAtToken, StandsInText};
 ghost use Rattle.html5check.specs.Seen.{Seen, seen_in};
 ghost use Rattle.markup5ever.specs.NamedReferences.{NamedReference};
@@ -15,4 +17,10 @@ pub fn findings_stand_at_tokens()
     ensures tokens { (tokens : List Seen) → All (StandsAtToken tokens) (findings_in tokens) }
     ensures text { (references : List NamedReference) (text : List ℕ)
         → All (StandsInText (chars text)) (findings_in (seen_in references text)) }
+{}
+
+/// A tag without its other is found exactly where tags don't match (`all_match`): where an end tag ends no open element, or
+/// an element is still open whose end tag may not be left out, at the end tag of one around it or at the end.
+pub fn unmatched_tags_are_found()
+    ensures { (tokens : List Seen) → list_all has_other (found_by tokens) ≡ all_match nothing_checked tokens }
 {}

@@ -3,7 +3,7 @@ use Rattle.std.specs.Prelude.{ℕ, List, ◌++◌, codes}
 
 -- the version
 abbrev pub version : List ℕ
-version = codes "0.19.0"
+version = codes "0.20.0"
 
 -- the program's name, a space and the version
 abbrev pub version_line : List ℕ → List ℕ

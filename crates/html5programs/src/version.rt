@@ -4,7 +4,7 @@ ghost use Rattle.html5programs.specs.Version.{version_line};
 
 use std::alloc::{AllocError, Allocator};
 
-const VERSION: &str = "0.19.0";
+const VERSION: &str = "0.20.0";
 
 /// The line that tells a program's name and its version.
 pub fn version_line<A: Allocator + Copy>(alloc: A, name: &str) -> Result<String<A>, AllocError>

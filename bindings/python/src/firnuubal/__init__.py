@@ -13,7 +13,7 @@ What the library says is proved; this package, which calls it and reads its reco
 `Tokenizer` or a `Cleaner` as pieces arrive: no call waits.
 """
 
-__version__ = "0.19.0"
+__version__ = "0.20.0"
 
 # The modules compare the library's version with that one, so they come after it.
 from ._cleaner import Cleaner, clean
