@@ -12,4 +12,6 @@ mod reading;
 #[cfg(test)]
 mod refusals;
 #[cfg(test)]
+mod scripting;
+#[cfg(test)]
 mod written;
