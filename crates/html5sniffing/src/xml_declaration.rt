@@ -1,5 +1,5 @@
 //! The encoding that an XML declaration at the front of a page names.
-ghost use Rattle.std.specs.Prelude.{◌≡◌, ◌≤◌, List, length, nat_lt, option_map, IfSome, unwrap_or};
+ghost use Rattle.std.specs.Prelude.{◌≡◌, ◌<◌, length, option_map, IfSome, Some};
 ghost use Rattle.std.specs.List.{list_all, position};
 ghost use Rattle.html5sniffing.specs.XmlDeclaration.{after_encoding, after_front, declaration, declared_as, declared_label, from_visible, is_visible, label_after_equals, quoted_label, utf16_declared, visible_label, xml_encoding};
 
@@ -64,21 +64,35 @@ fn is_visible(byte: u8) -> bool
     byte > 0x20
 }
 
+// The place of the first visible byte.
+fn visible_in(bytes: &[u8]) -> Option<usize>
+    ensures place { result ≡ position is_visible bytes.now }
+    ensures within { IfSome result (λ place. place < length bytes.now) }
+{
+    bytes.iter().position(|byte| is_visible(*byte))
+}
+
 // The bytes from the first visible one on.
 fn from_visible(bytes: &[u8]) -> &[u8]
     ensures { result.now ≡ from_visible bytes.now }
 {
-    match bytes.iter().position(|byte| is_visible(*byte)) {
+    match visible_in(bytes) {
         Some(place) => &bytes[place..],
         None => &bytes[bytes.len()..],
     }
+}
+
+fn are_visible(bytes: &[u8]) -> bool
+    ensures { result ≡ list_all is_visible bytes.now }
+{
+    bytes.iter().all(|byte| is_visible(*byte))
 }
 
 // A label, if each byte of it is visible.
 fn visible_label(label: &[u8]) -> Option<&[u8]>
     ensures { option_map (λ label. label.now) result ≡ visible_label (Some label.now) }
 {
-    if label.iter().all(|byte| is_visible(*byte)) {
+    if are_visible(label) {
         Some(label)
     } else {
         None
