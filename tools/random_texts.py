@@ -2,7 +2,7 @@
 
     python3 tools/random_texts.py [--cases N] [--seed S] [--program PATH]
     python3 tools/random_texts.py --clean [--cases N] [--seed S]
-    python3 tools/random_texts.py --peer html5lib
+    python3 tools/random_texts.py --peer html5lib|parse5
     python3 tools/random_texts.py --self-test
 
 A case is words of the command line and a text (`tools/cases/maker.py`). Its number and the seed say what it is, so a
@@ -12,12 +12,12 @@ cases that have an end (crates/test_cases/stdin). The first case that differs is
 with a command line, the program's lines and the model's.
 
 --clean compares firnuubal clean with a model of cleaning (`tools/model/cleaning.py`), by its own policy and by those of
-tools/cases/policies. --peer html5lib compares with Debian's html5lib instead. `tools/cases/peer.py` says of what both speak.
+tools/cases/policies. --peer compares with Debian's html5lib or parse5 instead. `tools/cases/peer.py` says of what all speak.
 --self-test plants wrong changes in copies of the model, with --clean in that of cleaning, and says at which case the
 comparison finds each.
 
 Status 0: no difference, and each change was found. 1: a difference, or a change that was not found. 2: the program or
-html5lib is not there.
+the peer is not there.
 """
 
 from __future__ import annotations
@@ -55,9 +55,9 @@ class Comparison:
     def judge(self) -> Judge:
         if self.peer is None:
             return Model(cleaning if self.clean else model)
-        from cases.peer import Html5lib
+        from cases.peer import PEERS
 
-        return Html5lib()
+        return PEERS[self.peer]()
 
     def case(self, number: int) -> Case:
         if self.clean:
@@ -179,7 +179,7 @@ def arguments() -> argparse.Namespace:
     parser.add_argument("--seed", default="1", help="a word that chooses the cases, or `today`; without it 1")
     parser.add_argument("--program", help="without it the html5tok or firnuubal that `rt ci` left in crates/")
     parser.add_argument("--clean", action="store_true", help="compare firnuubal clean with a model of cleaning")
-    parser.add_argument("--peer", choices=["html5lib"], help="compare with this tokenizer, and not with the model")
+    parser.add_argument("--peer", choices=["html5lib", "parse5"], help="compare with this tokenizer, and not with the model")
     parser.add_argument("--self-test", action="store_true", help="plant wrong changes in the model, and find each")
     return parser.parse_args()
 

@@ -1,33 +1,41 @@
-"""Compares with Debian's html5lib (package python3-html5lib, 1.1): its `HTMLTokenizer` alone.
+"""Compares with the tokenizers of Debian's html5lib (package python3-html5lib, 1.1) and parse5 (node-parse5, 7.1.2) alone.
 
-Both speak of tags with their attributes, of text, comments and doctypes. This is left out:
+All speak of tags with their attributes, of text, comments and doctypes. This is left out of both:
 
-- errors and lines: html5lib has other errors, and its tokens have no lines;
-- texts with `<?`: html5lib reads a bogus comment there, as the standard does, and html5tok a processing instruction
+- errors and lines;
+- texts with `<?`: they read a bogus comment there, as the standard does, and html5tok a processing instruction
   (docs/DIFFERENCES.md);
-- texts with a NUL directly after `<!--` or `<!---`: html5lib goes on there as at the comment's start, so that a `>`
-  ends the comment, which by the standard doesn't;
-- CDATA sections: html5lib asks its tree whether content is foreign. Here there is no tree, and html5tok runs without
+- CDATA sections: they ask their trees whether content is foreign. Here there is no tree, and html5tok runs without
   --foreign.
+
+Of html5lib also texts with a NUL directly after `<!--` or `<!---`: it goes on there as at the comment's start, so that
+a `>` ends the comment, which by the standard doesn't.
 
 This is made the same:
 
-- a NUL in Data is text to html5lib, and a token of its own to html5tok: it counts as text;
+- a NUL in Data is text to them, and a token of its own to html5tok: it counts as text;
 - a doctype without a name has an empty one in html5lib: it counts as none;
 - an end tag of html5lib has an attribute of each name that is written: the first of a name counts;
 - a byte order mark at the start is dropped by html5lib only where it decodes bytes: the text that it is given has none;
-- html5lib leaves it to its tree after which start tags raw or plain text stands: these are those of html5tok's sink.
+- they leave it to their trees after which start tags raw or plain text stands: these are those of html5tok's sink.
 """
 
 from __future__ import annotations
 
+import json
+import os
+import pathlib
 import re
+import shutil
+import subprocess
 import sys
 
 from .maker import Case, standard_table
 from .running import SKIPPED, Ended
 
 DEBIAN = "/usr/lib/python3/dist-packages"
+NODE_PATH = "/usr/share/nodejs"
+INSTRUCTION = "<?"
 NOT_COMPARED = re.compile("<\\?|<!---?\0")
 STATES = {"title": "rcdataState", "textarea": "rcdataState", "script": "scriptDataState", "plaintext": "plaintextState"}
 STATES |= dict.fromkeys(("style", "xmp", "iframe", "noembed", "noframes"), "rawtextState")
@@ -93,17 +101,21 @@ def first_of_each_name(attributes: list[list[str]]) -> tuple[tuple[str, str], ..
     return tuple(first.items())
 
 
-class Html5lib:
-    """The judge that is html5lib."""
-
-    def __init__(self):
-        self.html5lib = find_html5lib()
-        self.types = self.html5lib.constants.tokenTypes
+class Peer:
+    """A judge that is another tokenizer."""
 
     def of_program(self, ended: Ended) -> list[tuple] | Ended:
         if ended.status != 0:
             return ended
         return joined([event for line in ended.lines.split("\n") if (event := event_of_line(line)) is not None])
+
+
+class Html5lib(Peer):
+    """The judge that is html5lib."""
+
+    def __init__(self):
+        self.html5lib = find_html5lib()
+        self.types = self.html5lib.constants.tokenTypes
 
     def expected(self, case: Case) -> object:
         if ("--table", standard_table()) not in case.words or NOT_COMPARED.search(case.text):
@@ -131,3 +143,41 @@ class Html5lib:
         if kind == self.types["Doctype"]:
             return "doctype", token["name"] or None, token["publicId"], token["systemId"], not token["correct"]
         return None
+
+
+# ---- the tokens of parse5
+
+
+def find_parse5():
+    """The words of a program that prints parse5's tokens."""
+    node = shutil.which("node")
+    if node is None or not os.path.isdir(f"{NODE_PATH}/parse5"):
+        print("parse5 is not installed: apt-get install -y nodejs node-parse5", file=sys.stderr)
+        sys.exit(2)
+    return [node, pathlib.Path(__file__).with_name("parse5.cjs")]
+
+
+class Parse5(Peer):
+    """The judge that is parse5. It runs while it lives."""
+
+    def __init__(self):
+        found = {**os.environ, "NODE_PATH": NODE_PATH}
+        self.node = subprocess.Popen(find_parse5(), stdin=subprocess.PIPE, stdout=subprocess.PIPE, text=True, env=found)
+
+    def expected(self, case: Case) -> object:
+        if ("--table", standard_table()) not in case.words or INSTRUCTION in case.text:
+            return SKIPPED
+        self.node.stdin.write(json.dumps(case.text.removeprefix("\ufeff")) + "\n")
+        self.node.stdin.flush()
+        return joined([event_of_list(token) for token in json.loads(self.node.stdout.readline())])
+
+
+def event_of_list(token: list) -> tuple:
+    kind, *rest = token
+    if kind in ("start", "end"):
+        name, attributes, closes_itself = rest
+        return kind, name, tuple(map(tuple, attributes)), closes_itself
+    return kind, *rest
+
+
+PEERS = {"html5lib": Html5lib, "parse5": Parse5}

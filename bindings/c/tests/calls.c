@@ -4,6 +4,7 @@
 #include "../firnuubal.h"
 
 #include <stdio.h>
+#include <time.h>
 
 static int failed;
 
@@ -175,6 +176,34 @@ static void pauses_before_bytes_that_are_no_text(void) {
 }
 
 /* Takes all that waits. */
+/* How long it takes to insert 3,000 texts before so many bytes that wait. */
+static clock_t time_of_inserting(size_t waiting) {
+    static const char *const texts[] = {"x</script>", "\xc3\xa9</script>", "\xe2\x98\x83y</script>"};
+    html5_handle handle = {0};
+    html5_options options = {.replies = HTML5_PAUSING_REPLIES};
+    uint8_t *page = malloc(waiting);
+    CHECK(page != NULL);
+    memset(page, 'a', waiting);
+    memcpy(page, "</script>", 9);
+    CHECK(open_after(&handle, "", options) == HTML5_DONE);
+    CHECK(html5_feed(&handle, page, waiting) == HTML5_SCRIPT);
+    clock_t begun = clock();
+    for (size_t at = 0; at < 3000; at++) {
+        CHECK(insert(&handle, texts[at % 3]) == HTML5_DONE);
+        CHECK(feed(&handle, "") == HTML5_SCRIPT);
+    }
+    clock_t taken = clock() - begun;
+    html5_free(&handle);
+    free(page);
+    return taken;
+}
+
+/* An insert doesn't copy the text that waits. When it did, this took seconds. */
+static void inserts_before_much_text(void) {
+    clock_t little = time_of_inserting(20000), much = time_of_inserting(12000000);
+    CHECK(much < 10 * little + CLOCKS_PER_SEC / 2);
+}
+
 static void take_all(html5_handle *handle) {
     uint8_t out[256];
     while (html5_take(handle, out, sizeof out)) {
@@ -363,6 +392,7 @@ static void determines_the_encoding(void) {
         {"\xff\xfe\xe9\x01", "UTF-16LE", "\xc7\xa9"},
         {"<meta charset=koi8-r>\xc1", "KOI8-R", "\xd0\xb0"},
         {"caf\xe9", "windows-1252", "caf\xc3\xa9"},
+        {"<?xml version='1.0' encoding='koi8-r'?>\xc1", "KOI8-R", NULL},
         {"caf\xc3\xa9", "UTF-8", "caf\xc3\xa9"},
     };
     for (size_t at = 0; at < sizeof pages / sizeof *pages; at++) {
@@ -374,8 +404,8 @@ static void determines_the_encoding(void) {
         for (const char *byte = pages[at].page; *byte; byte++) CHECK(html5_feed(&handle, byte, 1) == HTML5_DONE);
         CHECK(html5_end(&handle) == HTML5_DONE);
         CHECK(is_in(&handle, 32, pages[at].name));
-        if (strchr(pages[at].page, '>')) CHECK(is_next(&reader, &handle, HTML5_START_TAG, "meta"));
-        CHECK(is_next(&reader, &handle, HTML5_TEXT, pages[at].text));
+        if (strstr(pages[at].page, "<meta")) CHECK(is_next(&reader, &handle, HTML5_START_TAG, "meta"));
+        if (pages[at].text) CHECK(is_next(&reader, &handle, HTML5_TEXT, pages[at].text));
         html5_reader_free(&reader);
         html5_free(&handle);
     }
@@ -585,6 +615,7 @@ int main(void) {
     reads_a_page_in_pieces();
     pauses_and_lets_text_in();
     reads_inserted_text_first();
+    inserts_before_much_text();
     says_where_bytes_are_no_text();
     refuses_no_byte_before_the_place();
     drops_a_character_that_is_cut_off();
