@@ -4,7 +4,8 @@
 
 `Parser` is html5lib's HTMLParser over a tokenizer of its interface, which takes its tokens from firnuubal: it pauses after
 each tag, and the tree construction says in which state it goes on, and whether the content is foreign. Encodings stay
-html5lib's. A parse error has firnuubal's message in place of html5lib's code, and a line without a column.
+html5lib's. A parse error has firnuubal's message in place of html5lib's code, and a line without a column; with strict=True
+it is raised as html5lib's ParseError. A text with a lone surrogate is a ValueError.
 
 html5lib is Debian's python3-html5lib.
 """
@@ -13,7 +14,8 @@ import sys
 
 import html5lib
 from html5lib._inputstream import HTMLInputStream
-from html5lib.constants import _ReparseException, spaceCharacters, tokenTypes
+from html5lib.constants import E, _ReparseException, spaceCharacters, tokenTypes
+from html5lib.html5parser import ParseError as StrictError
 
 import firnuubal
 from firnuubal import Comment, Doctype, End, EndTag, Fed, Instruction, NullCharacter, ParseError, Replies, StartTag, State, Text
@@ -69,6 +71,14 @@ _MADE = {
 }
 
 
+def _bytes(piece):
+    """A piece in UTF-8."""
+    try:
+        return piece.encode()
+    except UnicodeEncodeError as error:
+        raise ValueError(f"the page has a lone surrogate, {piece[error.start]!r}") from None
+
+
 class HTMLTokenizer:
     """What html5lib's tree construction asks of its tokenizer: tokens, `stream`, and a `state` that it may set."""
 
@@ -97,13 +107,18 @@ class HTMLTokenizer:
         if self._tokenizer:
             self._tokenizer.reply(state)
 
+    def rewind(self):
+        """The page is read again from its start, where nothing is raw text."""
+        self._tokenizer = None
+        self._state = State.DATA
+
     def __iter__(self):
         options = {"replies": Replies.CALLER, "state": self._state, "keep_bom": True, "encoding": "utf-8", "errors": "strict"}
         self._foreign = False
         with firnuubal.Tokenizer(**options) as self._tokenizer:
             feed, tokens = self._tokenizer.feed, self._tokenizer.tokens
             while piece := self.stream.dataStream.read(_PIECE):
-                fed = feed(piece.encode(errors="replace"))
+                fed = feed(_bytes(piece))
                 for token in tokens():
                     self._line = token.line
                     yield from _MADE[type(token)](token)
@@ -130,6 +145,15 @@ class HTMLTokenizer:
 class Parser(html5lib.HTMLParser):
     """html5lib's parser over this tokenizer."""
 
+    def parseError(self, errorcode="XXX-undefined-error", datavars=None):
+        if errorcode in E:
+            super().parseError(errorcode, datavars or {})
+            return
+        # A message of firnuubal, which html5lib has no text for.
+        self.errors.append((self.tokenizer.stream.position(), errorcode, datavars or {}))
+        if self.strict:
+            raise StrictError(errorcode)
+
     def _parse(self, stream, innerHTML=False, container="div", scripting=False, **kwargs):
         self.innerHTMLMode = innerHTML
         self.container = container
@@ -139,6 +163,7 @@ class Parser(html5lib.HTMLParser):
         try:
             self.mainLoop()
         except _ReparseException:
+            self.tokenizer.rewind()
             self.reset()
             self.mainLoop()
 
