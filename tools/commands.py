@@ -219,6 +219,45 @@ def of_long_pages(folder):
     yield fault("4,095 letters", ran, f'text "{text}"\neof 1\n', "", 0)
 
 
+def large_things():
+    """Large inputs: what each is, the words, the input, and what is printed."""
+    long, names = "x" * 100_000, [f"a{number}" for number in range(20_000)]
+    yield "a run of 2 MB", ["text"], "a" * 2 * MB, "a" * 2 * MB
+    yield "an address of 100 KB", ["links"], f"<a href={long}>", f"1 {long}\n"
+    yield "a value of 100 KB", ["tokens"], f"<p a={long}>", f'start 1 "p" "a"="{long}"\neof 1\n'
+    yield "a name of 100 KB", ["tokens"], f"<{long}>", f'start 1 "{long}"\neof 1\n'
+    attributes = "".join(f' "{name}"=""' for name in names)
+    yield "20,000 attributes", ["tokens"], f"<p {' '.join(names)}>", f'start 1 "p"{attributes}\neof 1\n'
+    yield "20,000 elements in each other", ["clean"], "<div>" * 20_000 + "x", "<div>" * 256 + "x" + "</div>" * 256
+    yield "20,000 dropped elements in each other", ["rewrite", "--drop", "b"], "<b>" * 20_000 + "x" + "</b>" * 20_000 + "y", "y"
+    page = "<div a=1>" * 20_000
+    yield "20,000 amended elements in each other", ["rewrite", "--set", "i.b=2"], page + "<i>", page + '<i b="2">'
+    found = "".join(f"-:{line}:1: error: end-tag-without-start: i\n" for line in range(1, 10_001))
+    yield "10,000 findings", ["check"], "</i>\n" * 10_000, found
+
+
+def of_large_things(folder):
+    """Large inputs, a long path, a policy of a thousand lines, and 5,000 reads."""
+    for what, words, given, printed in large_things():
+        ran = run(folder, ["firnuubal", *words], input=given.encode())
+        status = 1 if words[0] == "check" else 0
+        right = (ran.returncode, ran.stderr, ran.stdout.decode()) == (status, b"", printed)
+        yield "" if right else f"{what}: status {ran.returncode}, {len(ran.stdout)} bytes, {ran.stderr[:200]!r}"
+    path = f"{'d' * 200}/{'e' * 200}.html"
+    (folder / path).parent.mkdir()
+    (folder / path).write_bytes(PAGE)
+    yield fault("a path of 400 bytes", run(folder, ["firnuubal", "links", "-H", path]), f"{path}:1 x\n", "", 0)
+    rules = "".join(f"allow x{number}\n" for number in range(1000))
+    (folder / "long.policy").write_text(rules, encoding="utf-8")
+    words = ["firnuubal", "clean", "--policy", "long.policy"]
+    yield fault("1,000 lines of policy", run(folder, words, input=b"<x1><x999><x1000>"), "<x1><x999>", "", 0)
+    (folder / "long.policy").write_text(f"{rules}allow script\n", encoding="utf-8")
+    why = "line 1001: an element that always hides what stands in it can't be allowed"
+    yield fault("a fault on line 1,001", run(folder, words), "", f"firnuubal: long.policy: {why}\n", 2)
+    ran = run_by_pieces(folder, ["firnuubal", "links"], [b"<a href=x>"] * 5000)
+    yield fault("5,000 reads", ran, "1 x\n" * 5000, "", 0)
+
+
 def to_a_full_device(folder):
     """An output that takes nothing."""
     for command, name in [*((command, "page") for command in ["tokens", "links", "text", "clean", "rewrite"]), ("check", "wrong")]:
@@ -232,9 +271,13 @@ def to_a_full_device(folder):
 def to_a_closed_pipe(folder):
     """An output whose reader goes away while 35 MB are still to come."""
     (folder / "long").write_bytes(b"<a href=x>y</a>\n" * (35 * MB // 16))
-    for command in ["tokens", "links", "text", "clean", "rewrite"]:
+    (folder / "faulty").write_bytes(b"</b>\n" * 100_000)
+    for command in ["tokens", "links", "text", "clean", "rewrite", "check"]:
         with subprocess.Popen(
-            [PROGRAMS["firnuubal"], command, "long"], cwd=folder, stdout=subprocess.PIPE, stderr=subprocess.PIPE
+            [PROGRAMS["firnuubal"], command, "faulty" if command == "check" else "long"],
+            cwd=folder,
+            stdout=subprocess.PIPE,
+            stderr=subprocess.PIPE,
         ) as process:
             process.stdout.readline()
             process.stdout.close()
@@ -318,11 +361,11 @@ def by_pages(folder):
 
 
 def main():
-    parts = [by_lines, of_json, of_logs, of_itself, without_permission, of_many_files, of_long_pages, to_a_full_device]
+    parts = [by_lines, of_json, of_logs, of_itself, without_permission, of_many_files, of_long_pages, of_large_things]
     with tempfile.TemporaryDirectory() as name:
         folder = pathlib.Path(name)
         made_in(folder)
-        found = [answer for part in [*parts, to_a_closed_pipe, with_progress, by_pages] for answer in part(folder)]
+        found = [answer for part in [*parts, to_a_full_device, to_a_closed_pipe, with_progress, by_pages] for answer in part(folder)]
     faults = list(filter(None, found))
     for answer in faults:
         print(f"tools/commands.py: {answer}")
