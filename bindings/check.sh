@@ -65,7 +65,8 @@ leaks_nothing() {
         $under "$out/$test-c" 7 <"$out/page.html" >/dev/null || return 1
     done
     for test in "${tests_in_c[@]}"; do
-        $under "$out/$test-c" || return 1
+        # What large.c takes at once would take minutes there.
+        [ "$test" = large ] || $under "$out/$test-c" || return 1
     done
 }
 
@@ -249,7 +250,7 @@ has_extension() {
     [ -f "$library/_fast.abi3.so" ]
 }
 
-tests_in_c=(abi calls cleaning policies reader)
+tests_in_c=(abi calls cleaning large policies reader)
 
 in_c() {
     local test
