@@ -235,6 +235,21 @@ static void holds_no_more_than_its_limit(void) {
     html5_free(&handle);
 }
 
+/* What comes out counts, too: each NUL makes two records, which are much longer. */
+static void counts_records_that_wait(void) {
+    static const uint8_t nulls[10000];
+    html5_handle handle = {0};
+    html5_options options = {0};
+    CHECK(open_after(&handle, "", options) == HTML5_DONE);
+    CHECK(html5_set_limit(&handle, 100000) == HTML5_DONE);
+    CHECK(html5_feed(&handle, nulls, sizeof nulls) == HTML5_DONE);
+    CHECK(feed(&handle, "x") == HTML5_LIMIT);
+    CHECK(insert(&handle, "x") == HTML5_LIMIT);
+    take_all(&handle);
+    CHECK(feed(&handle, "x") == HTML5_DONE);
+    html5_free(&handle);
+}
+
 /* After a pause what was fed counts until all of it is read, and so does what is put in front. */
 static void counts_what_waits_after_a_pause(void) {
     html5_handle handle = {0};
@@ -621,6 +636,7 @@ int main(void) {
     drops_a_character_that_is_cut_off();
     pauses_before_bytes_that_are_no_text();
     holds_no_more_than_its_limit();
+    counts_records_that_wait();
     counts_what_waits_after_a_pause();
     says_why_there_is_no_token();
     lets_the_caller_reply();
