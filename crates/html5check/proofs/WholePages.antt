@@ -1,20 +1,37 @@
 -- A source that was read to its end.
-use Rattle.std.proofs.Common.{◌≡◌, ℕ, Bool, true, false, List, [], ◌++◌, Option, None, Some, refl, sym, ap, ◌∙◌, append-nil}
-use Rattle.std.specs.Prelude.{◌||◌, IfSome}
-use Rattle.std.specs.Io.KnownBytes.{Consumes, IsAtEnd}
+use Rattle.std.proofs.Common.{◌≡◌, ℕ, Bool, true, false, List, [], ◌++◌, Option, None, Some, refl, sym, ap, ◌∙◌, append_assoc, append-nil, subst}
+use Rattle.std.specs.Prelude.{◌||◌}
+use Rattle.std.specs.Io.KnownBytes.{Consumes, IsAtEnd, Keeps}
 use Rattle.std.proofs.lemmas.Str.{IsUtf8-nil}
-use Rattle.devices.specs.Device.{ConsumesBeginning}
+use Rattle.devices.proofs.KnownBytes.{Consumes-append}
 use Rattle.html5check.specs.Located.{Located, located_in}
 use Rattle.html5check.specs.Making.{Checks, checks_after}
-use Rattle.html5check.specs.Whole.{IsWhole, StopsWhole}
+use Rattle.html5check.specs.Whole.{Grows, IsWhole, StopsWhole}
 use Rattle.html5stream.specs.Pages.{ReadsPage, StopsPage}
 use Rattle.markup5ever.specs.NamedReferences.{NamedReference}
 
-pub consumes-all : (unread left : Option (List ℕ)) (bytes : List ℕ) → IfSome unread (λ all. bytes ≡ all) → IsAtEnd left → ConsumesBeginning unread left
-    → Consumes unread left bytes
-consumes-all None left bytes is end given = tt
-consumes-all (Some all) None bytes is end given = given.1
-consumes-all (Some all) (Some rest) bytes is end given = sym is ∙ sym (append-nil bytes) ∙ ap (λ l. bytes ++ l) (sym end)
+-- a read that failed consumed nothing
+pub kept-consumes : (unread left : Option (List ℕ)) → Keeps unread left → Consumes unread left []
+kept-consumes None left keeps = tt
+kept-consumes (Some all) None keeps = absurd keeps
+kept-consumes (Some all) (Some rest) keeps = sym keeps
+
+-- a text grew by a piece of what was held and of these bytes, of which `more` is held now
+pub grown-text : (before piece after held more bytes : List ℕ) → after ≡ before ++ piece → held ++ bytes ≡ piece ++ more
+    → after ++ more ≡ (before ++ held) ++ bytes
+grown-text before piece after held more bytes grown decoded =
+    ap (λ l. l ++ more) grown ∙ append_assoc before piece more ∙ ap (λ l. before ++ l) (sym decoded) ∙ sym (append_assoc before held bytes)
+
+-- so many bytes more were read, after those before
+pub reads-more : (unread between left : Option (List ℕ)) (before after : List ℕ) (count : ℕ) → Consumes unread between before
+    → Grows between left before after count → Consumes unread left after
+reads-more unread between left before after count consumed grows =
+    subst (Consumes unread left) (sym grows.grown) (Consumes-append unread between left before grows.bytes consumed grows.consumed)
+
+-- and then no more
+pub stops-more : (unread between left : Option (List ℕ)) (before : List ℕ) → Consumes unread between before → StopsWhole between left → StopsWhole unread left
+stops-more unread between left before consumed stops =
+    record { bytes = before ++ stops.bytes; consumed = Consumes-append unread between left before stops.bytes consumed stops.consumed }
 
 or-false : (b : Bool) → (b || false) ≡ b
 or-false true = refl
