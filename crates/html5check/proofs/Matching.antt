@@ -64,8 +64,8 @@ whole-start : (seen : Seen) (tag : TagOf) → Whole (start_tag_findings seen tag
 whole-start seen tag =
     whole-append (element_findings seen tag.name) (attribute_findings seen tag.attributes ++ self_closing_findings seen tag)
     ∙ (λ i. whole-meant seen _ tag.name (meant_element tag.name) refl i
-      && (whole-append (attribute_findings seen tag.attributes) (self_closing_findings seen tag)
-      ∙ (λ j. whole-attributes seen tag.attributes j && whole-self_closing seen tag j)) i)
+    && (whole-append (attribute_findings seen tag.attributes) (self_closing_findings seen tag)
+    ∙ (λ j. whole-attributes seen tag.attributes j && whole-self_closing seen tag j)) i)
 
 -- ---- what a token adds
 

@@ -103,14 +103,14 @@ step-keeps : (enough : Bool) (limit : ℕ) (ends : Bool) (opened : List (List �
     → length opened ≤ 8 * length (items_of plain) → all_open_after [] (items_of made) ≡ opened
     → (HasRoomFor enough limit plain → Keeps enough [] (items_of plain) (items_of made))
     → HasRoomFor enough limit (plain ++ kept) → Keeps enough [] (items_of (plain ++ kept)) (items_of (made ++ written_by (Tree limit) ends opened kept))
-step-keeps enough limit ends opened plain made kept ready short open before room =
+step-keeps enough limit ends opened plain made kept ready short leaves before room =
     let both = length-items plain kept in
     let more : List Piece = written_by (Tree limit) ends opened kept in
     subst (λ l. Keeps enough [] l (items_of (made ++ more))) (sym (items-append plain kept))
     (subst (λ l. Keeps enough [] (items_of plain ++ items_of kept) l) (sym (items-append made more))
     (keeps-append enough [] (items_of plain) (items_of made) (items_of kept) (items_of more)
     (before (λ e. let r = room e in omega (arith, r, both)))
-    (subst (λ (o : List (List ℕ)). Keeps enough o (items_of kept) (items_of more)) (sym open)
+    (subst (λ (o : List (List ℕ)). Keeps enough o (items_of kept) (items_of more)) (sym leaves)
     (written-keeps enough limit ends opened kept ready (λ e. let r = room e in omega (arith, r, both, short))))))
 
 -- what is open is what its pieces leave open
@@ -146,7 +146,7 @@ twin-step enough limit policy c twin run told line t =
     let opening : open_by (shape_of c.policy) (is_end told) c.opened kept ≡ open_by (Tree limit) (is_end told) c.opened other =
     λ i. open_by (shape i) (is_end told) c.opened (same i) in
     let ready : IsReady limit c.opened = subst (λ s. IsReadyFor s c.opened) shape t.goes.1 in
-    let open = open-is limit c.pieces c.opened (subst (λ s. AllGo s [] c.pieces c.opened) shape t.goes.0) in
+    let leaves = open-is limit c.pieces c.opened (subst (λ s. AllGo s [] c.pieces c.opened) shape t.goes.0) in
     record {
       keeps = t.keeps;
       plain = t.plain;
@@ -165,10 +165,11 @@ twin-step enough limit policy c twin run told line t =
           let room_for : HasRoomFor enough limit (twin.pieces ++ other) = subst (λ p. HasRoomFor enough limit (twin.pieces ++ p)) plain room in
           subst (λ p. Keeps enough [] (items_of (twin.pieces ++ p)) (items_of (c.pieces ++ written_by (shape_of c.policy) (is_end told) c.opened kept))) (sym plain)
           (subst (λ p. Keeps enough [] (items_of (twin.pieces ++ other)) (items_of (c.pieces ++ p))) (sym written)
-          (step-keeps enough limit (is_end told) c.opened twin.pieces c.pieces other ready t.short open t.kept room_for));
+          (step-keeps enough limit (is_end told) c.opened twin.pieces c.pieces other ready t.short leaves t.kept room_for));
     }
 
 start-twins : (enough : Bool) (limit : ℕ) (policy : PolicyOf) → policy.tree ≡ true → IsTwin enough limit policy (at_start (with_depth limit policy)) (at_start (without_tree policy))
+unfolding items_of
 start-twins enough limit policy tree = record {
   keeps = refl;
   plain = refl;
