@@ -1,13 +1,11 @@
 -- A tag that lacks its other is found exactly where tags don't match.
-use Rattle.std.proofs.Common.{◌≡◌, ℕ, Bool, true, false, List, [], ◌∷◌, ◌++◌, Option, None, Some, length, take, refl, sym, ap, ◌∙◌}
-use Rattle.std.specs.Prelude.{All, ◌-◌, ◌==◌, ◌&&◌, ◌||◌, not, if◌then◌else◌}
+use Rattle.std.proofs.Common.{◌≡◌, ℕ, Bool, true, false, List, [], ◌∷◌, ◌++◌, Option, None, Some, drop, length, take, refl, sym, ap, ◌∙◌}
+use Rattle.std.specs.Prelude.{◌-◌, ◌==◌, ◌&&◌, ◌||◌, not, if◌then◌else◌}
 use Rattle.std.specs.List.{flat_map, list_all}
-use Rattle.std.proofs.Math.Bool.{and-assoc}
-use Rattle.std.proofs.lemmas.List.{take_all}
-use Rattle.std.proofs.lemmas.List.Folds.{All-from_list_all, list_all-append}
+use Rattle.std.proofs.Math.Bool.{and_assoc}
+use Rattle.std.proofs.lemmas.List.Folds.{list_all-append}
 use Rattle.std.proofs.Math.Seq.{take-length}
-use Rattle.html5check.proofs.Orders.{All-in_order}
-use Rattle.html5check.specs.Checking.{Checking, at_foreign_tag, at_html_tag, at_id, at_tag, checked, checked_all, checked_told, closed_at, duplicate, findings_in, found_by, left_open, nothing_checked, opened_at, stray_fault, unclosed, with_id_of, with_open}
+use Rattle.html5check.specs.Checking.{Checking, at_foreign_tag, at_html_tag, at_id, at_tag, checked, checked_all, checked_told, closed_at, duplicate, found_by, left_open, nothing_checked, opened_at, stray_fault, unclosed, with_id_of, with_open}
 use Rattle.html5check.specs.Elements.{has_optional_end, is_document_part, is_integration_point}
 use Rattle.html5check.specs.Faults.{Finding, attribute_finding, attribute_findings, coded_finding, element_findings, error_finding, meant_finding, plain_finding, self_closing_findings, start_tag_findings}
 use Rattle.html5check.specs.Ids.{id_of, is_taken}
@@ -15,7 +13,7 @@ use Rattle.html5check.specs.Matching.{all_match, has_other, lacks_other, matches
 use Rattle.html5check.specs.Opened.{Open, closed_by, ended_before, holds_foreign}
 use Rattle.html5check.specs.Seen.{Seen}
 use Rattle.html5check.specs.declared.finding.Fault.{Fault}
-use Rattle.html5check.specs.declared.finding.Fault.TheVariants.{EndTagOfVoidElement, EndTagWithoutStart, MisspelledAttribute}
+use Rattle.html5check.specs.declared.finding.Fault.TheVariants.{EndTagOfVoidElement, EndTagWithoutStart, MisspelledAttribute, MisspelledElement, SelfClosingElement, UnclosedElement}
 use Rattle.html5elements.specs.Elements.{is_foreign, is_void}
 use Rattle.html5errors.specs.Messages.{code_of_message}
 use Rattle.html5errors.specs.declared.codes.ErrorCode.{ErrorCode}
@@ -56,14 +54,14 @@ whole-attributes seen (a ∷ attributes) =
 whole-self_closing : (seen : Seen) (tag : TagOf) → Whole (self_closing_findings seen tag) ≡ true
 whole-self_closing seen tag = at (tag.self_closing && not (is_void tag.name))
   where
-    at : (b : Bool) → Whole (if b then plain_finding seen _ tag.name ∷ [] else []) ≡ true
+    at : (b : Bool) → Whole (if b then plain_finding seen SelfClosingElement tag.name ∷ [] else []) ≡ true
     at true = refl
     at false = refl
 
 whole-start : (seen : Seen) (tag : TagOf) → Whole (start_tag_findings seen tag) ≡ true
 whole-start seen tag =
     whole-append (element_findings seen tag.name) (attribute_findings seen tag.attributes ++ self_closing_findings seen tag)
-    ∙ (λ i. whole-meant seen _ tag.name (meant_element tag.name) refl i
+    ∙ (λ i. whole-meant seen MisspelledElement tag.name (meant_element tag.name) refl i
     && (whole-append (attribute_findings seen tag.attributes) (self_closing_findings seen tag)
     ∙ (λ j. whole-attributes seen tag.attributes j && whole-self_closing seen tag j)) i)
 
@@ -94,7 +92,7 @@ adds-foreign s seen tag =
 
 adds-html : (s : Checking) (seen : Seen) (tag : TagOf) → Adds s (at_html_tag s seen tag) true
 adds-html s seen tag =
-    let ended : Checking = record s { opened = _; found = s.found ++ start_tag_findings seen tag } in
+    let ended : Checking = record s { opened = drop (ended_before s.opened tag.name) s.opened; found = s.found ++ start_tag_findings seen tag } in
     let more = whole-more s.found (start_tag_findings seen tag) (whole-start seen tag) in
     adds-if s ended (with_open ended seen tag.name false) (is_void tag.name) true more more
 
@@ -126,7 +124,7 @@ adds-closed : (s : Checking) (seen : Seen) (name : List ℕ) (count : ℕ)
     → Adds s (closed_at s seen name count) (not (count == 0) && may_stay_open (take (count - 1) s.opened))
 adds-closed s seen name count = at (count == 0)
   where
-    at : (b : Bool) → Adds s (if b then record s { found = s.found ++ plain_finding seen (stray_fault name) name ∷ [] } else (record (left_open (count - 1) s) { opened = _ }))
+    at : (b : Bool) → Adds s (if b then record s { found = s.found ++ plain_finding seen (stray_fault name) name ∷ [] } else (record (left_open (count - 1) s) { opened = drop count s.opened }))
         (not b && may_stay_open (take (count - 1) s.opened))
     at true =
         whole-append s.found (plain_finding seen (stray_fault name) name ∷ [])
@@ -165,7 +163,7 @@ adds-all s [] = adds-same s
 adds-all s (seen ∷ more) =
     adds-all (checked s seen) more
     ∙ ap (λ b. b && all_match (checked s seen) more) (adds seen.token s seen)
-    ∙ and-assoc (Whole s.found) (matches seen.token s) (all_match (checked s seen) more)
+    ∙ and_assoc (Whole s.found) (matches seen.token s) (all_match (checked s seen) more)
 
 pub found-match : (tokens : List Seen) → list_all has_other (found_by tokens) ≡ all_match nothing_checked tokens
 found-match tokens = adds-all nothing_checked tokens

@@ -1,7 +1,7 @@
 -- A source that was read to its end.
 use Rattle.std.proofs.Common.{◌≡◌, ℕ, Bool, true, false, List, [], ◌++◌, Option, None, Some, refl, sym, ap, ◌∙◌, append_assoc, append-nil, subst}
 use Rattle.std.specs.Prelude.{◌||◌}
-use Rattle.std.specs.Io.KnownBytes.{Consumes, IsAtEnd, Keeps}
+use Rattle.std.specs.Io.KnownBytes.{Consumes, Keeps}
 use Rattle.std.proofs.lemmas.Str.{IsUtf8-nil}
 use Rattle.devices.proofs.KnownBytes.{Consumes-append}
 use Rattle.html5check.specs.Located.{Located, located_in}
@@ -27,6 +27,10 @@ pub reads-more : (unread between left : Option (List ℕ)) (before after : List 
     → Grows between left before after count → Consumes unread left after
 reads-more unread between left before after count consumed grows =
     subst (Consumes unread left) (sym grows.grown) (Consumes-append unread between left before grows.bytes consumed grows.consumed)
+
+-- where nothing is held, the text is all
+pub all-consumed : (text held : List ℕ) → held ≡ [] → text ++ held ≡ text
+all-consumed text held none = ap (λ l. text ++ l) none ∙ append-nil text
 
 -- and then no more
 pub stops-more : (unread between left : Option (List ℕ)) (before : List ℕ) → Consumes unread between before → StopsWhole between left → StopsWhole unread left
