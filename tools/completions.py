@@ -24,7 +24,7 @@ HEAD = "# What a shell completes after firnuubal. Made by tools/completions.py.\
 # What stands after an option, by the word that its help has for it: those of these words that its help names, or any text
 # where there are none. FILE is a file.
 WORDS = {"FORMAT": ["lines", "json", "sarif"], "NAME": ["jinja", "mustache", "erb"]}
-WORDS |= dict.fromkeys(("LABEL", "URL", "ELEMENT"), [])
+WORDS |= dict.fromkeys(("LABEL", "URL", "ELEMENT", "ELEMENT.ATTRIBUTE", "ELEMENT.ATTRIBUTE=VALUE"), [])
 
 # Words that were typed, the last not to its end, and what bash and zsh complete.
 CASES = [
@@ -41,6 +41,8 @@ CASES = [
     (["check", "--format", "s"], ["sarif"]),
     (["check", "--template", ""], ["jinja", "mustache", "erb"]),
     (["links", "--base", "h"], []),
+    (["rewrite", "--set", "--d"], []),
+    (["rewrite", "--set", "a.rel=x", "--d"], ["--drop"]),
     (["links", "--", "--f"], []),
     (["links", "--policy", "--f"], ["--fatal", "--format"]),
 ]
@@ -74,7 +76,7 @@ def options_of(text):
         name, _, word = option.rpartition(", ")[2].partition(" ")
         said = " ".join(lines).partition("Example:")[0]
         known = [one for one in WORDS[word] if re.search(rf"\b{one}\b", said)] if word in WORDS else None
-        yield name, word, lines[0].partition(":")[0], known
+        yield name, word, re.split(r"[.:;](?:\s|$)", said.strip())[0], known
 
 
 def names_of(text):

@@ -20,7 +20,7 @@ MACRO = re.compile(r"^macro_rules! (\w+) \{\n    \((.*?)\) => \{(.*?)\n    \};\n
 CALL = re.compile(r"\s*(\w+)!\((.*)\)\s*", re.DOTALL)
 WORD = re.compile(r'"((?:[^"\\]|\\.)*)"|\$\(?\$?(\w+)', re.DOTALL)
 COMMAND = re.compile(r"^  (\w+) +(\S.*)$", re.MULTILINE)
-OPTION = re.compile(r"^  ((?:-\w, )?--[\w-]+(?: [A-Z]+)?)(?: +(\S.*))?$")
+OPTION = re.compile(r"^  ((?:-\w, )?--[\w-]+(?: [A-Z.=]+)?)(?: +(\S.*))?$")
 
 
 def texts():

@@ -24,6 +24,8 @@ _firnuubal() {
     check:--template) words="jinja mustache erb" ;;
     rewrite:--encoding) words="" ;;
     rewrite:--entities) words="" ;;
+    rewrite:--set) words="" ;;
+    rewrite:--remove) words="" ;;
     rewrite:--drop) words="" ;;
     rewrite:--absolute) words="" ;;
     *)

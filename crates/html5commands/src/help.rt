@@ -12,15 +12,16 @@ Commands:
   check   what is wrong in the pages or templates, a line each, with lines and columns
   rewrite the pages with attributes set or removed, elements dropped, or addresses made absolute
 
-Without a FILE, or where it is -, standard input is read. After -- all words are files.
-'firnuubal COMMAND --help' says more of a command.
+Without a FILE, or if FILE is -, it reads standard input. After -- all words are files.
+'firnuubal COMMAND --help' says more about a command.
   --help     this text
   --version  the program's name and its version
 
-The status is 0 where all was done, or nobody reads the output any more; 1 where something could
-not be read or printed, and each such file is named, or where check found something; 2 where words,
-the label of an encoding, the name of a format or of a template language, the URL of pages, what is
-changed of them, or a file that they name for entities or a policy, are wrong.
+The exit status is 0 on success, and also if the reader of the output went away. It is 1 if a file
+can't be read, and each such file is named; if the output can't be written; if memory runs out; or
+if check found something. It is 2 for wrong arguments: an unknown option, encoding, format or
+template language, a wrong URL or change, or a file for --entities or --policy that is wrong or
+can't be read.
 ";
 
 // How a command is used that reads pages: what it does, its own options that stand first, those of each command, and
@@ -30,31 +31,31 @@ macro_rules! reading_help {
         concat!(
             $about,
             "
-Without a FILE, or where it is -, standard input is read. After -- all words are files.
+Without a FILE, or if FILE is -, it reads standard input. After -- all words are files.
 ",
             $($first,)*
-            "  --encoding LABEL the encoding that is said of the pages, as by a server: a label of the
-                   Encoding Standard, as windows-1252, shift_jis or utf-16le. A byte order mark
-                   decides before it. Where it isn't given, a <meta charset=..> in a page's first
-                   1,024 bytes decides, or in the ASCII that it begins with, or else whether these
-                   bytes are UTF-8; pages that are not are windows-1252. Bytes that are none of a
-                   page's encoding are read as U+FFFD. What is printed is UTF-8
+            "  --encoding LABEL the encoding of the pages, as a server gives it: a label of the Encoding
+                   Standard, such as windows-1252, shift_jis or utf-16le. A byte order mark comes
+                   before it. By default a <meta charset=..> or an XML declaration decides, in a
+                   page's first 1,024 bytes or in the ASCII that it begins with. Without one the
+                   page is UTF-8 if these bytes are, and else windows-1252. Malformed bytes become
+                   U+FFFD. The output is UTF-8
                    Example: firnuubal ",
             $command,
             " --encoding shift_jis page.html
-  --fatal          pages end at the first bytes that are none of their encoding: of that which
-                   --encoding says, or a byte order mark before it; without --encoding of UTF-8,
-                   whatever a page says
+  --fatal          stop a page at its first malformed bytes. With --encoding a page has that
+                   encoding, or that of its byte order mark. Without --encoding it must be UTF-8,
+                   whatever it says
                    Example: firnuubal ",
             $command,
             " --fatal page.html
-  --entities FILE  the named character references, in place of the standard's 2,231: an entry
+  --entities FILE  the named character references, in place of the standard's 2,231: one entry
                    a line, or joined by commas, each NAME=HEX or NAME=HEX+HEX
                    Example: firnuubal ",
             $command,
             " --entities names.txt page.html
-  --progress       on standard error, where that is a terminal, how many megabytes of a file were
-                   read, and how many a second
+  --progress       show on standard error, if that is a terminal, how many megabytes of a file
+                   were read, and how many a second
                    Example: firnuubal ",
             $command,
             " --progress page.html > out
@@ -81,18 +82,19 @@ macro_rules! formatting_help {
             $about,
             [],
             [
-                "  --format FORMAT  lines, as where it isn't given, or json: an object of JSON on each line
+                "  --format FORMAT  lines, the default, or json: one JSON object a line
                    Example: firnuubal "
                 $command
                 " --format json page.html
   -H, --with-filename
-                   the name of its file in front of each line: it and a colon, or by json a member
-                   \"file\". So it is where more than one FILE is given. Standard input is named -
+                   print the file's name in front of each line, with a colon after it, or with
+                   json as a member \"file\". It is the default for more than one FILE. The name
+                   of standard input is -
                    Example: firnuubal "
                 $command
                 " -H page.html
   -h, --no-filename
-                   no names, however many files there are. Of both the last one counts
+                   print no names, however many files there are. The last of -H and -h counts
                    Example: firnuubal "
                 $command
                 " -h a.html b.html
@@ -107,8 +109,8 @@ macro_rules! formatting_help {
 pub const TOKENS: &str = formatting_help!(
     "tokens",
     "usage: firnuubal tokens [OPTION...] [FILE...]
-Prints the tokens of HTML pages as they arrive, a line each: what it is, the number of the line
-that the tokenizer has reached, and what it holds. Parse errors have lines of their own.
+Prints the tokens of HTML pages as they arrive, one a line: its kind, the number of the line that
+the tokenizer has reached, and its content. Parse errors have lines of their own.
   Example: firnuubal tokens page.html
 ",
     []
@@ -118,15 +120,15 @@ that the tokenizer has reached, and what it holds. Parse errors have lines of th
 pub const LINKS: &str = formatting_help!(
     "links",
     "usage: firnuubal links [OPTION...] [FILE...]
-Prints the links of HTML pages as they arrive, a line each: the number of the line on which the
+Prints the links of HTML pages as they arrive, one a line: the number of the line on which the
 tag ends, a space, and the link. Links are the href of a, area and link, and the src of img,
-script and iframe, as they are written, or by --base where they lead.
+script and iframe. They are printed as they are written, or with --base as absolute URLs.
   Example: firnuubal links page.html
 ",
     [
-        "  --base URL       the URL of the pages: each link is printed as the URL that it leads to from
-                   there, or from the first <base href> of the page, once that was read. A
-                   link that leads to none is printed as it is written
+        "  --base URL       the URL of the pages. Each link is resolved against it, or against the first
+                   <base href> of the page, once that was read. A link that can't be resolved
+                   is printed as it is written
                    Example: firnuubal links --base https://a.example/b/ page.html
 "
     ]
@@ -136,7 +138,7 @@ script and iframe, as they are written, or by --base where they lead.
 pub const TEXT: &str = reading_help!(
     "text",
     "usage: firnuubal text [OPTION...] [FILE...]
-Prints what stands between the tags of HTML pages as it arrives, references decoded, without
+Prints the text between the tags of HTML pages as it arrives, with references decoded, and without
 scripts and styles.
   Example: firnuubal text page.html
 ",
@@ -149,24 +151,24 @@ pub const CLEAN: &str = reading_help!(
     "clean",
     "usage: firnuubal clean [OPTION...] [FILE...]
 Prints HTML pages with only allowed elements and attributes in them, and addresses that are
-relative or of allowed schemes. The text is kept, but for that of scripts, styles and their
-like; comments are not. A page is printed as it arrives, by the standard policy so that a
-browser builds it as it is nested.
+relative or have allowed schemes. It keeps the text, except that of scripts, styles and the like,
+and drops comments. It prints a page as it arrives. The standard policy fixes the nesting, so that
+browsers build exactly the tree that the tags show.
   Example: firnuubal clean page.html
 ",
     [
-        "  --policy FILE    what is allowed, in place of the standard policy: a rule a line, of
+        "  --policy FILE    what is allowed, in place of the standard policy, one rule a line:
                      allow ELEMENT [ATTRIBUTE..]   an element, and attributes of it
-                     everywhere ATTRIBUTE..        attributes of each element
+                     everywhere ATTRIBUTE..        attributes of every element
                      schemes SCHEME..              schemes of addresses
-                     hide ELEMENT..                elements dropped with what stands in them
+                     hide ELEMENT..                elements dropped with their content
                      rel WORD..                    each link gets these words as its rel
-                     balance                       end tags close what is open, and no more
-                     tree                          a browser builds the page as it is nested
-                     depth NUMBER                  how many may be open then: 256, or 1 to 4096
-                   empty lines, and lines that begin with #, say nothing
+                     balance                       close each element, drop other end tags
+                     tree                          browsers build the tree that the tags show
+                     depth NUMBER                  open elements with tree: 1 to 4096, or 256
+                   Empty lines are ignored, and so are lines that begin with #
                    Example: firnuubal clean --policy policy.txt page.html
-  --print-policy   the standard policy, to begin one's own from
+  --print-policy   print the standard policy, as a start for your own
                    Example: firnuubal clean --print-policy > policy.txt
 "
     ],
@@ -177,25 +179,24 @@ browser builds it as it is nested.
 pub const CHECK: &str = reading_help!(
     "check",
     "usage: firnuubal check [OPTION...] [FILE...]
-Prints what is wrong in HTML pages, a line each: the name of the file, the line and the column, and
-the code of it, as page.html:12:5: error: unexpected-null-character. Parse errors have the codes of
-the HTML Standard; one without a code there is a parse-error. The others are:
+Prints the faults of HTML pages, one a line: the name of the file, the line, the column and a code,
+as page.html:12:5: error: unexpected-null-character. Parse errors have the codes of the HTML
+Standard; an error without a code there is a parse-error. The other codes are:
 end-tag-without-start, end-tag-of-void-element, unclosed-element,
 non-void-html-element-start-tag-with-trailing-solidus, duplicate-id, misspelled-element,
-misspelled-attribute. Each page is read whole before it is checked. The status is 1 where something
-was found.
+misspelled-attribute. It reads each page whole before it checks it. The exit status is 1 if it found
+something.
   Example: firnuubal check page.html
 ",
     [],
     [
-        "  --format FORMAT  lines, as where it isn't given; json: an object of JSON on each line, with the
-                   column by UTF-16 code units, too, and the bytes of the page's text in UTF-8
-                   where it begins and ends; or sarif: a log of SARIF 2.1.0, as code hosts read
-                   it
+        "  --format FORMAT  lines, the default; json: one JSON object a line, which also has the column in
+                   UTF-16 code units, and where the finding begins and ends in the bytes of the
+                   page's text in UTF-8; or sarif: a SARIF 2.1.0 log, as code hosts read it
                    Example: firnuubal check --format json page.html
-  --template NAME  pages are in a template language, whose constructs are masked: jinja ({{ }},
-                   {% %}, {# #}), mustache ({{ }}, {{{ }}}) or erb (<% %>). Elements that branches
-                   of a construct open or close are counted as they stand
+  --template NAME  the template language of the pages, whose constructs are masked: jinja ({{ }},
+                   {% %}, {# #}), mustache ({{ }}, {{{ }}}) or erb (<% %>). All branches count: an
+                   element that two branches open is open twice
                    Example: firnuubal check --template jinja page.html
 "
     ]
@@ -206,27 +207,26 @@ pub const REWRITE: &str = reading_help!(
     "rewrite",
     "usage: firnuubal rewrite [OPTION...] [FILE...]
 Prints HTML pages with attributes set or removed, elements dropped, or addresses made absolute.
-Tags that are changed are written anew, with their attributes in double quotes. All else stays as
-it is written, to the byte, comments, scripts and faults too. A page is printed as it arrives.
+Changed tags are written anew, with their attributes in double quotes. Everything else is copied
+byte for byte: comments, scripts and faults too. It prints a page as it arrives.
   Example: firnuubal rewrite --drop script page.html
 ",
     [],
     [
         "  --set ELEMENT.ATTRIBUTE=VALUE
-                   an attribute of each start tag of the element, in place of one of that name
+                   set an attribute of each start tag of the element, in place of one of that name
                    Example: firnuubal rewrite --set a.rel=nofollow page.html
   --remove ELEMENT.ATTRIBUTE
-                   the attribute is removed from each start tag of the element
+                   remove the attribute from each start tag of the element
                    Example: firnuubal rewrite --remove a.onclick page.html
-  --drop ELEMENT   the element is dropped with what stands in it, up to its end tag, or where that
-                   is missing to the end of the page
+  --drop ELEMENT   drop the element with its content, up to its end tag, or without one to the
+                   end of the page
                    Example: firnuubal rewrite --drop script --drop style page.html
-  --absolute URL   the URL of the pages: the href of a, area and link, and the src of img, script and
-                   iframe, become the URLs to which they lead from there, or from the first
-                   <base href> of the page, once that was read. One that leads to none stays,
-                   and an empty one
+  --absolute URL   the URL of the pages. The href of a, area and link, and the src of img, script
+                   and iframe are resolved against it, or against the first <base href> of the
+                   page, once that was read. One that is empty or can't be resolved stays
                    Example: firnuubal rewrite --absolute https://a.example/b/ page.html
-  --noopener       each a, area and form with a target has noopener among the words of its rel
+  --noopener       put noopener among the words of rel of each a, area and form with a target
                    Example: firnuubal rewrite --noopener page.html
 "
     ]
