@@ -5,5 +5,6 @@ use html5commands::run;
 use std::process::ExitCode;
 
 fn main(rt: HostRuntime) -> ExitCode {
-    ExitCode::from(run(&rt, rt.stdin(), rt.stdout(), rt.stderr()))
+    let (_, status) = run(&rt, rt.stdin(), rt.stdout(), rt.stderr());
+    ExitCode::from(status)
 }

@@ -1,10 +1,10 @@
--- The status of a run by a wrong word.
-use Rattle.std.proofs.Common.{◌≡◌, ℕ, List, [], ◌∷◌, Option, None, Some, inl, inr, rules, sym, ap, ◌∙◌, subst}
+-- What the status of a run says.
+use Rattle.std.proofs.Common.{◌≡◌, ℕ, Bool, true, false, refl, List, [], ◌∷◌, Option, None, Some, inl, inr, rules, sym, ap, ◌∙◌, subst}
 use Rattle.std.specs.Prelude.{◌⊎◌, Contains, IfSome}
-use Rattle.html5commands.specs.Commands.{Named, asked_of_command}
-use Rattle.html5programs.specs.Ending.{HasWrongWord, status_of}
+use Rattle.html5commands.specs.Commands.{Named, PrintsBy, asked_of_command}
+use Rattle.html5programs.specs.Ending.{AsksNoText, HasWrongWord, status_of}
 use Rattle.html5programs.specs.declared.ending.Ending.{Ending}
-use Rattle.html5programs.specs.declared.ending.Ending.TheVariants.{NoMemory, WrongWord}
+use Rattle.html5programs.specs.declared.ending.Ending.TheVariants.{Closed, Done, Found, Missed, NoMemory, NoSettings, NoTable, Unprinted, WrongValue, WrongWord}
 
 has-one : Contains {X = ℕ} (1 ∷ 2 ∷ []) 1
 has-one = search rules
@@ -21,3 +21,31 @@ pub wrong-status : (named : Option Named) (ending : Ending) (status : ℕ) → s
     → IfSome named (λ named. HasWrongWord (asked_of_command named) → Contains {X = ℕ} (1 ∷ 2 ∷ []) status)
 wrong-status None ending status is usage = tt
 wrong-status (Some named) ending status is usage = λ wrong. is-failure ending status is (usage wrong)
+
+-- a run that ends with 0, and whose reader didn't go away, is done
+pub is-done : (ending : Ending) (status : ℕ) (closed : Bool) → status ≡ status_of ending → status ≡ 0 → (ending ≡ Closed → closed ≡ true) → closed ≡ false
+    → ending ≡ Done
+is-done Done status closed is zero gone here = refl
+is-done Found status closed is zero gone here = search rules
+is-done Closed status closed is zero gone here = search rules
+is-done Missed status closed is zero gone here = search rules
+is-done Unprinted status closed is zero gone here = search rules
+is-done NoMemory status closed is zero gone here = search rules
+is-done WrongWord status closed is zero gone here = search rules
+is-done WrongValue status closed is zero gone here = search rules
+is-done NoTable status closed is zero gone here = search rules
+is-done NoSettings status closed is zero gone here = search rules
+
+-- what a done run of a command printed
+pub done-prints : (named : Option Named) (ending : Ending) (given unread left : Option (List ℕ)) (written : List ℕ) → ending ≡ Done → unread ≡ given
+    → IfSome named (λ named. AsksNoText (asked_of_command named) → ending ≡ Done → PrintsBy named.command (asked_of_command named) unread left written false)
+    → IfSome named (λ named. AsksNoText (asked_of_command named)
+    → (left : Option (List ℕ)) × PrintsBy named.command (asked_of_command named) given left written false)
+done-prints None ending given unread left written done same prints = tt
+done-prints (Some named) ending given unread left written done same prints =
+    λ none. (left, subst (λ u. PrintsBy named.command (asked_of_command named) u left written false) same (prints none done))
+
+pub done-says : (named : Option Named) (ending : Ending) (asks says : Named → Type 0) → ending ≡ Done
+    → IfSome named (λ named. asks named → ending ≡ Done → says named) → IfSome named (λ named. asks named → says named)
+done-says None ending asks says done said = tt
+done-says (Some named) ending asks says done said = λ asked. said asked done

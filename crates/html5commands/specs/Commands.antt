@@ -1,5 +1,6 @@
 -- The commands of the program, the options that each knows, and what each prints.
-use Rattle.std.specs.Prelude.{◌≡◌, ℕ, Bool, true, false, List, [], ◌∷◌, ◌++◌, ◌&&◌, Option, None, Some, codes, option_map, if◌then◌else◌, IsNone}
+use Rattle.std.specs.Prelude.{◌≡◌, ℕ, Bool, true, false, List, [], ◌∷◌, ◌++◌, ◌&&◌, Option, None, Some, Ok, codes, option_map, if◌then◌else◌, IfSome, IsNone}
+use Rattle.std.specs.Io.{StartsWith}
 use Rattle.std.specs.Str.{bytes_eq}
 use Rattle.html5check.specs.Asked.{check_settings_said}
 use Rattle.html5check.specs.Lines.{lines_of}
@@ -20,8 +21,11 @@ use Rattle.html5extract.specs.Bases.{bases_asked}
 use Rattle.html5extract.specs.Makings.{links_made, text_made, tokens_made}
 use Rattle.html5json.specs.Findings.{finding_lines, log_ended, results_of}
 use Rattle.html5json.specs.Makings.{json_links_made, json_tokens_made}
-use Rattle.html5programs.specs.Ending.{AsksNoText, PrintsAsked}
+use Rattle.html5policy.specs.Standard.{standard_policy}
+use Rattle.html5policy.specs.Text.{policy_said}
+use Rattle.html5programs.specs.Ending.{AsksHelp, AsksNoText, AsksSettings, AsksVersion, PrintsAsked}
 use Rattle.html5programs.specs.Filtering.{Making}
+use Rattle.html5programs.specs.Version.{version_line}
 use Rattle.html5programs.specs.Words.{Asked, KnownOption, settings_asked, value_of, words_asked}
 
 -- the name of the program
@@ -107,6 +111,26 @@ NamesNothing (word ∷ words) = IsUnknownWord word
 -- what the words after it ask of a command
 abbrev pub asked_of_command : Named → Asked
 asked_of_command named = words_asked (options_of named.command) named.words
+
+-- ---- the help
+
+-- how the help of each command begins
+unfoldable pub usage_of : Command → List ℕ
+usage_of Tokens = codes "usage: firnuubal tokens "
+usage_of Links = codes "usage: firnuubal links "
+usage_of Text = codes "usage: firnuubal text "
+usage_of Clean = codes "usage: firnuubal clean "
+usage_of Check = codes "usage: firnuubal check "
+usage_of Rewrite = codes "usage: firnuubal rewrite "
+
+-- what the program prints of itself, if its first word asks for that
+pub record SaysItself (word written : List ℕ) : Type 0 where
+  pub help : word ≡ codes "--help" → StartsWith written (codes "usage: firnuubal COMMAND ")
+  pub version : word ≡ codes "--version" → written ≡ version_line program_name
+
+abbrev pub SaysFirst : List (List ℕ) → List ℕ → Type 0
+SaysFirst [] written = Unit {0}
+SaysFirst (word ∷ words) written = SaysItself word written
 
 -- ---- the format
 
@@ -227,3 +251,13 @@ PrintsBy Check asked unread left written found = InFormat (format_asked true ask
     (PrintsAsked check_made_lines no_file check_settings_said asked unread left written found)
     (PrintsAsked check_made_json no_file check_settings_said asked unread left written found)
     (PrintsAsked check_made_log no_file check_settings_said asked unread left written found)
+
+-- the program did all that these words ask for, and found nothing that the status tells. Its input had this in front of it,
+-- and this was written.
+pub record Prints (words : List (List ℕ)) (unread : Option (List ℕ)) (written : List ℕ) : Type 0 where
+  pub pages : IfSome (command_named words) (λ named. AsksNoText (asked_of_command named)
+      → (left : Option (List ℕ)) × PrintsBy named.command (asked_of_command named) unread left written false)
+  pub help : IfSome (command_named words) (λ named. AsksHelp (asked_of_command named) → StartsWith written (usage_of named.command))
+  pub version : IfSome (command_named words) (λ named. AsksVersion (asked_of_command named) → written ≡ version_line program_name)
+  pub policy : IfSome (command_named words) (λ named. AsksSettings (asked_of_command named) → policy_said written ≡ Ok standard_policy)
+  pub first : SaysFirst words written

@@ -1,6 +1,7 @@
 //! The commands, and the options that each knows.
 ghost use Rattle.std.specs.Prelude.{◌≡◌, Ok};
-ghost use Rattle.html5commands.specs.Commands.{command_of, options_of, program_name};
+ghost use Rattle.html5commands.specs.Commands.{command_of, options_of, program_name, usage_of};
+ghost use Rattle.std.specs.Io.{StartsWith};
 ghost use Rattle.html5policy.specs.Standard.{standard_policy};
 ghost use Rattle.html5policy.specs.Text.{policy_said};
 ghost use Rattle.html5programs.specs.Words.{known_options};
@@ -202,7 +203,10 @@ fn choices_of(command: Command) -> &'static [Choice<'static>]
 }
 
 // How a command is used.
-fn help_of(command: Command) -> &'static str {
+#[tactic(auto, unfolding(crate::specs::Commands::usage_of))]
+fn help_of(command: Command) -> &'static str
+    ensures { StartsWith result.now (usage_of command) }
+{
     match command {
         Command::Tokens => TOKENS,
         Command::Links => LINKS,
@@ -216,6 +220,7 @@ fn help_of(command: Command) -> &'static str {
 /// A command as a program of its own.
 pub fn program_of(command: Command) -> Program<'static>
     ensures name { result.name.now ≡ program_name }
+    ensures help { StartsWith result.help.now (usage_of command) }
     ensures options { known_options result.choices.now ≡ options_of command }
     ensures settings { policy_said result.settings.now ≡ Ok standard_policy }
 {

@@ -1,7 +1,7 @@
 //! The format of what is printed.
 ghost use Rattle.std.specs.Prelude.{◌≡◌, ◌⊎◌, [], true, false, IfErr, IfOk, IsNone, Some, map, string_bytes};
 ghost use Rattle.html5commands.specs.Commands.{InFormat, NamesNoFormat, format_asked, format_named};
-ghost use Rattle.html5programs.specs.Ending.{AsksNoSettings, AsksNoText, AsksSettings, AsksVersion, HasWrongWord, NamesNoEncoding, PrintsAsked, asked_of, status_of};
+ghost use Rattle.html5programs.specs.Ending.{AsksHelp, AsksNoSettings, AsksNoText, AsksSettings, AsksVersion, HasWrongWord, NamesNoEncoding, PrintsAsked, asked_of, status_of};
 ghost use Rattle.html5programs.specs.Version.{version_line};
 ghost use Rattle.html5programs.specs.Words.{asked_by, known_options, words_asked};
 
@@ -132,6 +132,8 @@ pub fn filter_in_format<
         (I.remaining stdin.old.inner) (I.remaining stdin.new.inner) result.0.taken true)
         (PrintsAsked S.means S.Settings.file S.Settings.said (asked_of program.entry (map string_bytes words.now))
         (I.remaining stdin.old.inner) (I.remaining stdin.new.inner) result.0.taken true) }
+    ensures help { AsksHelp (asked_of program.entry (map string_bytes words.now)) → result.1 ≡ Ending.Done
+        → result.0.taken ≡ program.entry.help.now }
     ensures version { AsksVersion (asked_of program.entry (map string_bytes words.now)) → result.1 ≡ Ending.Done
         → result.0.taken ≡ version_line program.entry.name.now }
     ensures settings { AsksSettings (asked_of program.entry (map string_bytes words.now)) → result.1 ≡ Ending.Done

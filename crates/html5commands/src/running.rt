@@ -1,9 +1,10 @@
 //! A run of the program, by the words after its name.
-ghost use Rattle.std.specs.Prelude.{◌≡◌, ◌⊎◌, ◌∷◌, [], false, true, Contains, IfSome, IsNone, Ok, codes, map, string_bytes};
-ghost use Rattle.html5commands.specs.Commands.{IsUnknownWord, NamesNoBase, NamesNoChange, NamesNoFormat, NamesNoTemplate, NamesNothing, PrintsBy, asked_of_command, command_named, has_formats, has_logs, options_of, program_name};
+ghost use Rattle.std.specs.Prelude.{◌≡◌, ◌⊎◌, ◌∷◌, [], false, true, Contains, IfSome, IsNone, List, ℕ, Ok, codes, map, string_bytes};
+ghost use Rattle.std.specs.Io.{StartsWith};
+ghost use Rattle.html5commands.specs.Commands.{IsUnknownWord, NamesNoBase, NamesNoChange, NamesNoFormat, NamesNoTemplate, NamesNothing, Prints, PrintsBy, SaysFirst, SaysItself, asked_of_command, command_named, has_formats, has_logs, options_of, program_name, usage_of};
 ghost use Rattle.html5policy.specs.Standard.{standard_policy};
 ghost use Rattle.html5policy.specs.Text.{policy_said};
-ghost use Rattle.html5programs.specs.Ending.{AsksNoText, AsksSettings, AsksVersion, HasWrongWord, NamesNoEncoding, status_of};
+ghost use Rattle.html5programs.specs.Ending.{AsksHelp, AsksNoText, AsksSettings, AsksVersion, HasWrongWord, NamesNoEncoding, status_of};
 ghost use Rattle.html5programs.specs.Version.{version_line};
 ghost use Rattle.html5programs.specs.Words.{words_asked};
 
@@ -61,6 +62,8 @@ fn by_command<R: Files + Alloc<A = Global> + Meters, I: Read, O: Write + Drop, E
     ensures found { AsksNoText (words_asked (options_of command) (map string_bytes words.now)) → result.1 ≡ Ending.Found
         → PrintsBy command (words_asked (options_of command) (map string_bytes words.now))
         (I.remaining stdin.old.inner) (I.remaining stdin.new.inner) result.0.taken true }
+    ensures help { AsksHelp (words_asked (options_of command) (map string_bytes words.now)) → result.1 ≡ Ending.Done
+        → StartsWith result.0.taken (usage_of command) }
     ensures version { AsksVersion (words_asked (options_of command) (map string_bytes words.now)) → result.1 ≡ Ending.Done
         → result.0.taken ≡ version_line program_name }
     ensures policy { AsksSettings (words_asked (options_of command) (map string_bytes words.now)) → result.1 ≡ Ending.Done
@@ -127,7 +130,7 @@ fn by_first_word<O: Write + Drop, E: Target>(
     stdout: O,
     messages: &mut Messages<'_, E>,
 ) -> (Logged<Output<O>>, Ending)
-    ensures version { word.now ≡ codes "--version" → result.1 ≡ Ending.Done → result.0.taken ≡ version_line program_name }
+    ensures done { result.1 ≡ Ending.Done → SaysItself word.now result.0.taken }
     ensures closed { result.1 ≡ Ending.Closed → result.0.inner.is_closed ≡ true }
     ensures wrong { IsUnknownWord word.now → (result.1 ≡ Ending.WrongWord) × (result.0.taken ≡ []) }
 {
@@ -158,6 +161,9 @@ pub fn command_by_words<R: Files + Alloc<A = Global> + Meters, I: Read, O: Write
     ensures found { IfSome (command_named (map string_bytes words.now)) (λ named.
         AsksNoText (asked_of_command named) → result.1 ≡ Ending.Found
         → PrintsBy named.command (asked_of_command named) (I.remaining stdin.old.inner) (I.remaining stdin.new.inner) result.0.taken true) }
+    ensures help { IfSome (command_named (map string_bytes words.now)) (λ named.
+        AsksHelp (asked_of_command named) → result.1 ≡ Ending.Done → StartsWith result.0.taken (usage_of named.command)) }
+    ensures first { result.1 ≡ Ending.Done → SaysFirst (map string_bytes words.now) result.0.taken }
     ensures version { IfSome (command_named (map string_bytes words.now)) (λ named.
         AsksVersion (asked_of_command named) → result.1 ≡ Ending.Done → result.0.taken ≡ version_line program_name) }
     ensures policy { IfSome (command_named (map string_bytes words.now)) (λ named.
@@ -199,29 +205,32 @@ pub fn command_by_words<R: Files + Alloc<A = Global> + Meters, I: Read, O: Write
     }
 }
 
-/// Runs the program by these words, as `command_by_words` says, and answers the status that the process
-/// ends with. Where the reader of the output goes away it ends without a word.
+/// Runs the program by these words, as `command_by_words` says. It gives the output back, and the exit status of the
+/// process. If the reader of the output goes away, it ends with 0 and without a message.
 pub fn run_by_words<
     R: Files + Alloc<A = Global> + Meters,
     I: Read + Drop,
     O: Write + Drop,
     E: Write + Drop,
->(rt: &R, words: &[String], stdin: I, stdout: O, stderr: E) -> u8
-    ensures status { Contains (0 ∷ 1 ∷ 2 ∷ []) result }
+>(rt: &R, words: &[String], stdin: I, stdout: O, stderr: E) -> (Logged<Output<O>>, u8)
+    ensures status { Contains (0 ∷ 1 ∷ 2 ∷ []) result.1 }
+    ensures done { result.1 ≡ 0 → result.0.inner.is_closed ≡ false
+        → Prints (map string_bytes words.now) (I.remaining stdin) result.0.taken }
     ensures usage { IfSome (command_named (map string_bytes words.now)) (λ named.
-        HasWrongWord (asked_of_command named) → Contains (1 ∷ 2 ∷ []) result) }
-    ensures unknown { NamesNothing (map string_bytes words.now) → result ≡ 2 }
+        HasWrongWord (asked_of_command named) → Contains (1 ∷ 2 ∷ []) result.1) }
+    ensures unknown { NamesNothing (map string_bytes words.now) → result.1 ≡ 2 }
 {
     let messages = &mut Messages::new(rt.alloc(), NAME, WriteTarget::new(stderr));
     let stdin = &mut Input::new(stdin);
-    let (_, ending) = command_by_words(rt, words, stdin, stdout, messages);
-    ending.status()
+    let (output, ending) = command_by_words(rt, words, stdin, stdout, messages);
+    (output, ending.status())
 }
 
 // Says why there are no words, and how a run without them ends.
 fn end_without_words<E: Target>(fault: Fault, messages: &mut Messages<'_, E>) -> Ending
     ensures memory { fault ≡ Fault.Memory → result ≡ Ending.NoMemory }
     ensures words { fault ≡ Fault.NotUtf8 → result ≡ Ending.WrongWord }
+    ensures failed { Contains (1 ∷ 2 ∷ []) (status_of result) }
 {
     match fault {
         Fault::Memory => {
@@ -235,21 +244,24 @@ fn end_without_words<E: Target>(fault: Fault, messages: &mut Messages<'_, E>) ->
     }
 }
 
-/// Runs the program by the words that the process was given, and answers the status that it ends with.
-/// No contract says which words these are.
+/// Runs the program by the words that the process was given. It gives the output back, and the exit status. No contract
+/// says which words these are.
 pub fn run<
     R: Env + Files + Alloc<A = Global> + Meters,
     I: Read + Drop,
     O: Write + Drop,
     E: Write + Drop,
->(rt: &R, stdin: I, stdout: O, stderr: E) -> u8
-    ensures { Contains (0 ∷ 1 ∷ 2 ∷ []) result }
+>(rt: &R, stdin: I, stdout: O, stderr: E) -> (Logged<Output<O>>, u8)
+    ensures status { Contains (0 ∷ 1 ∷ 2 ∷ []) result.1 }
+    ensures done { result.1 ≡ 0 → result.0.inner.is_closed ≡ false
+        → (words : List (List ℕ)) × Prints words (I.remaining stdin) result.0.taken }
 {
     match given_words(rt) {
         Ok(words) => run_by_words(rt, &words, stdin, stdout, stderr),
         Err(fault) => {
             let mut messages = Messages::new(rt.alloc(), NAME, WriteTarget::new(stderr));
-            end_without_words(fault, &mut messages).status()
+            let status = end_without_words(fault, &mut messages).status();
+            (Logged::new(Output::new(stdout)), status)
         }
     }
 }
