@@ -5,7 +5,6 @@ use Rattle.std.specs.Str.{bytes_eq}
 use Rattle.html5commands.specs.Commands.{InFormat, PrintsBy, format_asked, format_named, format_of, no_file, options_of}
 use Rattle.html5commands.specs.declared.command.Command.{Command}
 use Rattle.html5commands.specs.declared.command.Command.TheVariants.{Links, Tokens}
-use Rattle.html5commands.specs.declared.format.Format.{Format}
 use Rattle.html5commands.specs.declared.format.Format.TheVariants.{Json, Lines, Sarif}
 use Rattle.html5extract.specs.Asked.{link_settings_said, token_settings_said}
 use Rattle.html5extract.specs.Makings.{links_made, tokens_made}

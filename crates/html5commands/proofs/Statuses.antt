@@ -1,7 +1,8 @@
 -- What the status of a run says.
 use Rattle.std.proofs.Common.{◌≡◌, ℕ, Bool, true, false, refl, List, [], ◌∷◌, Option, None, Some, inl, inr, rules, sym, ap, ◌∙◌, subst}
 use Rattle.std.specs.Prelude.{◌⊎◌, Contains, IfSome}
-use Rattle.html5commands.specs.Commands.{Named, PrintsBy, asked_of_command}
+use Rattle.std.proofs.lemmas.Option.{none-some}
+use Rattle.html5commands.specs.Commands.{Named, PrintsBy, SaysFirst, SaysItself, asked_of_command, command_named, command_of, named_by}
 use Rattle.html5programs.specs.Ending.{AsksNoText, HasWrongWord, status_of}
 use Rattle.html5programs.specs.declared.ending.Ending.{Ending}
 use Rattle.html5programs.specs.declared.ending.Ending.TheVariants.{Closed, Done, Found, Missed, NoMemory, NoSettings, NoTable, Unprinted, WrongValue, WrongWord}
@@ -49,3 +50,15 @@ pub done-says : (named : Option Named) (ending : Ending) (asks says : Named → 
     → IfSome named (λ named. asks named → ending ≡ Done → says named) → IfSome named (λ named. asks named → says named)
 done-says None ending asks says done said = tt
 done-says (Some named) ending asks says done said = λ asked. said asked done
+
+-- the name of a command asks for no text of the program
+no-help : (written : List ℕ) (word : List ℕ) (words : List (List ℕ)) (named : Named) → named_by words (command_of word) ≡ Some named → SaysItself word written
+unfolding command_of
+no-help written word words named some = record {
+  help = λ is. absurd (none-some named (subst (λ w. named_by words (command_of w) ≡ Some named) is some));
+  version = λ is. absurd (none-some named (subst (λ w. named_by words (command_of w) ≡ Some named) is some));
+}
+
+pub no-first : (words : List (List ℕ)) (written : List ℕ) (named : Named) → command_named words ≡ Some named → SaysFirst words written
+no-first [] written named some = tt
+no-first (word ∷ words) written named some = no-help written word words named some

@@ -8,7 +8,8 @@ use std::process::Abort;
 
 const PAGE: &str = "<noscript><p title='a</noscript>b'>&lt;c<script></noscript></script>";
 
-const WRITTEN: &str = "<noscript><p title='a</noscript>b'&#62;&#38;lt;c<script></noscript></script>";
+const WRITTEN: &str =
+    "<noscript><p title='a</noscript>b'&#62;&#38;lt;c<script></noscript></script>";
 
 // What a page tells a sink that reads with scripting, by a table without names.
 fn read_scripted(rt: &impl Abort, alloc: Global, page: &str) -> Collector<Global> {

@@ -1,5 +1,5 @@
 -- where no log of SARIF is a format, none is printed
-use Rattle.std.proofs.Common.{◌≡◌, List, false, map, string_bytes, subst, sym, ◌∙◌}
+use Rattle.std.proofs.Common.{map, string_bytes}
 use Rattle.html5commands.proofs.NoLogs.{prints-links, prints-tokens}
 use Rattle.html5commands.proofs.running.by_command.Goals as goal
 
