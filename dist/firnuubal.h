@@ -11,10 +11,10 @@
 #define FIRNUUBAL_H
 
 /* The version of the library, of this header and of the readers. */
-#define FIRNUUBAL_VERSION "0.19.0"
+#define FIRNUUBAL_VERSION "0.20.0"
 
 /* The same as a number, its three numbers a byte each. `html5_version` says it of the library that is linked. */
-#define FIRNUUBAL_VERSION_NUMBER 0x001300
+#define FIRNUUBAL_VERSION_NUMBER 0x001400
 
 #include <stdbool.h>
 #include <stddef.h>
@@ -232,7 +232,8 @@ html5_status html5_set_limit(html5_handle *handle, uint64_t limit);
  * else it answers HTML5_BEGUN. The label, one of the Encoding Standard, names the encoding that is said of the page, as by a
  * header of the transport; where no encoding has it the answer is HTML5_BAD_OPTION. After any status but HTML5_DONE nothing
  * changes. One of no bytes says nothing. The encoding is determined as by a browser: by a byte order mark; else by what is said;
- * else by a `<meta charset=..>` in the first bytes; else it is UTF-8 where these are UTF-8, and windows-1252.
+ * else by a `<meta charset=..>` or an XML declaration in the first bytes; else it is UTF-8 if these are UTF-8, and else
+ * windows-1252. So a page whose first 65,536 bytes are plain ASCII is read as UTF-8.
  *
  * Then no bytes are refused: those that are none of the encoding are read as U+FFFD. The first bytes are held
  * until they tell the encoding: fewer than 1,024, or up to 65,536 of plain ASCII that tells nothing. They count for the limit;
