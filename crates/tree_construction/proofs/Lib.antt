@@ -1,0 +1,4 @@
+pub mod Shown
+mod RowCases
+pub mod Growing
+pub mod TextLaws

@@ -1,0 +1,60 @@
+-- The laws of a sink, and the edits of a text that is cut.
+use Rattle.std.proofs.Common.{◌≡◌, ℕ, Bool, List, [], ◌∷◌, ◌++◌, drop, refl, ap, sym, ◌∙◌, subst}
+use Rattle.std.specs.Prelude.{length, map, take_while}
+use Rattle.std.specs.List.{prefix_len}
+use Rattle.std.proofs.lemmas.List.{map-append, take-append-drop}
+use Rattle.html5ever_interface.proofs.Steppings.{stepped-append}
+use Rattle.html5ever_interface.specs.Sink.{Message, stepped}
+use Rattle.html5ever_interface.specs.Token.{Told}
+use Rattle.html5ever_interface.specs.Token.Told.{Text}
+use Rattle.html5reading.specs.NormalisedText.{normalised}
+use Rattle.html5reading.specs.Reading.{Event, is_among, messages, reading}
+use Rattle.html5reading.specs.Start.{Rules, Start}
+use Rattle.html5reading.proofs.Splitting.{told-within}
+use Rattle.tree_construction.specs.Construction.{is_foreign, run, start, told}
+use Rattle.tree_construction.specs.Laws.{Extends}
+use Rattle.tree_construction.specs.Parser.{Options, Parser}
+use Rattle.tree_construction.specs.Tokens.{Token}
+use Rattle.tree_construction.specs.Tokens.Token.{Character}
+use Rattle.tree_construction.specs.Text.{messages_so_far, parser_of_text, parser_so_far, replied_by, taken_by, text_start}
+use Rattle.tree_construction.proofs.Growing.{grows-same, grows-then, grows-told}
+
+-- ---- a sink
+
+run-append : (a b : List Token) (p : Parser) → run b (run a p) ≡ run (a ++ b) p
+unfolding run
+run-append [] b p = refl
+run-append (t ∷ a) b p = run-append a b _
+
+pub texts-join : (p : Parser) (a b : List ℕ) (line : ℕ) → taken_by (taken_by p (Text a) line) (Text b) line ≡ taken_by p (Text (a ++ b)) line
+texts-join p a b line =
+    run-append (map (λ c. Character c) a) (map (λ c. Character c) b) p ∙ ap (λ ts. run ts p) (sym (map-append (λ c. Character c) a b))
+
+pub empty-text : (p : Parser) (line : ℕ) → taken_by p (Text []) line ≡ p
+unfolding run
+empty-text p line = refl
+
+-- ---- a text that is cut
+
+grows-stepped : (ms : List Message) (p : Parser) → Extends p.page.edits (stepped taken_by p ms).page.edits
+unfolding stepped
+grows-stepped [] p = grows-same p.page.edits
+grows-stepped (m ∷ ms) p = grows-then (grows-told m.token p) (grows-stepped ms (taken_by p m.token m.line))
+
+-- what the characters of a text decide are the first messages of that text and more
+pub grows-so-far : (options : Options) (rules : Rules) (text more : List ℕ)
+    → Extends (parser_so_far options rules text).page.edits (parser_of_text options rules (text ++ more)).page.edits
+grows-so-far options rules text more =
+    let s : Parser = start options in
+    let K : Start = text_start options in
+    let E : List Event = reading taken_by replied_by is_foreign rules K s (text ++ more) in
+    let test : Event → Bool = λ e. is_among (length (normalised K.input text)) e.decided_by in
+    let left : List Event = drop (prefix_len test E) E in
+    let first : List Message = messages_so_far options rules text in
+    let whole : first ++ messages left ≡ messages E =
+    ap (λ l. messages l ++ messages left) (told-within taken_by replied_by is_foreign rules K s text more)
+    ∙ sym (map-append (λ (e : Event). e.message) (take_while test E) left)
+    ∙ ap (λ l. messages l) (take-append-drop (prefix_len test E) E) in
+    let after : stepped taken_by (parser_so_far options rules text) (messages left) ≡ parser_of_text options rules (text ++ more) =
+    sym (stepped-append taken_by s first (messages left)) ∙ ap (λ ms. stepped taken_by s ms) whole in
+    subst (λ q. Extends (parser_so_far options rules text).page.edits q.page.edits) after (grows-stepped (messages left) (parser_so_far options rules text))

@@ -1,0 +1,8 @@
+//! "Tree construction" of the HTML standard, whole: what a browser builds of the tokens of a page. The
+//! definitions are in specs/.
+#![tactic(auto)]
+
+pub mod kinds;
+pub mod laws;
+pub mod mistakes;
+pub mod modes;
