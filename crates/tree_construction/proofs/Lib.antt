@@ -1,4 +1,5 @@
 pub mod Shown
 mod RowCases
 pub mod Growing
+pub mod GrowingSteps
 pub mod TextLaws

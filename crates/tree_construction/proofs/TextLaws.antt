@@ -13,11 +13,13 @@ use Rattle.html5reading.specs.Start.{Rules, Start}
 use Rattle.html5reading.proofs.Splitting.{told-within}
 use Rattle.tree_construction.specs.Construction.{is_foreign, run, start, told}
 use Rattle.tree_construction.specs.Laws.{Extends}
+use Rattle.tree_construction.specs.Page.{Edit}
 use Rattle.tree_construction.specs.Parser.{Options, Parser}
 use Rattle.tree_construction.specs.Tokens.{Token}
 use Rattle.tree_construction.specs.Tokens.Token.{Character}
 use Rattle.tree_construction.specs.Text.{messages_so_far, parser_of_text, parser_so_far, replied_by, taken_by, text_start}
-use Rattle.tree_construction.proofs.Growing.{grows-same, grows-then, grows-told}
+use Rattle.tree_construction.proofs.Growing.{extends-itself}
+use Rattle.tree_construction.proofs.GrowingSteps.{grows-told}
 
 -- ---- a sink
 
@@ -36,10 +38,10 @@ empty-text p line = refl
 
 -- ---- a text that is cut
 
-grows-stepped : (ms : List Message) (p : Parser) → Extends p.page.edits (stepped taken_by p ms).page.edits
+grows-stepped : (first : List Edit) (ms : List Message) (p : Parser) → Extends first p.page.edits → Extends first (stepped taken_by p ms).page.edits
 unfolding stepped
-grows-stepped [] p = grows-same p.page.edits
-grows-stepped (m ∷ ms) p = grows-then (grows-told m.token p) (grows-stepped ms (taken_by p m.token m.line))
+grows-stepped first [] p h = h
+grows-stepped first (m ∷ ms) p h = grows-stepped first ms (taken_by p m.token m.line) (grows-told first m.token p h)
 
 -- what the characters of a text decide are the first messages of that text and more
 pub grows-so-far : (options : Options) (rules : Rules) (text more : List ℕ)
@@ -51,10 +53,12 @@ grows-so-far options rules text more =
     let test : Event → Bool = λ e. is_among (length (normalised K.input text)) e.decided_by in
     let left : List Event = drop (prefix_len test E) E in
     let first : List Message = messages_so_far options rules text in
+    let so_far : Parser = parser_so_far options rules text in
     let whole : first ++ messages left ≡ messages E =
     ap (λ l. messages l ++ messages left) (told-within taken_by replied_by is_foreign rules K s text more)
     ∙ sym (map-append (λ (e : Event). e.message) (take_while test E) left)
     ∙ ap (λ l. messages l) (take-append-drop (prefix_len test E) E) in
-    let after : stepped taken_by (parser_so_far options rules text) (messages left) ≡ parser_of_text options rules (text ++ more) =
+    let after : stepped taken_by so_far (messages left) ≡ parser_of_text options rules (text ++ more) =
     sym (stepped-append taken_by s first (messages left)) ∙ ap (λ ms. stepped taken_by s ms) whole in
-    subst (λ q. Extends (parser_so_far options rules text).page.edits q.page.edits) after (grows-stepped (messages left) (parser_so_far options rules text))
+    subst (λ q. Extends so_far.page.edits q.page.edits) after
+    (grows-stepped so_far.page.edits (messages left) so_far (extends-itself so_far.page.edits))

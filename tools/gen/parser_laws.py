@@ -1,0 +1,386 @@
+#!/usr/bin/env python3
+"""Lemmas that follow the definitions of tree construction, clause by clause.
+
+    python3 tools/gen/parser_laws.py
+    python3 tools/gen/parser_laws.py --check
+
+A law of tree construction says that each step keeps a property of the parser. Nearly all definitions only compose others,
+so the proof of a clause is the clause again, with a lemma in place of each definition. This script writes these proofs, for
+each definition of crates/tree_construction/specs whose result is a parser or a page. Those that change what the property
+speaks of are proved by hand: a law has a file of them, `proofs/LAW.antt`, and from it comes `proofs/LAWSteps.antt`. With
+`--check` nothing is written, and the status is 1 if a file isn't what would be written.
+"""
+
+import pathlib
+import re
+import sys
+from collections import namedtuple
+
+TOP = pathlib.Path(__file__).resolve().parent.parent.parent
+CRATE = TOP / "crates" / "tree_construction"
+MODULES = ["Page", "Parser", "Formatting", "Adoption", "Resetting", "BeforeBody", "InBody", "Tables", "AfterBody",
+           "ForeignContent", "Construction"]
+WIDTH = 150
+
+# A law: the name of its file, what its lemmas begin with, its property of a page and of a parser, the fields of a parser that it
+# speaks of, and what it has as a parameter.
+Law = namedtuple("Law", "file prefix page parser fields parameter says")
+LAWS = [
+    Law("Growing", "grows", "Extends first {}.edits", "Extends first {}.page.edits", {"page"}, "(first : List Edit)",
+        "Each step of tree construction only adds edits."),
+]
+
+Definition = namedtuple("Definition", "module name opens parameters result clauses")
+If = namedtuple("If", "test then other")
+Let = namedtuple("Let", "name type value body")
+Lambda = namedtuple("Lambda", "names body")
+Update = namedtuple("Update", "base fields")
+Apply = namedtuple("Apply", "atoms")
+
+TOKEN = re.compile(r'"(?:[^"\\]|\\.)*"|[A-Za-zℕ_][\w\-]*(?:\.[A-Za-z_]\w*)*|\d+|==|\+\+|&&|\|\||\[\]|[(){};,.:=λ→∷+]|\s+')
+# What is kept, and functions of it that a definition takes, by their types.
+SUBJECTS = ("Parser", "Page")
+FUNCTIONS = {"Again": ("Parser", "Token"), "InHtml": ("Token", "Parser"), "(Parser → Parser)": ("Parser",), "(Page → Page)": ("Page",)}
+
+
+class Unprovable(Exception):
+    """A clause that no composition of lemmas proves."""
+
+
+# ---- terms
+
+
+def tokens_of(text):
+    found = TOKEN.findall(text)
+    if "".join(found) != text:
+        raise ValueError(f"no tokens: {text!r}")
+    return [it for it in found if not it.isspace()]
+
+
+def end_of_group(tokens, at):
+    """The place after the bracket that closes the one at a place."""
+    depth = 0
+    for place in range(at, len(tokens)):
+        depth += (tokens[place] in "({") - (tokens[place] in ")}")
+        if depth == 0:
+            return place + 1
+    raise ValueError("a bracket is not closed")
+
+
+def place_of(tokens, word, at=0):
+    """The place of a word outside brackets and of what belongs to another `if`."""
+    while tokens[at] != word:
+        if tokens[at] in ("(", "{"):
+            at = end_of_group(tokens, at)
+        elif tokens[at] == "if":
+            at = place_of(tokens, "else", place_of(tokens, "then", at + 1)) + 1
+        else:
+            at += 1
+    return at
+
+
+def atoms_of(tokens):
+    """An application's function and arguments, or None if there is an operator."""
+    atoms, at = [], 0
+    while at < len(tokens):
+        if tokens[at] == "(":
+            end = end_of_group(tokens, at)
+        elif re.match(r'[\w"\[]', tokens[at]):
+            end = at + 1
+        else:
+            return None
+        atoms.append(tokens[at:end])
+        at = end
+    return atoms
+
+
+def fields_of(tokens):
+    """The names of the fields that are given between braces."""
+    names, at = [tokens[0]], 0
+    while at < len(tokens):
+        if tokens[at] == ";" and at + 1 < len(tokens):
+            names.append(tokens[at + 1])
+        at = end_of_group(tokens, at) if tokens[at] in ("(", "{") else at + 1
+    return names
+
+
+def term_of(tokens):
+    """A term by its outermost form, or None."""
+    if tokens[0] == "if":
+        then = place_of(tokens, "then", 1)
+        other = place_of(tokens, "else", then + 1)
+        return If(tokens[1:then], tokens[then + 1 : other], tokens[other + 1 :])
+    if tokens[0] == "let":
+        equals, end = place_of(tokens, "="), place_of(tokens, "in")
+        return Let(tokens[1], tokens[3:equals], tokens[equals + 1 : end], tokens[end + 1 :])
+    if tokens[0] == "λ":
+        dot = tokens.index(".")
+        return Lambda(tokens[1:dot], tokens[dot + 1 :])
+    if tokens[0] == "record":
+        brace = place_of(tokens, "{")
+        if end_of_group(tokens, brace) == len(tokens) and brace > 1:
+            return Update(tokens[1:brace], fields_of(tokens[brace + 1 : -1]))
+        return None
+    atoms = atoms_of(tokens)
+    if atoms and len(atoms) == 1 and atoms[0][0] == "(":
+        return term_of(atoms[0][1:-1])
+    return Apply(atoms) if atoms else None
+
+
+def shown(tokens):
+    text = " ".join(tokens)
+    text = re.sub(r"\( ", "(", text)
+    return re.sub(r" ([),;.])", r"\1", text)
+
+
+def argument(text):
+    """A text as an argument: in brackets unless it is one word."""
+    return text if re.fullmatch(r"[\w\-.\[\]]+|\([^()]*\)", text) else f"({text})"
+
+
+# ---- definitions
+
+
+def parts_of_type(text):
+    """The types of a definition's parameters, and of its result."""
+    parts, part = [], []
+    for at, token in enumerate(tokens := tokens_of(text)):
+        if token == "→" and tokens[:at].count("(") == tokens[:at].count(")"):
+            parts.append(part)
+            part = []
+        else:
+            part.append(token)
+    types = []
+    for it in parts:
+        count = it.index(":") - 1 if ":" in it else 1
+        types += [shown(it[it.index(":") + 1 : -1] if ":" in it else it)] * count
+    return types, shown(part)
+
+
+def clause_of(text):
+    """A clause's patterns and its term."""
+    tokens = tokens_of(text)
+    equals = place_of(tokens, "=")
+    return atoms_of(tokens[:equals]), tokens[equals + 1 :]
+
+
+def definitions_in(module):
+    """The definitions of a module, in their order."""
+    text = re.sub(r"(?m)^\s*--.*\n", "", (CRATE / "specs" / f"{module}.antt").read_text(encoding="utf-8"))
+    lines = re.sub(r"\n *(?=\}|(?<= )\S)", " ", text).split("\n")
+    found = []
+    for line in lines:
+        head = re.match(r"(abbrev|unfoldable) pub (\w+) : (.*)", line)
+        if head:
+            found.append(Definition(module, head[2], head[1] == "unfoldable", *parts_of_type(head[3]), []))
+        elif found and line.startswith(found[-1].name + " ") and found[-1].result in SUBJECTS:
+            found[-1].clauses.append(clause_of(line[len(found[-1].name) :]))
+    return [it for it in found if it.result in SUBJECTS and it.result in it.parameters]
+
+
+def subject_of(definition):
+    """The place of the parameter that a definition changes: the last of the type of its result."""
+    return len(definition.parameters) - 1 - definition.parameters[::-1].index(definition.result)
+
+
+# ---- proofs
+
+
+class Prover:
+    """Writes the lemmas of a law."""
+
+    def __init__(self, law, definitions, by_hand):
+        self.law = law
+        self.by_hand = by_hand
+        self.definitions = {it.name: it for it in definitions}
+
+    def lemma_of(self, name):
+        """The lemma of a name. One by hand stands in another file, so it takes the law's parameter."""
+        lemma = f"{self.law.prefix}-{name}"
+        return " ".join([lemma, *re.findall(r"\((\w+) :", self.law.parameter)]) if lemma in self.by_hand else lemma
+
+    def property(self, kind, text):
+        return (self.law.page if kind == "Page" else self.law.parser).format(text)
+
+    def proof(self, tokens, known, kind):
+        """A proof that a term has the property, by proofs for the variables in it."""
+        term = term_of(tokens)
+        if isinstance(term, If):
+            branches = " ".join(argument(shown(it)) for it in (term.then, term.other))
+            proofs = " ".join(argument(self.proof(it, known, kind)) for it in (term.then, term.other))
+            return f"{self.lemma_of('if-' + kind.lower())} ({shown(term.test)}) {branches} {proofs}"
+        if isinstance(term, Let):
+            return self.proof_of_let(term, known, kind)
+        if isinstance(term, Update) and not set(term.fields) & (self.law.fields if kind == "Parser" else {"edits", "next", "opened"}):
+            return self.proof(term.base, known, kind)
+        if isinstance(term, Update) and kind == "Page" and "edits" not in term.fields and self.law.fields == {"page"}:
+            return self.proof(term.base, known, kind)
+        if isinstance(term, Apply):
+            return self.proof_of_call(term.atoms[0][0], term.atoms[1:], known)
+        raise Unprovable(shown(tokens))
+
+    def proof_of_let(self, term, known, kind):
+        bound = f"let {term.name} : {shown(term.type)} = {shown(term.value)} in "
+        if term.type[0] in SUBJECTS:
+            own = term.type[0]
+            bound += f"let h-{term.name} : {self.property(own, term.name)} = {self.proof(term.value, known, own)} in "
+            known = {**known, term.name: f"h-{term.name}"}
+        return bound + self.proof(term.body, known, kind)
+
+    def proof_of_call(self, name, arguments, known):
+        if not arguments and name in known:
+            return known[name]
+        if isinstance(known.get(name), tuple):
+            at = next(at for at, it in enumerate(known[name]) if it in SUBJECTS)
+            inner = self.proof(arguments[at], known, known[name][at])
+            return f"h-{name} {' '.join(argument(shown(it)) for it in arguments)} {argument(inner)}"
+        definition = self.definitions.get(name)
+        if definition is None or len(arguments) != len(definition.parameters):
+            raise Unprovable(f"{name} {len(arguments)}")
+        at = subject_of(definition)
+        inner = self.proof(arguments[at], known, definition.parameters[at])
+        return f"{self.lemma_with(definition, arguments, known)} {argument(inner)}"
+
+    def lemma_with(self, definition, arguments, known):
+        """The lemma of a definition, with arguments, and proofs for those that are functions."""
+        words = [self.lemma_of(definition.name)]
+        for kind, it in zip(definition.parameters, arguments):
+            words.append(argument(shown(it)))
+            if kind in FUNCTIONS:
+                words.append(argument(self.proof_of_function(it, FUNCTIONS[kind], known)))
+        return " ".join(words)
+
+    def proof_of_function(self, tokens, kinds, known):
+        """A proof that a function keeps the property."""
+        term = term_of(tokens)
+        at = next(at for at, it in enumerate(kinds) if it in SUBJECTS)
+        if isinstance(term, Lambda):
+            functions = {name: it for name, it in known.items() if isinstance(it, tuple)}
+            own = term.names[at]
+            return f"λ {' '.join(term.names)} h-{own}. {self.proof(term.body, {**functions, own: f'h-{own}'}, kinds[at])}"
+        name, arguments = term.atoms[0][0], term.atoms[1:]
+        if isinstance(known.get(name), tuple) and not arguments:
+            return f"h-{name}"
+        if name in self.definitions:
+            return self.lemma_with(self.definitions[name], arguments, known)
+        raise Unprovable(shown(tokens))
+
+    def statement(self, definition):
+        """The lemma's parameters, in the definition's own names, and what it says."""
+        names, parts = [], []
+        for at, kind in enumerate(definition.parameters):
+            names.append(name_of(definition, at, names))
+            parts.append(f"({names[-1]} : {kind})")
+            if kind in FUNCTIONS:
+                parts.append(self.hypothesis(names[-1], FUNCTIONS[kind]))
+        at = subject_of(definition)
+        before, after = names[at], f"({definition.name} {' '.join(names)})"
+        return " → ".join(parts + [self.property(definition.result, before), self.property(definition.result, after)])
+
+    def hypothesis(self, name, kinds):
+        names = ["q" if it in SUBJECTS else "t" for it in kinds]
+        binders = " ".join(f"({own} : {kind})" for own, kind in zip(names, kinds))
+        kind = next(it for it in kinds if it in SUBJECTS)
+        return f"({binders} → {self.property(kind, 'q')} → {self.property(kind, f'({name} ' + ' '.join(names) + ')')})"
+
+    def lemma(self, definition):
+        name = f"{self.law.prefix}-{definition.name}"
+        lines = [f"pub {name} : {self.statement(definition)}"]
+        if definition.opens:
+            lines.append(f"unfolding {definition.name}")
+        for patterns, term in definition.clauses:
+            known, left = {}, [name]
+            for kind, pattern in zip(definition.parameters, patterns):
+                left.append(shown(pattern))
+                if kind in FUNCTIONS:
+                    known[pattern[0]] = FUNCTIONS[kind]
+                    left.append(f"h-{pattern[0]}")
+            known[patterns[subject_of(definition)][0]] = "h"
+            lines.append(f"{' '.join(left)} h = {self.proof(term, known, definition.result)}")
+        return lines
+
+
+def name_of(definition, at, taken):
+    """A name for a parameter: one that a clause gives it."""
+    usual = {"Parser": "p", "Page": "page"}.get(definition.parameters[at])
+    given = [it for patterns, _ in definition.clauses for it in patterns[at] if re.fullmatch(r"[a-z]\w*", it)]
+    return next((it for it in [usual, *given, f"x{at}"] if it and it not in taken), f"x{at}")
+
+
+# ---- files
+
+
+def wrapped(line, indent):
+    """A line, cut where it is too long."""
+    lines, rest = [], indent + line
+    while len(rest) > WIDTH:
+        cut = max((it.start() for it in re.finditer(r" (?=[(→])", rest[:WIDTH]) if it.start() > len(indent) + 8), default=0)
+        if not cut:
+            break
+        lines.append(rest[:cut])
+        rest = f"{indent}    {rest[cut + 1 :]}"
+    return [*lines, rest]
+
+
+def names_by_module():
+    """Each name that a definition's module gives or takes from elsewhere, with where it is from."""
+    found = {}
+    for module in MODULES:
+        text = (CRATE / "specs" / f"{module}.antt").read_text(encoding="utf-8")
+        for source, names in re.findall(r"(?m)^use ([\w.]+)\.\{([^}]*)\}", text):
+            for it in names.split(", "):
+                found.setdefault(it.split(" as ")[-1], (source, it))
+        for it in re.findall(r"(?m)^(?:abbrev |unfoldable )?pub (?:record |data )?(\w+)", text):
+            found[it] = (f"Rattle.tree_construction.specs.{module}", it)
+    return found
+
+
+def imports_for(text, law, by_hand):
+    """The lines that bring in what a text names."""
+    words = set(re.findall(r"[A-Za-zℕ_][\w\-]*", text))
+    groups = {}
+    for name, (source, written) in sorted(names_by_module().items()):
+        if name in words and source != "Rattle.std.specs.Prelude":
+            groups.setdefault(source, []).append(written)
+    used = sorted(it for it in by_hand if it in words)
+    groups[f"Rattle.tree_construction.proofs.{law.file}"] = used
+    return "".join(f"use {source}.{{{', '.join(names)}}}\n" for source, names in sorted(groups.items()))
+
+
+COMMON = """\
+use Rattle.std.proofs.Common.{◌≡◌, ℕ, Bool, true, false, List, [], ◌∷◌, ◌++◌}
+use Rattle.std.specs.Prelude.{suc, zero, ◌+◌, ◌==◌, ◌&&◌, ◌||◌, not, length, map, Option, Some, None, codes, if◌then◌else◌}
+use Rattle.tree_construction.specs.Laws.{Extends}
+"""
+
+
+def written(law):
+    """The file of a law's lemmas."""
+    hand = (CRATE / "proofs" / f"{law.file}.antt").read_text(encoding="utf-8")
+    by_hand = set(re.findall(rf"(?m)^ *pub ({law.prefix}-[\w\-]+) :", hand))
+    definitions = [it for module in MODULES for it in definitions_in(module)]
+    prover = Prover(law, definitions, by_hand)
+    lines = []
+    for it in definitions:
+        if f"{law.prefix}-{it.name}" not in by_hand:
+            lines += ["", *(cut for line in prover.lemma(it) for cut in wrapped(line, "  "))]
+    body = f"\nmodule _ {law.parameter} where\n" + "\n".join(lines).lstrip("\n") + "\n"
+    head = f"-- {law.says} By `python3 tools/gen/parser_laws.py`, and not by hand; the steps that it rests on are in {law.file}.\n"
+    return head + COMMON + imports_for(body, law, by_hand) + body
+
+
+def main():
+    if sys.argv[1:] not in ([], ["--check"]):
+        sys.exit(__doc__)
+    stale = []
+    for law in LAWS:
+        file, text = CRATE / "proofs" / f"{law.file}Steps.antt", written(law)
+        if not sys.argv[1:]:
+            file.write_text(text, encoding="utf-8")
+        elif not file.exists() or file.read_text(encoding="utf-8") != text:
+            stale.append(str(file.relative_to(TOP)))
+    return f"not what the definitions make: {', '.join(stale)}" if stale else 0
+
+
+if __name__ == "__main__":
+    sys.exit(main())
