@@ -10,20 +10,20 @@ use Rattle.tree_construction.proofs.Growing.{grows-adopted, grows-comment_put, g
 use Rattle.tree_construction.specs.Adjusting.{adjusted_tag_name}
 use Rattle.tree_construction.specs.Adoption.{adopted, adopted_by, adoption_agency, any_other_end_tag, end_of, ended_by, furthest_block, is_unlisted, opened_inside, outer_loop, turn, unformatted}
 use Rattle.tree_construction.specs.AfterBody.{after_after_body, after_after_frameset, after_body, after_body_end, after_body_start, after_frameset, after_frameset_end, after_frameset_start, frameset_closed, frameset_end, frameset_start, in_body_again, in_frameset, in_template, in_template_mode, is_root, template_end, template_start}
-use Rattle.tree_construction.specs.BeforeBody.{after_head, after_head_end, after_head_other, after_head_start, asks_content, asks_encoding, back, before_head, before_head_other, before_head_start, before_html, before_html_other, before_html_start, current_number, end_template, ends_early, in_head, in_head_end, in_head_noscript, in_head_noscript_start, in_head_other, in_head_start, initial, initial_doctype, initial_other, insert_body, insert_head, is_content_type, noscript_end, noscript_other, noscript_start, or_empty, set_quirks_mode, start_after_head, start_html, start_in_head, start_meta, start_script, start_template, template_closed, text_end, text_end_of_file, text_mode, with_root, within_head, without_template_mode}
+use Rattle.tree_construction.specs.BeforeBody.{add_to_root, after_head, after_head_end, after_head_other, after_head_start, asks_content, asks_encoding, back, before_head, before_head_other, before_head_start, before_html, before_html_other, before_html_start, current_number, end_template, ends_early, in_head, in_head_end, in_head_noscript, in_head_noscript_start, in_head_other, in_head_start, initial, initial_doctype, initial_other, insert_body, insert_head, is_content_type, mark_current, noscript_end, noscript_other, noscript_start, or_empty, put_doctype, set_quirks_mode, start_after_head, start_html, start_in_head, start_meta, start_script, start_template, template_closed, text_end, text_end_of_file, text_mode, with_root, within_head, without_template_mode}
 use Rattle.tree_construction.specs.Construction.{dispatched, enough, expects_acknowledged, fragment_modes, in_current_mode, in_html_content, is_ignored_newline, is_self_closing, process, run, start_by, start_fragment, step, taken, takes_as_html, told, told_all}
 use Rattle.tree_construction.specs.Doctypes.{is_allowed, quirks_mode_of}
 use Rattle.tree_construction.specs.ForeignContent.{InHtml, any_other_foreign_end, broken_out, closed_at_once, expects_name, foreign_character, foreign_end, foreign_end_by_kind, foreign_start, has_lower_case, in_foreign_content, is_breakout, replacement, run_script, stays_foreign}
 use Rattle.tree_construction.specs.Formatting.{Listed, cleared_to_marker, insert_formatting, last_named, reconstructed, reopened, reopened_one, still_listed, to_reopen, with_marker, without_entry}
-use Rattle.tree_construction.specs.InBody.{add_to_body, any_other_start_tag, character_in_body, depth_extra, end_block, end_body, end_description, end_form, end_form_of, end_heading, end_in_body, end_list_item, end_marked, end_of_file_by, end_of_file_in_body, end_of_file_in_template, end_paragraph, expects_closed, expects_no_option, in_body, insert_foreign, insert_form, insert_input, is_hidden, is_in_select, is_option_or_group, is_quirks, is_ruby_or_container, item_met, popped_if_closed, removed_if_open, replace_body, start_anchor, start_block, start_body, start_button, start_foreign, start_form, start_form_outside, start_frameset, start_in_body, start_input, start_item, start_marked, start_no_break, start_noscript, start_option, start_option_group, start_plaintext, start_preformatted, start_ruby_base, start_ruby_text, start_rule, start_select, start_table, start_textarea, start_void, start_xmp, without_anchor, without_heading, without_item_of, without_no_break, without_option, without_select}
+use Rattle.tree_construction.specs.InBody.{add_to_body, added_to_body, any_other_start_tag, character_in_body, depth_extra, end_block, end_body, end_description, end_form, end_form_of, end_heading, end_in_body, end_list_item, end_marked, end_of_file_by, end_of_file_in_body, end_of_file_in_template, end_paragraph, expects_closed, expects_no_option, has_body, in_body, insert_foreign, insert_form, insert_input, is_hidden, is_in_select, is_option_or_group, is_quirks, is_ruby_or_container, item_met, popped_if_closed, removed_body, removed_if_open, start_anchor, start_block, start_body, start_button, start_foreign, start_form, start_form_outside, start_frameset, start_in_body, start_input, start_item, start_marked, start_no_break, start_noscript, start_option, start_option_group, start_plaintext, start_preformatted, start_ruby_base, start_ruby_text, start_rule, start_select, start_table, start_textarea, start_void, start_xmp, without_anchor, without_body, without_heading, without_item_of, without_no_break, without_option, without_select}
 use Rattle.tree_construction.specs.Names.{ends_list_scope, ends_table_scope, is_body, is_body_context, is_button, is_caption, is_cell, is_column_group, is_description, is_form, is_frameset, is_heading, is_html, is_implied, is_implied_thoroughly, is_list_item, is_no_break, is_option_group, is_paragraph, is_row_context, is_ruby, is_ruby_container, is_script, is_select, is_select_option, is_svg_script, is_table, is_table_body, is_table_row, is_template, kind_in_namespace, kind_of, may_stay_open, namespace_of, takes_table_text}
 use Rattle.tree_construction.specs.Page.{Edit, Open, Page, Place, comment_put, current_passes, edited, first_open, has_in_scope, has_kind, has_name, has_number, has_open, left, made, popped, popped_of, popped_to_first, popped_to_first_in, popped_until, popped_until_in, popped_while, popped_while_in, pushed, removed_from_stack, second_body, with_opened}
 use Rattle.tree_construction.specs.Page.Edit.{AddAttributes, AssociateForm, MarkStarted, ParseError, Put, PutDoctype, PutText, Remove, SetQuirksMode}
 use Rattle.tree_construction.specs.Page.Place.{LastChild}
-use Rattle.tree_construction.specs.Parser.{Again, Context, Parser, Request, acknowledges, adjusted_kind, all_implied_ended, asked, associated_with, cleared_back_to, ended, ended_without_implied, expects_current, has_template, implied_ended, implied_ended_but, in_button_scope, in_mode, in_scope, in_table_scope, insert, insert_character, insert_comment, insert_comment_in, insert_text, insert_void, insert_with_text, inserted, inserted_at, is_current, is_fragment, mistaken, not_frameset_ok, on_page, opened, paragraph_closed, place_in, place_of, pop, pop_until, pop_while, reads_text, stop_parsing, takes_form, unexpected, without_paragraph}
+use Rattle.tree_construction.specs.Parser.{Again, Context, Parser, Request, acknowledges, adjusted_kind, all_implied_ended, asked, associated_with, cleared_back_to, ended, ended_without_implied, expects_current, has_template, implied_ended, implied_ended_but, in_button_scope, in_mode, in_scope, in_table_scope, insert, insert_character, insert_comment, insert_comment_in_document, insert_comment_in_root, insert_text, insert_void, insert_with_text, inserted, inserted_at, is_current, is_fragment, mistaken, not_frameset_ok, on_page, opened, paragraph_closed, place_in, place_of, pop, pop_until, pop_while, reads_text, stop_parsing, takes_form, unexpected, without_paragraph}
 use Rattle.tree_construction.specs.Parser.Request.{GoOn, ReadPlain, ReadRaw, Run, UseCharset, UseContent}
 use Rattle.tree_construction.specs.Resetting.{mode_of, mode_reset}
-use Rattle.tree_construction.specs.Tables.{caption_end, cell_closed, cell_end, collects_text, column_group_end, column_group_other, column_group_start, end_around_cell, end_cell, flushed, flushed_as_space, flushed_fostered, form_in_table, fostered, in_caption, in_cell, in_column_group, in_row, in_table, in_table_body, in_table_text, is_all_space, is_ignored_in_table, is_part, row_end, row_end_of_body, row_start, start_form_in_table, table_body_end, table_body_start, table_character, table_end, table_other, table_start, table_text_other, to_body, to_row, to_table, without_any_body, without_body, without_caption, without_column_group, without_row, without_table}
+use Rattle.tree_construction.specs.Tables.{caption_end, cell_closed, cell_end, collects_text, column_group_end, column_group_other, column_group_start, end_around_cell, end_cell, flushed, flushed_as_space, flushed_fostered, form_in_table, fostered, in_caption, in_cell, in_column_group, in_row, in_table, in_table_body, in_table_text, is_all_space, is_ignored_in_table, is_part, row_end, row_end_of_body, row_start, start_form_in_table, table_body_end, table_body_start, table_character, table_end, table_other, table_start, table_text_other, to_body, to_row, to_table, without_any_body, without_caption, without_column_group, without_row, without_table, without_table_body}
 use Rattle.tree_construction.specs.Tokens.{StartTagOf, Token, bare_tag, is_null, is_space, tokens_of, value_of}
 use Rattle.tree_construction.specs.Tokens.Token.{Character, Comment, Doctype, EndOfFile, EndTag, StartTag}
 use Rattle.tree_construction.specs.declared.kinds.Kind.{Kind}
@@ -178,10 +178,14 @@ module _ (first : List Edit) where
   pub grows-insert_comment : (text : List ℕ) → (p : Parser) → Extends first p.page.edits → Extends first (insert_comment text p).page.edits
   grows-insert_comment text p h = grows-on_page first ((comment_put (place_of 1 p) text)) (grows-comment_put first (place_of 1 p) text) p h
 
-  pub grows-insert_comment_in : (parent : ℕ) → (text : List ℕ) → (p : Parser) → Extends first p.page.edits → Extends first
-      (insert_comment_in parent text p).page.edits
-  grows-insert_comment_in parent text p h = grows-on_page first ((comment_put (LastChild parent) text)) (grows-comment_put first
-      (LastChild parent) text) p h
+  pub grows-insert_comment_in_document : (text : List ℕ) → (p : Parser) → Extends first p.page.edits → Extends first
+      (insert_comment_in_document text p).page.edits
+  grows-insert_comment_in_document text p h = grows-on_page first ((comment_put (LastChild 0) text)) (grows-comment_put first (LastChild 0) text) p h
+
+  pub grows-insert_comment_in_root : (text : List ℕ) → (p : Parser) → Extends first p.page.edits → Extends first
+      (insert_comment_in_root text p).page.edits
+  grows-insert_comment_in_root text p h = grows-on_page first ((comment_put (LastChild (first_open p.page.opened)) text)) (grows-comment_put first
+      ((LastChild (first_open p.page.opened))) text) p h
 
   pub grows-reads_text : (kind : RawKind) → (p : Parser) → Extends first p.page.edits → Extends first (reads_text kind p).page.edits
   grows-reads_text kind p h = grows-asked (ReadRaw kind) p h
@@ -257,8 +261,18 @@ module _ (first : List Edit) where
   pub grows-set_quirks_mode : (mode : QuirksMode) → (p : Parser) → Extends first p.page.edits → Extends first (set_quirks_mode mode p).page.edits
   grows-set_quirks_mode mode p h = grows-on_page first ((edited (SetQuirksMode mode))) (grows-edited first (SetQuirksMode mode)) p h
 
+  pub grows-put_doctype : (doctype : DoctypeOf) → (p : Parser) → Extends first p.page.edits → Extends first (put_doctype doctype p).page.edits
+  grows-put_doctype doctype p h = grows-on_page first ((edited (PutDoctype (or_empty doctype.name) (or_empty doctype.public_id)
+      (or_empty doctype.system_id)))) (grows-edited first ((PutDoctype (or_empty doctype.name) (or_empty doctype.public_id)
+      (or_empty doctype.system_id)))) p h
+
   pub grows-initial_doctype : (doctype : DoctypeOf) → (p : Parser) → Extends first p.page.edits → Extends first (initial_doctype doctype p).page.edits
-  grows-initial_doctype doctype p h = let noted : Parser = if is_allowed doctype then p else mistaken BadDoctype p in let h-noted : Extends first noted.page.edits = grows-if-parser first (is_allowed doctype) p (mistaken BadDoctype p) h (grows-mistaken BadDoctype p h) in let put : Parser = on_page (edited (PutDoctype (or_empty doctype.name) (or_empty doctype.public_id) (or_empty doctype.system_id))) noted in let h-put : Extends first put.page.edits = grows-on_page first ((edited (PutDoctype (or_empty doctype.name) (or_empty doctype.public_id) (or_empty doctype.system_id)))) (grows-edited first ((PutDoctype (or_empty doctype.name) (or_empty doctype.public_id) (or_empty doctype.system_id)))) noted h-noted in grows-in_mode BeforeHtml ((if p.options.iframe_srcdoc then put else set_quirks_mode (quirks_mode_of doctype) put)) (grows-if-parser first (p.options.iframe_srcdoc) put (set_quirks_mode (quirks_mode_of doctype) put) h-put (grows-set_quirks_mode (quirks_mode_of doctype) put h-put))
+  grows-initial_doctype doctype p h = let put : Parser = put_doctype doctype
+      (if is_allowed doctype then p else mistaken BadDoctype p) in let h-put : Extends first put.page.edits = grows-put_doctype doctype
+      (if is_allowed doctype then p else mistaken BadDoctype p) (grows-if-parser first (is_allowed doctype) p (mistaken BadDoctype p) h
+      (grows-mistaken BadDoctype p h)) in grows-in_mode BeforeHtml ((if p.options.iframe_srcdoc then put else set_quirks_mode
+      (quirks_mode_of doctype) put)) (grows-if-parser first (p.options.iframe_srcdoc) put (set_quirks_mode (quirks_mode_of doctype) put) h-put
+      (grows-set_quirks_mode (quirks_mode_of doctype) put h-put))
 
   pub grows-initial_other : (again : Again) → ((q : Parser) (t : Token) → Extends first q.page.edits → Extends first (again q t).page.edits) →
       (token : Token) → (p : Parser) → Extends first p.page.edits → Extends first (initial_other again token p).page.edits
@@ -271,7 +285,7 @@ module _ (first : List Edit) where
       → (p : Parser) → Extends first p.page.edits → Extends first (initial again c p).page.edits
   grows-initial again h-again (Character c) p h = grows-if-parser first (is_space c) p (initial_other again (Character c) p) h
       (grows-initial_other again h-again (Character c) p h)
-  grows-initial again h-again (Comment text) p h = grows-insert_comment_in 0 text p h
+  grows-initial again h-again (Comment text) p h = grows-insert_comment_in_document text p h
   grows-initial again h-again (Doctype doctype) p h = grows-initial_doctype doctype p h
   grows-initial again h-again token p h = grows-initial_other again h-again token p h
 
@@ -295,7 +309,7 @@ module _ (first : List Edit) where
   pub grows-before_html : (again : Again) → ((q : Parser) (t : Token) → Extends first q.page.edits → Extends first (again q t).page.edits) →
       (doctype : Token) → (p : Parser) → Extends first p.page.edits → Extends first (before_html again doctype p).page.edits
   grows-before_html again h-again (Doctype doctype) p h = grows-unexpected p h
-  grows-before_html again h-again (Comment text) p h = grows-insert_comment_in 0 text p h
+  grows-before_html again h-again (Comment text) p h = grows-insert_comment_in_document text p h
   grows-before_html again h-again (Character c) p h = grows-if-parser first (is_space c) p (before_html_other again (Character c) p) h
       (grows-before_html_other again h-again (Character c) p h)
   grows-before_html again h-again (StartTag tag) p h = grows-before_html_start again h-again (kind_of tag.name) tag p h
@@ -303,11 +317,13 @@ module _ (first : List Edit) where
       (unexpected p) (grows-before_html_other again h-again (EndTag name) p h) (grows-unexpected p h)
   grows-before_html again h-again EndOfFile p h = grows-before_html_other again h-again EndOfFile p h
 
+  pub grows-add_to_root : (tag : StartTagOf) → (p : Parser) → Extends first p.page.edits → Extends first (add_to_root tag p).page.edits
+  grows-add_to_root tag p h = grows-on_page first ((edited (AddAttributes (first_open p.page.opened) tag.attributes))) (grows-edited first
+      ((AddAttributes (first_open p.page.opened) tag.attributes))) p h
+
   pub grows-start_html : (tag : StartTagOf) → (p : Parser) → Extends first p.page.edits → Extends first (start_html tag p).page.edits
-  grows-start_html tag p h = grows-if-parser first (has_template p) (unexpected p) (on_page (edited (AddAttributes
-      (first_open p.page.opened) tag.attributes)) (unexpected p)) (grows-unexpected p h) (grows-on_page first ((edited (AddAttributes
-      (first_open p.page.opened) tag.attributes))) (grows-edited first ((AddAttributes (first_open p.page.opened) tag.attributes))) (unexpected p)
-      (grows-unexpected p h))
+  grows-start_html tag p h = grows-if-parser first (has_template p) (unexpected p) (add_to_root tag (unexpected p)) (grows-unexpected p h)
+      (grows-add_to_root tag (unexpected p) (grows-unexpected p h))
 
   pub grows-insert_head : (tag : StartTagOf) → (p : Parser) → Extends first p.page.edits → Extends first (insert_head tag p).page.edits
   grows-insert_head tag p h = grows-in_mode InHead ((record (insert tag p) { head = Some p.page.next })) (grows-insert tag p h)
@@ -349,8 +365,12 @@ module _ (first : List Edit) where
   grows-start_meta tag p h = grows-asks_encoding tag.attributes ((value_of (codes "charset") tag.attributes)) (insert_void tag p)
       (grows-insert_void tag p h)
 
+  pub grows-mark_current : (p : Parser) → Extends first p.page.edits → Extends first (mark_current p).page.edits
+  grows-mark_current p h = grows-on_page first ((edited (MarkStarted (current_number p.page.opened)))) (grows-edited first ((MarkStarted
+      (current_number p.page.opened)))) p h
+
   pub grows-start_script : (tag : StartTagOf) → (p : Parser) → Extends first p.page.edits → Extends first (start_script tag p).page.edits
-  grows-start_script tag p h = let later : Parser = insert tag p in let h-later : Extends first later.page.edits = grows-insert tag p h in grows-reads_text ScriptData ((if is_fragment p then on_page (edited (MarkStarted p.page.next)) later else later)) (grows-if-parser first (is_fragment p) (on_page (edited (MarkStarted p.page.next)) later) later (grows-on_page first ((edited (MarkStarted p.page.next))) (grows-edited first (MarkStarted p.page.next)) later h-later) h-later)
+  grows-start_script tag p h = let later : Parser = insert tag p in let h-later : Extends first later.page.edits = grows-insert tag p h in grows-reads_text ScriptData (if is_fragment p then mark_current later else later) (grows-if-parser first (is_fragment p) (mark_current later) later (grows-mark_current later h-later) h-later)
 
   pub grows-start_template : (tag : StartTagOf) → (p : Parser) → Extends first p.page.edits → Extends first (start_template tag p).page.edits
   grows-start_template tag p h = grows-insert tag ((record
@@ -515,7 +535,7 @@ module _ (first : List Edit) where
 
   pub grows-text_end_of_file : (again : Again) → ((q : Parser) (t : Token) → Extends first q.page.edits → Extends first (again q t).page.edits) →
       (p : Parser) → Extends first p.page.edits → Extends first (text_end_of_file again p).page.edits
-  grows-text_end_of_file again h-again p h = let noted : Parser = mistaken UnclosedAtEnd p in let h-noted : Extends first noted.page.edits = grows-mistaken UnclosedAtEnd p h in h-again ((back (if is_current is_script p then on_page (edited (MarkStarted (current_number p.page.opened))) noted else noted))) EndOfFile (grows-back ((if is_current is_script p then on_page (edited (MarkStarted (current_number p.page.opened))) noted else noted)) (grows-if-parser first (is_current is_script p) (on_page (edited (MarkStarted (current_number p.page.opened))) noted) noted (grows-on_page first ((edited (MarkStarted (current_number p.page.opened)))) (grows-edited first ((MarkStarted (current_number p.page.opened)))) noted h-noted) h-noted))
+  grows-text_end_of_file again h-again p h = let noted : Parser = mistaken UnclosedAtEnd p in let h-noted : Extends first noted.page.edits = grows-mistaken UnclosedAtEnd p h in h-again ((back (if is_current is_script p then mark_current noted else noted))) EndOfFile (grows-back (if is_current is_script p then mark_current noted else noted) (grows-if-parser first (is_current is_script p) (mark_current noted) noted (grows-mark_current noted h-noted) h-noted))
 
   pub grows-text_mode : (again : Again) → ((q : Parser) (t : Token) → Extends first q.page.edits → Extends first (again q t).page.edits) →
       (c : Token) → (p : Parser) → Extends first p.page.edits → Extends first (text_mode again c p).page.edits
@@ -531,26 +551,33 @@ module _ (first : List Edit) where
       (grows-reconstructed p h)) (grows-not_frameset_ok ((insert_character c (reconstructed p))) (grows-insert_character c (reconstructed p)
       (grows-reconstructed p h))))
 
-  pub grows-add_to_body : (n : Option ℕ) → (tag : StartTagOf) → (p : Parser) → Extends first p.page.edits → Extends first
-      (add_to_body n tag p).page.edits
-  grows-add_to_body None tag p h = h
-  grows-add_to_body (Some n) tag p h = grows-if-parser first (has_template p) p (on_page (edited (AddAttributes n tag.attributes))
-      (not_frameset_ok p)) h (grows-on_page first ((edited (AddAttributes n tag.attributes))) (grows-edited first (AddAttributes n tag.attributes))
-      (not_frameset_ok p) (grows-not_frameset_ok p h))
+  pub grows-added_to_body : (n : Option ℕ) → (tag : StartTagOf) → (page : Page) → Extends first page.edits → Extends first
+      (added_to_body n tag page).edits
+  grows-added_to_body None tag page h = h
+  grows-added_to_body (Some n) tag page h = grows-edited first (AddAttributes n tag.attributes) page h
+
+  pub grows-add_to_body : (tag : StartTagOf) → (p : Parser) → Extends first p.page.edits → Extends first (add_to_body tag p).page.edits
+  grows-add_to_body tag p h = grows-on_page first ((λ page. added_to_body (second_body page.opened) tag page)) (λ page h-page. grows-added_to_body
+      (second_body page.opened) tag page h-page) p h
 
   pub grows-start_body : (tag : StartTagOf) → (p : Parser) → Extends first p.page.edits → Extends first (start_body tag p).page.edits
-  grows-start_body tag p h = grows-add_to_body (second_body p.page.opened) tag (unexpected p) (grows-unexpected p h)
+  grows-start_body tag p h = grows-if-parser first (has_body p && not (has_template p)) (add_to_body tag (not_frameset_ok (unexpected p)))
+      (unexpected p) (grows-add_to_body tag ((not_frameset_ok (unexpected p))) (grows-not_frameset_ok (unexpected p) (grows-unexpected p h)))
+      (grows-unexpected p h)
 
-  pub grows-replace_body : (n : Option ℕ) → (tag : StartTagOf) → (p : Parser) → Extends first p.page.edits → Extends first
-      (replace_body n tag p).page.edits
-  grows-replace_body None tag p h = h
-  grows-replace_body (Some n) tag p h = grows-if-parser first (p.frameset_ok) (in_mode InFrameset (insert tag (on_page (λ page. popped_to_first
-      (edited (Remove n) page)) p))) p (grows-in_mode InFrameset ((insert tag (on_page (λ page. popped_to_first (edited (Remove n) page)) p)))
-      (grows-insert tag ((on_page (λ page. popped_to_first (edited (Remove n) page)) p)) (grows-on_page first ((λ page. popped_to_first (edited
-      (Remove n) page))) (λ page h-page. grows-popped_to_first ((edited (Remove n) page)) (grows-edited first (Remove n) page h-page)) p h))) h
+  pub grows-removed_body : (n : Option ℕ) → (page : Page) → Extends first page.edits → Extends first (removed_body n page).edits
+  grows-removed_body None page h = h
+  grows-removed_body (Some n) page h = grows-edited first (Remove n) page h
+
+  pub grows-without_body : (p : Parser) → Extends first p.page.edits → Extends first (without_body p).page.edits
+  grows-without_body p h = grows-on_page first ((λ page. popped_to_first (removed_body (second_body page.opened) page)))
+      (λ page h-page. grows-popped_to_first ((removed_body (second_body page.opened) page)) (grows-removed_body
+      (second_body page.opened) page h-page)) p h
 
   pub grows-start_frameset : (tag : StartTagOf) → (p : Parser) → Extends first p.page.edits → Extends first (start_frameset tag p).page.edits
-  grows-start_frameset tag p h = grows-replace_body (second_body p.page.opened) tag (unexpected p) (grows-unexpected p h)
+  grows-start_frameset tag p h = grows-if-parser first (has_body p && p.frameset_ok) (in_mode InFrameset (insert tag (without_body (unexpected p))))
+      (unexpected p) (grows-in_mode InFrameset ((insert tag (without_body (unexpected p)))) (grows-insert tag ((without_body (unexpected p)))
+      (grows-without_body (unexpected p) (grows-unexpected p h)))) (grows-unexpected p h)
 
   pub grows-expects_closed : (p : Parser) → Extends first p.page.edits → Extends first (expects_closed p).page.edits
   grows-expects_closed p h = grows-if-parser first (has_open (λ e. not (may_stay_open e.kind)) p.page.opened) (mistaken UnclosedElements p) p
@@ -1047,15 +1074,15 @@ module _ (first : List Edit) where
   pub grows-to_body : (p : Parser) → Extends first p.page.edits → Extends first (to_body p).page.edits
   grows-to_body p h = grows-cleared_back_to is_body_context p h
 
-  pub grows-without_body : (scoped : Bool) → (after : (Parser → Parser)) → ((q : Parser) → Extends first q.page.edits → Extends first
-      (after q).page.edits) → (p : Parser) → Extends first p.page.edits → Extends first (without_body scoped after p).page.edits
-  grows-without_body scoped after h-after p h = grows-if-parser first (scoped) (after (in_mode InTable (pop (to_body p)))) (unexpected p) (h-after
-      ((in_mode InTable (pop (to_body p)))) (grows-in_mode InTable ((pop (to_body p))) (grows-pop (to_body p) (grows-to_body p h))))
+  pub grows-without_table_body : (scoped : Bool) → (after : (Parser → Parser)) → ((q : Parser) → Extends first q.page.edits → Extends first
+      (after q).page.edits) → (p : Parser) → Extends first p.page.edits → Extends first (without_table_body scoped after p).page.edits
+  grows-without_table_body scoped after h-after p h = grows-if-parser first (scoped) (after (in_mode InTable (pop (to_body p)))) (unexpected p)
+      (h-after ((in_mode InTable (pop (to_body p)))) (grows-in_mode InTable ((pop (to_body p))) (grows-pop (to_body p) (grows-to_body p h))))
       (grows-unexpected p h)
 
   pub grows-without_any_body : (after : (Parser → Parser)) → ((q : Parser) → Extends first q.page.edits → Extends first (after q).page.edits) →
       (p : Parser) → Extends first p.page.edits → Extends first (without_any_body after p).page.edits
-  grows-without_any_body after h-after p h = grows-without_body ((in_table_scope (has_kind is_table_body) p)) after h-after p h
+  grows-without_any_body after h-after p h = grows-without_table_body ((in_table_scope (has_kind is_table_body) p)) after h-after p h
 
   pub grows-table_body_start : (again : Again) → ((q : Parser) (t : Token) → Extends first q.page.edits → Extends first (again q t).page.edits) →
       (kind : Kind) → (tag : StartTagOf) → (p : Parser) → Extends first p.page.edits → Extends first (table_body_start again kind tag p).page.edits
@@ -1070,7 +1097,7 @@ module _ (first : List Edit) where
 
   pub grows-table_body_end : (again : Again) → ((q : Parser) (t : Token) → Extends first q.page.edits → Extends first (again q t).page.edits) →
       (kind : Kind) → (name : List ℕ) → (p : Parser) → Extends first p.page.edits → Extends first (table_body_end again kind name p).page.edits
-  grows-table_body_end again h-again TableBody name p h = grows-without_body ((in_table_scope (has_name name) p)) (λ later. later)
+  grows-table_body_end again h-again TableBody name p h = grows-without_table_body ((in_table_scope (has_name name) p)) (λ later. later)
       (λ later h-later. h-later) p h
   grows-table_body_end again h-again Table name p h = grows-without_any_body ((λ later. again later (EndTag name))) (λ later h-later. h-again later
       (EndTag name) h-later) p h
@@ -1209,7 +1236,7 @@ module _ (first : List Edit) where
       (c : Token) → (p : Parser) → Extends first p.page.edits → Extends first (after_body again c p).page.edits
   grows-after_body again h-again (Character c) p h = grows-if-parser first (is_space c) (character_in_body c p) (in_body_again again
       (Character c) p) (grows-character_in_body c p h) (grows-in_body_again again h-again (Character c) p h)
-  grows-after_body again h-again (Comment text) p h = grows-insert_comment_in (first_open p.page.opened) text p h
+  grows-after_body again h-again (Comment text) p h = grows-insert_comment_in_root text p h
   grows-after_body again h-again (Doctype doctype) p h = grows-unexpected p h
   grows-after_body again h-again (StartTag tag) p h = grows-after_body_start again h-again (kind_of tag.name) tag p h
   grows-after_body again h-again (EndTag name) p h = grows-after_body_end again h-again (kind_of name) name p h
@@ -1264,7 +1291,7 @@ module _ (first : List Edit) where
 
   pub grows-after_after_body : (again : Again) → ((q : Parser) (t : Token) → Extends first q.page.edits → Extends first (again q t).page.edits) →
       (text : Token) → (p : Parser) → Extends first p.page.edits → Extends first (after_after_body again text p).page.edits
-  grows-after_after_body again h-again (Comment text) p h = grows-insert_comment_in 0 text p h
+  grows-after_after_body again h-again (Comment text) p h = grows-insert_comment_in_document text p h
   grows-after_after_body again h-again (Doctype doctype) p h = grows-unexpected p h
   grows-after_after_body again h-again (Character c) p h = grows-if-parser first (is_space c) (character_in_body c p) (in_body_again again
       (Character c) p) (grows-character_in_body c p h) (grows-in_body_again again h-again (Character c) p h)
@@ -1273,7 +1300,7 @@ module _ (first : List Edit) where
   grows-after_after_body again h-again EndOfFile p h = grows-stop_parsing p h
 
   pub grows-after_after_frameset : (text : Token) → (p : Parser) → Extends first p.page.edits → Extends first (after_after_frameset text p).page.edits
-  grows-after_after_frameset (Comment text) p h = grows-insert_comment_in 0 text p h
+  grows-after_after_frameset (Comment text) p h = grows-insert_comment_in_document text p h
   grows-after_after_frameset (Doctype doctype) p h = grows-unexpected p h
   grows-after_after_frameset (Character c) p h = grows-if-parser first (is_space c) (character_in_body c p) (unexpected p)
       (grows-character_in_body c p h) (grows-unexpected p h)

@@ -3,3 +3,4 @@ mod RowCases
 pub mod Growing
 pub mod GrowingSteps
 pub mod TextLaws
+pub mod Numbers

@@ -8,8 +8,8 @@ use Rattle.tree_construction.specs.declared.mistakes.Mistake.TheVariants.{Unclos
 use Rattle.tree_construction.specs.Names.{is_frameset, kind_of}
 use Rattle.tree_construction.specs.Tokens.{StartTagOf, Token, is_space}
 use Rattle.tree_construction.specs.Tokens.Token.{Doctype, StartTag, EndTag, Comment, Character, EndOfFile}
-use Rattle.tree_construction.specs.Page.{Open, first_open}
-use Rattle.tree_construction.specs.Parser.{Again, Parser, in_mode, insert, insert_character, insert_comment, insert_comment_in, insert_void, is_current, is_fragment, mistaken, pop, stop_parsing, unexpected}
+use Rattle.tree_construction.specs.Page.{Open}
+use Rattle.tree_construction.specs.Parser.{Again, Parser, in_mode, insert, insert_character, insert_comment, insert_comment_in_document, insert_comment_in_root, insert_void, is_current, is_fragment, mistaken, pop, stop_parsing, unexpected}
 use Rattle.tree_construction.specs.BeforeBody.{end_template, start_html, start_in_head, without_template_mode}
 use Rattle.tree_construction.specs.InBody.{character_in_body, end_of_file_in_template, in_body}
 
@@ -64,7 +64,7 @@ after_body_end again other name p = in_body_again again (EndTag name) p
 
 abbrev pub after_body : Again → Token → Parser → Parser
 after_body again (Character c) p = if is_space c then character_in_body c p else in_body_again again (Character c) p
-after_body again (Comment text) p = insert_comment_in (first_open p.page.opened) text p
+after_body again (Comment text) p = insert_comment_in_root text p
 after_body again (Doctype doctype) p = unexpected p
 after_body again (StartTag tag) p = after_body_start again (kind_of tag.name) tag p
 after_body again (EndTag name) p = after_body_end again (kind_of name) name p
@@ -124,7 +124,7 @@ after_frameset EndOfFile p = stop_parsing p
 -- ---- "The after after body insertion mode"
 
 abbrev pub after_after_body : Again → Token → Parser → Parser
-after_after_body again (Comment text) p = insert_comment_in 0 text p
+after_after_body again (Comment text) p = insert_comment_in_document text p
 after_after_body again (Doctype doctype) p = unexpected p
 after_after_body again (Character c) p = if is_space c then character_in_body c p else in_body_again again (Character c) p
 after_after_body again (StartTag tag) p = after_body_start again (kind_of tag.name) tag p
@@ -134,7 +134,7 @@ after_after_body again EndOfFile p = stop_parsing p
 -- ---- "The after after frameset insertion mode"
 
 abbrev pub after_after_frameset : Token → Parser → Parser
-after_after_frameset (Comment text) p = insert_comment_in 0 text p
+after_after_frameset (Comment text) p = insert_comment_in_document text p
 after_after_frameset (Doctype doctype) p = unexpected p
 after_after_frameset (Character c) p = if is_space c then character_in_body c p else unexpected p
 after_after_frameset (StartTag tag) p = after_frameset_start (kind_of tag.name) tag p

@@ -17,7 +17,7 @@ use Rattle.tree_construction.specs.Tokens.Token.{Doctype, StartTag, EndTag, Comm
 use Rattle.tree_construction.specs.Page.{Edit, Open, Page, edited, first_open, has_kind, inside, made, pushed, removed_from_stack}
 use Rattle.tree_construction.specs.Page.Place.{LastChild}
 use Rattle.tree_construction.specs.Page.Edit.{AddAttributes, MarkStarted, Put, PutDoctype, SetQuirksMode}
-use Rattle.tree_construction.specs.Parser.{Again, Parser, Request, all_implied_ended, asked, expects_current, has_template, in_mode, insert, insert_character, insert_comment, insert_comment_in, insert_void, insert_with_text, is_current, is_fragment, mistaken, not_frameset_ok, on_page, pop, pop_until, reads_text, unexpected}
+use Rattle.tree_construction.specs.Parser.{Again, Parser, Request, all_implied_ended, asked, expects_current, has_template, in_mode, insert, insert_character, insert_comment, insert_comment_in_document, insert_void, insert_with_text, is_current, is_fragment, mistaken, not_frameset_ok, on_page, pop, pop_until, reads_text, unexpected}
 use Rattle.tree_construction.specs.Parser.Request.{Run, UseCharset, UseContent}
 use Rattle.tree_construction.specs.Formatting.{cleared_to_marker, with_marker}
 use Rattle.tree_construction.specs.Resetting.{mode_reset}
@@ -31,10 +31,14 @@ or_empty (Some text) = text
 abbrev pub set_quirks_mode : QuirksMode → Parser → Parser
 set_quirks_mode mode p = record (on_page (edited (SetQuirksMode mode)) p) { quirks_mode = mode }
 
+-- "Append a DocumentType node to the Document node"
+abbrev pub put_doctype : DoctypeOf → Parser → Parser
+put_doctype doctype p =
+    on_page (edited (PutDoctype (or_empty doctype.name) (or_empty doctype.public_id) (or_empty doctype.system_id))) p
+
 abbrev pub initial_doctype : DoctypeOf → Parser → Parser
 initial_doctype doctype p =
-    let noted : Parser = if is_allowed doctype then p else mistaken BadDoctype p in
-    let put : Parser = on_page (edited (PutDoctype (or_empty doctype.name) (or_empty doctype.public_id) (or_empty doctype.system_id))) noted in
+    let put : Parser = put_doctype doctype (if is_allowed doctype then p else mistaken BadDoctype p) in
     in_mode BeforeHtml (if p.options.iframe_srcdoc then put else set_quirks_mode (quirks_mode_of doctype) put)
 
 -- "Anything else"
@@ -44,7 +48,7 @@ initial_other again token p =
 
 abbrev pub initial : Again → Token → Parser → Parser
 initial again (Character c) p = if is_space c then p else initial_other again (Character c) p
-initial again (Comment text) p = insert_comment_in 0 text p
+initial again (Comment text) p = insert_comment_in_document text p
 initial again (Doctype doctype) p = initial_doctype doctype p
 initial again token p = initial_other again token p
 
@@ -73,7 +77,7 @@ ends_early other = false
 
 abbrev pub before_html : Again → Token → Parser → Parser
 before_html again (Doctype doctype) p = unexpected p
-before_html again (Comment text) p = insert_comment_in 0 text p
+before_html again (Comment text) p = insert_comment_in_document text p
 before_html again (Character c) p = if is_space c then p else before_html_other again (Character c) p
 before_html again (StartTag tag) p = before_html_start again (kind_of tag.name) tag p
 before_html again (EndTag name) p = if ends_early (kind_of name) then before_html_other again (EndTag name) p else unexpected p
@@ -81,11 +85,13 @@ before_html again EndOfFile p = before_html_other again EndOfFile p
 
 -- ---- "The before head insertion mode"
 
+-- "For each attribute on the token, check to see if the attribute is already present on the top element of the stack of open elements"
+abbrev pub add_to_root : StartTagOf → Parser → Parser
+add_to_root tag p = on_page (edited (AddAttributes (first_open p.page.opened) tag.attributes)) p
+
 -- "In body", a start tag whose tag name is `html`, as many modes have it
 abbrev pub start_html : StartTagOf → Parser → Parser
-start_html tag p =
-    if has_template p then unexpected p
-    else on_page (edited (AddAttributes (first_open p.page.opened) tag.attributes)) (unexpected p)
+start_html tag p = if has_template p then unexpected p else add_to_root tag (unexpected p)
 
 abbrev pub insert_head : StartTagOf → Parser → Parser
 insert_head tag p = in_mode InHead (record (insert tag p) { head = Some p.page.next })
@@ -125,11 +131,18 @@ asks_encoding attributes None p =
 abbrev pub start_meta : StartTagOf → Parser → Parser
 start_meta tag p = asks_encoding tag.attributes (value_of (codes "charset") tag.attributes) (insert_void tag p)
 
+abbrev pub current_number : List Open → ℕ
+current_number [] = 0
+current_number (e ∷ es) = e.node
+
+-- the current node is a script: "set its already started to true"
+abbrev pub mark_current : Parser → Parser
+mark_current p = on_page (edited (MarkStarted (current_number p.page.opened))) p
+
 -- a start tag whose tag name is `script`: in the fragment case it is already started
 abbrev pub start_script : StartTagOf → Parser → Parser
 start_script tag p =
-    let later : Parser = insert tag p in
-    reads_text ScriptData (if is_fragment p then on_page (edited (MarkStarted p.page.next)) later else later)
+    let later : Parser = insert tag p in reads_text ScriptData (if is_fragment p then mark_current later else later)
 
 -- a start tag whose tag name is `template`
 abbrev pub start_template : StartTagOf → Parser → Parser
@@ -275,10 +288,6 @@ after_head again EndOfFile p = after_head_other again EndOfFile p
 
 -- ---- "The text insertion mode". The tokenizer sends characters there, and then an end tag or the end.
 
-abbrev pub current_number : List Open → ℕ
-current_number [] = 0
-current_number (e ∷ es) = e.node
-
 abbrev pub back : Parser → Parser
 back p = in_mode p.original_mode (pop p)
 
@@ -288,8 +297,7 @@ text_end other p = back p
 
 abbrev pub text_end_of_file : Again → Parser → Parser
 text_end_of_file again p =
-    let noted : Parser = mistaken UnclosedAtEnd p in
-    again (back (if is_current is_script p then on_page (edited (MarkStarted (current_number p.page.opened))) noted else noted)) EndOfFile
+    let noted : Parser = mistaken UnclosedAtEnd p in again (back (if is_current is_script p then mark_current noted else noted)) EndOfFile
 
 abbrev pub text_mode : Again → Token → Parser → Parser
 text_mode again (Character c) p = insert_character c p

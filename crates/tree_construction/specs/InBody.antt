@@ -33,24 +33,36 @@ character_in_body c p =
 
 -- ---- `html`, `body`, `frameset`, and the end
 
-abbrev pub add_to_body : Option ℕ → StartTagOf → Parser → Parser
-add_to_body None tag p = p
-add_to_body (Some n) tag p = if has_template p then p else on_page (edited (AddAttributes n tag.attributes)) (not_frameset_ok p)
+abbrev pub added_to_body : Option ℕ → StartTagOf → Page → Page
+added_to_body None tag page = page
+added_to_body (Some n) tag page = edited (AddAttributes n tag.attributes) page
+
+abbrev pub add_to_body : StartTagOf → Parser → Parser
+add_to_body tag p = on_page (λ page. added_to_body (second_body page.opened) tag page) p
+
+abbrev pub is_there : Option ℕ → Bool
+is_there None = false
+is_there (Some n) = true
+
+abbrev pub has_body : Parser → Bool
+has_body p = is_there (second_body p.page.opened)
 
 abbrev pub start_body : StartTagOf → Parser → Parser
-start_body tag p = add_to_body (second_body p.page.opened) tag (unexpected p)
+start_body tag p =
+    if has_body p && not (has_template p) then add_to_body tag (not_frameset_ok (unexpected p)) else unexpected p
 
 -- "Remove the second element on the stack of open elements from its parent node", "pop all the nodes from the bottom of the stack, from the
 -- current node up to, but not including, the root html element"
-abbrev pub replace_body : Option ℕ → StartTagOf → Parser → Parser
-replace_body None tag p = p
-replace_body (Some n) tag p =
-    if p.frameset_ok
-    then in_mode InFrameset (insert tag (on_page (λ page. popped_to_first (edited (Remove n) page)) p))
-    else p
+abbrev pub removed_body : Option ℕ → Page → Page
+removed_body None page = page
+removed_body (Some n) page = edited (Remove n) page
+
+abbrev pub without_body : Parser → Parser
+without_body p = on_page (λ page. popped_to_first (removed_body (second_body page.opened) page)) p
 
 abbrev pub start_frameset : StartTagOf → Parser → Parser
-start_frameset tag p = replace_body (second_body p.page.opened) tag (unexpected p)
+start_frameset tag p =
+    if has_body p && p.frameset_ok then in_mode InFrameset (insert tag (without_body (unexpected p))) else unexpected p
 
 -- "If there is a node in the stack of open elements that is not" one of these, "then this is a parse error"
 abbrev pub expects_closed : Parser → Parser

@@ -11,7 +11,7 @@ use Rattle.tree_construction.specs.declared.mistakes.Mistake.{Mistake}
 use Rattle.tree_construction.specs.declared.mistakes.Mistake.TheVariants.{UnexpectedToken, UnclosedElements}
 use Rattle.tree_construction.specs.Names.{kind_of, is_html, is_template, is_paragraph, is_implied, is_implied_thoroughly, is_fostering, is_form_associated, is_listed, ends_scope, ends_button_scope, ends_table_scope}
 use Rattle.tree_construction.specs.Tokens.{StartTagOf, Token, has_attribute}
-use Rattle.tree_construction.specs.Page.{Edit, Open, Page, Place, comment_put, current_passes, edited, foster_place, has_in_scope, has_kind, has_name, has_open, inside, made, popped, popped_until, popped_while, pushed}
+use Rattle.tree_construction.specs.Page.{Edit, Open, Page, Place, comment_put, current_passes, edited, first_open, foster_place, has_in_scope, has_kind, has_name, has_open, inside, made, popped, popped_until, popped_while, pushed}
 use Rattle.tree_construction.specs.Page.Place.{LastChild, BesideNode}
 use Rattle.tree_construction.specs.Page.Edit.{ParseError, Put, PutText, AssociateForm}
 
@@ -250,8 +250,12 @@ insert_character c p = insert_text (c ∷ []) p
 abbrev pub insert_comment : List ℕ → Parser → Parser
 insert_comment text p = on_page (comment_put (place_of 1 p) text) p
 
-abbrev pub insert_comment_in : ℕ → List ℕ → Parser → Parser
-insert_comment_in parent text p = on_page (comment_put (LastChild parent) text) p
+-- "Insert a comment as the last child of the Document object", and "of the first element in the stack of open elements"
+abbrev pub insert_comment_in_document : List ℕ → Parser → Parser
+insert_comment_in_document text p = on_page (comment_put (LastChild 0) text) p
+
+abbrev pub insert_comment_in_root : List ℕ → Parser → Parser
+insert_comment_in_root text p = on_page (comment_put (LastChild (first_open p.page.opened)) text) p
 
 -- ---- "Parsing elements that contain only text"
 

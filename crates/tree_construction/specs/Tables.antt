@@ -178,11 +178,11 @@ abbrev pub to_body : Parser → Parser
 to_body p = cleared_back_to is_body_context p
 
 -- where an element is in table scope: the stack is cleared back to such a one, that is popped, and the mode changes
-abbrev pub without_body : Bool → (Parser → Parser) → Parser → Parser
-without_body scoped after p = if scoped then after (in_mode InTable (pop (to_body p))) else unexpected p
+abbrev pub without_table_body : Bool → (Parser → Parser) → Parser → Parser
+without_table_body scoped after p = if scoped then after (in_mode InTable (pop (to_body p))) else unexpected p
 
 abbrev pub without_any_body : (Parser → Parser) → Parser → Parser
-without_any_body after p = without_body (in_table_scope (has_kind is_table_body) p) after p
+without_any_body after p = without_table_body (in_table_scope (has_kind is_table_body) p) after p
 
 abbrev pub table_body_start : Again → Kind → StartTagOf → Parser → Parser
 table_body_start again TableRow tag p = in_mode InRow (insert tag (to_body p))
@@ -191,7 +191,7 @@ table_body_start again kind tag p =
     if is_part kind then without_any_body (λ later. again later (StartTag tag)) p else table_start again kind tag p
 
 abbrev pub table_body_end : Again → Kind → List ℕ → Parser → Parser
-table_body_end again TableBody name p = without_body (in_table_scope (has_name name) p) (λ later. later) p
+table_body_end again TableBody name p = without_table_body (in_table_scope (has_name name) p) (λ later. later) p
 table_body_end again Table name p = without_any_body (λ later. again later (EndTag name)) p
 table_body_end again kind name p = table_end again kind name p
 

@@ -1,8 +1,8 @@
 #!/usr/bin/env python3
 """Worked cases of tree construction, as proofs by computation.
 
-    python3 tools/construction_cases.py
-    python3 tools/construction_cases.py --check
+    python3 tools/gen/construction_cases.py
+    python3 tools/gen/construction_cases.py --check
 
 tools/cases/construction.jsonl has a case a line: the row of tree construction that it shows, a page, the tokens that the
 tokenizer emits if it is told what the tree asks for, and the tree, as the public tests of tree construction write it.
@@ -15,14 +15,14 @@ import pathlib
 import re
 import sys
 
-TOP = pathlib.Path(__file__).resolve().parent.parent
+TOP = pathlib.Path(__file__).resolve().parent.parent.parent
 CASES = TOP / "tools" / "cases" / "construction.jsonl"
 CRATE = TOP / "crates" / "tree_construction"
 FILE = CRATE / "proofs" / "RowCases.antt"
 AT_ONCE = 12
 
 HEAD = """\
--- Pages for each row of tree construction, with their trees: by `python3 tools/construction_cases.py`, and not by hand.
+-- Pages for each row of tree construction, with their trees: by `python3 tools/gen/construction_cases.py`, and not by hand.
 use Rattle.std.proofs.Common.{◌≡◌, Bool, true, false, List, [], ◌∷◌, ◌++◌, refl}
 use Rattle.std.specs.Prelude.{ℕ, Option, Some, None, codes, map}
 use Rattle.html5ever_interface.specs.Token.Told.{Text, Null, Comment, Instruction, Doctype, End}
