@@ -85,7 +85,7 @@ impl<W: Target, A: Allocator> Printer<W, A> {
         Ok(())
     }
 
-    /// Writes what waits, and gives the target back: what it took is what was printed.
+    /// Writes the waiting bytes, and gives the target back: it took what was printed.
     pub fn finish(mut self) -> (Logged<W>, Result<(), Fault>)
         ensures ok { OnOk result.1 (result.0.taken ≡ self.printed) }
         ensures fault { IfErr result.1 (λ fault. fault ≡ Fault.Device) }

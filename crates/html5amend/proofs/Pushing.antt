@@ -17,7 +17,7 @@ ok-then r x y ok = ap (λ b. if b then x else y) ok
 
 module _ {Z : Type 0} (o : Open Z) (w : Waiting) (items : List (Open Z)) (places count : ℕ)
     (is : record { elements = map open_by items; places = places } ≡ w) (counts : count ≡ length items) where
-  -- whether there is room is told by how many wait
+  -- how many wait decides whether there is room
   room-by : (limit : ℕ) (b : Bool) → nat_lt count limit ≡ b → nat_lt (length (map open_by items)) limit ≡ b
   room-by limit b fits = ap (λ n. nat_lt n limit) (length-map items open_by ∙ sym counts) ∙ fits
 
@@ -66,7 +66,7 @@ module _ {Z : Type 0} (o : Open Z) (w : Waiting) (items : List (Open Z)) (places
 
 -- ---- a start tag
 
--- what holds where there is none
+-- what holds if there is none
 abbrev at_none : Type 0 → Option OpenOf → Type 0
 at_none P None = P
 at_none P (Some o) = Unit {0}

@@ -1,4 +1,4 @@
--- A token that is no tag, as a handler amends it: a comment, a doctype, a processing instruction, a NUL.
+-- A token other than a tag, as a handler amends it: a comment, a doctype, a processing instruction, a NUL.
 use Rattle.std.specs.Prelude.{ℕ, List, ◌++◌}
 use Rattle.html5ever_interface.specs.Token.{Told}
 use Rattle.html5splice.specs.Edits.EditOf.{Replace}

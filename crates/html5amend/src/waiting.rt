@@ -54,7 +54,7 @@ impl<A: Allocator + Copy> Waiting<A> {
         }
     }
 
-    // Whether what stands here is dropped.
+    // Whether the content here is dropped.
     pub fn is_dropping(&self) -> bool
         ensures { result ≡ is_dropping self.now.elements }
     {
@@ -80,7 +80,7 @@ impl<A: Allocator + Copy> Waiting<A> {
         None
     }
 
-    // Room for one more, where there is none.
+    // Room for one more, if there is none.
     pub fn room(&self) -> Result<Room<A>, AllocError>
         ensures { IfOk result (λ room. (o : Open A) → with_open o room self.now
             ≡ record { elements = open_by o ∷ self.now.elements; places = places_for (length self.now.elements) self.now.places }) }

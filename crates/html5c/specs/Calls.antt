@@ -182,7 +182,7 @@ abbrev pub EndSaysBy : Bool → RecordSessionOf → RecordSessionOf → ℕ → 
 EndSaysBy false old new status = EndSays old new status
 EndSaysBy true old new status = EndDecodedSays old new status
 
--- a reply of the caller: what follows is read in the state that the number names
+-- a reply of the caller: the rest is read in the state that the number names
 pub record ReplySays (old new : RecordSessionOf) (number status : ℕ) : Type 0 where
   pub done : status ≡ 0 → (state : State) × (state_said number ≡ Some state) × SetsState recorded_means old new state
   pub refused : status ≢ 0 → new ≡ old
@@ -191,7 +191,7 @@ pub record ReplySays (old new : RecordSessionOf) (number status : ℕ) : Type 0 
   pub item_open : (status ≡ 13) ↔ ((is_over old ≡ false) × (is_some (state_said number) ≡ true) × (nothing_open_in old ≡ false))
   pub only : (status ≡ 0) ⊎ (status ≡ 7) ⊎ (status ≡ 9) ⊎ (status ≡ 13)
 
--- the answer about foreign content was set, and what follows is read by it
+-- the answer about foreign content was set, and the rest is read by it
 pub record ForeignSays (old new : RecordSessionOf) (foreign : Bool) (status : ℕ) : Type 0 where
   pub done : status ≡ 0
   pub sets : SetsForeign old new foreign

@@ -108,7 +108,7 @@ pub record CleanerTakeSays (old new : CleaningOf) (room out : List ℕ) (n : ℕ
   pub count : n ≡ min (length room) (length (waiting_in old))
   pub copied : out ≡ take n (waiting_in old) ++ drop n room
   pub taken : new ≡ after_session_takes old n
-  -- and what was fed is what was fed before
+  -- and the fed bytes are those fed before
   pub fed : StaysFed old new
 
 -- ---- the same, of a handle that has a page or none

@@ -1,4 +1,4 @@
--- The encoding of a page, as C says it and is told it, of a handle of either kind.
+-- The encoding of a page, as C sets it and reads it, of a handle of either kind.
 use Rattle.std.specs.Prelude.{◌≡◌, ◌≢◌, ◌↔◌, ◌⊎◌, ℕ, true, false, List, [], ◌∷◌, Option, None, Some, option_map}
 use Rattle.html5c.specs.Names.{CopiesName}
 use Rattle.html5c.specs.Slots.{WhereOpen}
@@ -48,6 +48,6 @@ abbrev pub name_in : Option Encoding → List ℕ
 name_in None = []
 name_in (Some encoding) = name_of encoding
 
--- its name is told
+-- its name is copied
 abbrev pub NamesEncoding : Option Encoding → List ℕ → List ℕ → ℕ → Type 0
 NamesEncoding encoding room out n = CopiesName (name_in encoding) room out n

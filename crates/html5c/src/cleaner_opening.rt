@@ -25,7 +25,7 @@ pub enum PolicyFault {
 }
 
 impl PolicyFault {
-    /// What C is told.
+    /// The status that C receives.
     pub fn status(self) -> u32
         ensures { result ≡ fault_status self }
     {

@@ -1,4 +1,4 @@
-//! The encoding of a page, as C says it and is told it.
+//! The encoding of a page, as C sets it and reads it.
 ghost use Rattle.std.specs.Prelude.{◌≡◌, None};
 ghost use Rattle.html5c.specs.Encodings.{EncodingSays, NamesEncoding, SetsEncoding, encoding_in_slot, said_by};
 ghost use Rattle.html5c.specs.Slots.{cleaner_in, placed_in, policy_in, session_in};

@@ -32,7 +32,7 @@ pub enum OpenError {
 }
 
 impl OpenError {
-    /// What C is told.
+    /// The status that C receives.
     pub fn status(self) -> u32
         ensures { result ≡ open_status self }
     {

@@ -162,7 +162,7 @@ impl PageSlot {
         status
     }
 
-    /// Puts a text in front of what waits.
+    /// Puts a text in front of the waiting text.
     pub fn insert(&mut self, text: &[u8]) -> u32
         ensures inserts { Inserts (session_in self.old) (session_in self.new) text.now result }
         ensures other { cleaner_in self.new ≡ cleaner_in self.old }
@@ -187,7 +187,7 @@ impl PageSlot {
         }
     }
 
-    /// Reads what follows in the state that the number names.
+    /// Reads the rest in the state that the number names.
     pub fn reply(&mut self, state: u32) -> u32
         ensures replies { RepliesTo (session_in self.old) (session_in self.new) state result }
         ensures other { cleaner_in self.new ≡ cleaner_in self.old }

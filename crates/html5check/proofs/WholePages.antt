@@ -28,7 +28,7 @@ pub reads-more : (unread between left : Option (List ℕ)) (before after : List 
 reads-more unread between left before after count consumed grows =
     subst (Consumes unread left) (sym grows.grown) (Consumes-append unread between left before grows.bytes consumed grows.consumed)
 
--- where nothing is held, the text is all
+-- when nothing is held, the text is all
 pub all-consumed : (text held : List ℕ) → held ≡ [] → text ++ held ≡ text
 all-consumed text held none = ap (λ l. text ++ l) none ∙ append-nil text
 

@@ -15,7 +15,7 @@ use Rattle.html5ever_interface.specs.Token.Told.{End, Error, Tag}
 use Rattle.html5ever_interface.specs.declared.interface.token.TagKind.{TagKind}
 use Rattle.html5ever_interface.specs.declared.interface.token.TagKind.TheVariants.{EndTag, StartTag}
 
--- what is open, the ids that elements have, and what was found
+-- the open elements, the ids that elements have, and the findings
 pub record Checking : Type 0 where
   pub opened : List Open
   pub ids : List (List ℕ)
@@ -92,7 +92,7 @@ abbrev pub at_tag : TagKind → Checking → Seen → TagOf → Checking
 at_tag StartTag s seen tag = at_start_tag s seen tag
 at_tag EndTag s seen tag = at_end_tag s seen tag.name
 
--- a parse error is found as it is; the end leaves open what is open
+-- a parse error is found as it is; the end leaves the open elements open
 abbrev pub checked_told : Told → Checking → Seen → Checking
 checked_told (Error message) s seen = record s { found = s.found ++ error_finding seen message ∷ [] }
 checked_told (Tag tag) s seen = at_tag tag.kind s seen tag

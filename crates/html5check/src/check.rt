@@ -103,7 +103,7 @@ fn read_masked(
     }
 }
 
-// The same answer, where no sink refuses a token.
+// The same answer, for a sink that refuses no token.
 fn seen_or_none(seen: Result<Vec<SeenToken>, TokenizerError>) -> Result<Vec<SeenToken>, AllocError>
     ensures { IfOk result (λ tokens. seen ≡ Ok tokens) }
 {

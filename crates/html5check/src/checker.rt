@@ -16,7 +16,7 @@ use html5ever_interface::interface::token::{Tag, TagKind, Token};
 use std::alloc::{AllocError, Global};
 use std::marker::Model;
 
-/// What is open and what was found, after some tokens of a text.
+/// The open elements and the findings, after some tokens of a text.
 #[derive(Drop)]
 pub struct Checker<'t> {
     opened: OpenElements<'t>,

@@ -85,8 +85,9 @@ fn push_line(lines: &mut Vec<u8>, file: &str, located: &Located<'_>) -> Result<(
     Ok(())
 }
 
-/// The lines of what was found in a file of this name: `FILE:LINE:COLUMN: error: CODE`, then a colon and what it is about,
-/// and what a misspelled name was meant for. Control characters of ASCII are shown as `?`, but for those of the file's name.
+/// The lines of what was found in a file of this name: `FILE:LINE:COLUMN: error: CODE`, then a colon and what it is
+/// about, and what a misspelled name was meant for. Control characters of ASCII are shown as `?`, except for those of
+/// the file's name.
 #[tactic(auto, unfolding(crate::specs::Lines::lines_of))]
 pub fn lines_of(alloc: Global, file: &str, found: &[Located<'_>]) -> Result<Vec<u8>, AllocError>
     ensures { IfOk result (λ lines. lines.items ≡ lines_of file.now (map located_by found.now)) }

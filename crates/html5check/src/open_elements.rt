@@ -34,7 +34,7 @@ impl<'t> Model for OpenElements<'t> {
     ghost view = { λ o. opened_by o.elements.items };
 }
 
-// How many of these the end tag of this name ends, or 0 where none of the innermost has the name.
+// How many of these the end tag of this name ends, or 0 if none of the innermost has the name.
 fn closed_by(elements: &[OpenElement<'_>], name: &str) -> usize
     ensures { result ≡ closed_by (opened_by elements.now) name.now }
 {
@@ -82,7 +82,7 @@ impl<'t> OpenElements<'t> {
         self.elements.len()
     }
 
-    /// Whether what stands in the innermost one is of another namespace.
+    /// Whether the content of the innermost one is of another namespace.
     pub fn holds_foreign(&self) -> bool
         ensures { result ≡ holds_foreign self.now }
     {

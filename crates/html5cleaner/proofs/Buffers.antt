@@ -1,4 +1,4 @@
--- What a buffer keeps of a page is what is kept of it, and no message takes any of it.
+-- A buffer keeps exactly the kept part of a page, and no message takes any of it.
 use Rattle.std.proofs.Common.{◌≡◌, ℕ, List, [], ◌++◌, refl, ap, sym, ◌∙◌, append_assoc}
 use Rattle.std.proofs.lemmas.List.{append-nil}
 use Rattle.html5ever_interface.specs.Sink.{Message, stepped}

@@ -1,4 +1,4 @@
--- A page that is cleaned as it arrives, and what is kept of it, which waits until it is taken.
+-- A page that is cleaned as it arrives, and its kept part, which waits until it is taken.
 --
 -- No run of text and no token changes how many bytes were taken.
 use Rattle.std.specs.Prelude.{◌≡◌, ℕ, List, []}

@@ -44,7 +44,7 @@ use html5write::laws::{all_pieces, whole_text};
 use std::alloc::Allocator;
 
 /// By each policy a page of clean pieces, read with any table by any sink that keeps on after their tags, at
-/// once or after a pause, is read but for errors as exactly these pieces and the end. Each of their tokens
+/// once or after a pause, is read, except for errors, as exactly these pieces and the end. Each of their tokens
 /// is allowed: text, or a tag of an allowed element, with attributes that are kept and addresses that are
 /// safe.
 pub fn cleaned_page<S: TokenSink<Token<A>>, A: Allocator>()
@@ -59,7 +59,7 @@ pub fn cleaned_page<S: TokenSink<Token<A>>, A: Allocator>()
 }
 
 /// Wherever it is put in a page, in Data and with no CR directly before it, such a page tells its pieces,
-/// and is read to where nothing is open: what follows it is read as it would be without it.
+/// and leaves nothing open: the text after it is read as it would be without it.
 pub fn cleaned_part<S: TokenSink<Token<A>>, A: Allocator>()
     ensures { (policy : PolicyOf) (rules : Rules) (K : Start) (s : S.State) (pieces : List Piece)
         → IsReadBackClean {S = S.State} policy rules K S.means.reply pieces
@@ -88,7 +88,7 @@ pub fn kept_pieces_are_clean()
 
 /// By a policy that balances, or makes a tree, each end tag of a page closes the innermost open element, and at
 /// the end of the page none is open. One that balances, and makes no tree, writes what the same policy without the
-/// rule writes, but for end tags.
+/// rule writes, except for end tags.
 pub fn balanced_page()
     ensures nested { (policy : PolicyOf) (references : List NamedReference) (text : List ℕ)
         → (policy.balance || policy.tree) ≡ true
@@ -99,9 +99,9 @@ pub fn balanced_page()
 {}
 
 /// By a policy with the rule `tree` each page fits at every item (`fits`), with no more elements open than the policy's
-/// depth (`within`). So the tree that is built of what is told where the page is read, by any table and a sink that
-/// follows the standard, is the nesting of its pieces (`tree`): their tags and texts, as `cleaned_page` says, are the
-/// policy's. A newline straight after the start tag of a `pre` is ignored, as tree construction does (`read_items`).
+/// depth (`within`). So the tree that is built of the page's messages, read by any table and a sink that follows the
+/// standard, is the nesting of its pieces (`tree`): their tags and texts, as `cleaned_page` says, are the policy's. A
+/// newline straight after the start tag of a `pre` is ignored, as tree construction does (`read_items`).
 pub fn tree_of_cleaned_page<S: TokenSink<Token<A>>, A: Allocator>()
     ensures fits { (policy : PolicyOf) (references : List NamedReference) (text : List ℕ) → policy.tree ≡ true
         → all_fit [] (items_of (kept_of_page policy references text)) ≡ true }

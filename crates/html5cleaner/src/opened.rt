@@ -1,4 +1,4 @@
-//! What is open on a page.
+//! The open elements of a page.
 ghost use Rattle.std.specs.Prelude.{◌≡◌, []};
 ghost use Rattle.html5tree.specs.Nested.{nothing_nested};
 ghost use Rattle.html5cleaner.specs.Settled.{names_in, settled, undone};
@@ -10,7 +10,7 @@ use html5tree::nesting::Nesting;
 use std::alloc::Allocator;
 use std::mem;
 
-/// What is open on a page: by its tags, or in the tree that is built of it.
+/// The open elements of a page: by its tags, or in the tree that is built of it.
 #[derive(Drop)]
 pub struct Opened<A: Allocator> {
     pub tags: OpenElements<A>,
@@ -19,13 +19,13 @@ pub struct Opened<A: Allocator> {
     pub next: Nesting<A>,
 }
 
-/// What is left to be done with what is open, once what was written stands where it should.
+/// The change to the open elements that is left to make, once the output stands where it should.
 #[derive(Clone, Copy, Debug, PartialEq, Eq)]
 pub enum Pending {
     Tags(Change),
     /// What will be open in the tree takes the place of what is.
     Tree,
-    /// What is open stays open.
+    /// The open elements stay open.
     Nothing,
     /// The innermost element of the tree was opened.
     Opened,

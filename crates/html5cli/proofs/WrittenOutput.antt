@@ -103,7 +103,7 @@ module _ (R : Rules) (K : Start) where
 -- ---- an output of which a front was written
 
 module _ (R : Rules) (K : Start) (p : Output) (text : List ℕ) where
-  -- where what follows the text is read from
+  -- the start after the text
   abbrev begins : Start
   begins = start_after printer_means R K p text
 

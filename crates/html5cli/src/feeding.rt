@@ -14,8 +14,8 @@ use markup5ever::buffer_queue::BufferQueue;
 use std::alloc::Allocator;
 use token_printer::print_sink::PrintSink;
 
-// Feeds one piece of the text, past its pauses. Where that is refused memory was: no call was refused before, and the
-// sink faults for want of memory alone.
+// Feeds one piece of the text, past its pauses. It is refused only when out of memory: no call was refused before,
+// and the sink faults for no other reason.
 #[inline(always)]
 fn feed_piece<A: Allocator + Copy>(
     tokenizer: &mut Tokenizer<'_, PrintSink<A>, A>,

@@ -22,7 +22,7 @@ pub record AttributeRule : Type 0 where
 pub record Changes : Type 0 where
   -- in this order
   pub rules : List AttributeRule
-  -- elements that are dropped with what stands in them
+  -- elements that are dropped with their content
   pub dropped : List (List ℕ)
   -- whether links and forms with a target get `noopener`
   pub noopener : Bool
@@ -32,7 +32,7 @@ pub record Changed : Type 0 where
   pub tag : TagOf
   pub is_changed : Bool
 
--- a tag as it is written
+-- an unchanged tag
 abbrev pub as_written : TagOf → Changed
 as_written tag = record { tag = tag; is_changed = false }
 

@@ -16,14 +16,14 @@ pub struct AttributeRule {
     pub value: Option<String>,
 }
 
-// What stands round the first `=`.
+// The parts round the first `=`.
 fn round_equals_sign(word: &str) -> Option<(&str, &str)>
     ensures { option_map (λ parts. (parts.0.now, parts.1.now)) result ≡ parts_round is_equals_sign word.now }
 {
     word.split_once('=')
 }
 
-// What stands round the first dot.
+// The parts round the first dot.
 fn round_dot(place: &str) -> Option<(&str, &str)>
     ensures { option_map (λ parts. (parts.0.now, parts.1.now)) result ≡ parts_round is_dot place.now }
 {

@@ -24,7 +24,7 @@ pub struct ChangedTag {
 }
 
 impl ChangedTag {
-    // A tag as it is written.
+    // An unchanged tag.
     fn as_written(tag: Tag) -> ChangedTag
         ensures { changed_by result ≡ as_written (tag_of tag) }
     {

@@ -152,7 +152,7 @@ reads_text (state.Replacement returned) = false
 reads_text (state.Utf16 now) = false
 reads_text state.UserDefined = false
 
--- in this state ASCII stands for itself, and leaves the decoder there; but for UTF-8, where all text does
+-- in this state ASCII stands for itself, and leaves the decoder there; except for UTF-8, where all text does
 unfoldable pub reads_ascii : State → Bool
 reads_ascii (state.Utf8 part) = false
 reads_ascii (state.SingleByte single) = true

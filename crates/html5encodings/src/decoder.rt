@@ -7,8 +7,8 @@ use crate::state::{State, append, append_before_error, at_end, is_whole, start};
 use std::alloc::{AllocError, Allocator};
 use std::marker::Model;
 
-/// Makes texts of bytes in an encoding that arrive in pieces, cut anywhere. Bytes that are none of the
-/// encoding give U+FFFD.
+/// Makes texts of bytes in an encoding that arrive in pieces, cut anywhere. Bytes that are invalid in the encoding
+/// give U+FFFD.
 #[derive(Drop)]
 pub struct Decoder {
     state: State,

@@ -187,7 +187,7 @@ fn reads_text(state: State) -> bool
     }
 }
 
-// Whether ASCII stands for itself, and leaves the decoder where it is; but for UTF-8.
+// Whether ASCII stands for itself, and leaves the decoder where it is; except for UTF-8.
 #[tactic(auto, unfolding(crate::specs::Decoding::reads_ascii))]
 fn reads_ascii(state: State) -> bool
     ensures { result ≡ reads_ascii state }

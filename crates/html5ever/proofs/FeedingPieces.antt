@@ -21,14 +21,14 @@ use Rattle.html5partial.specs.declared.error.TokenizerError.TheVariants.{Memory}
 text_of-append : (fed later : List (List ℕ)) → text_of (fed ++ later) ≡ text_of fed ++ text_of later
 text_of-append fed later = ap concat (map-append chars fed later) ∙ concat-append (map chars fed) (map chars later)
 
--- all that waits and all pieces are what was taken, what waits then and the later pieces
+-- the queued text and all pieces are the taken text, the text queued then, and the later pieces
 fed-parts : (waiting : List ℕ) (fed later : List (List ℕ))
     → waiting ++ text_of (fed ++ later) ≡ fed_text waiting fed ++ (left_of waiting fed ++ text_of later)
 fed-parts waiting [] later = refl
 fed-parts waiting (piece ∷ fed) later =
     ap (λ l. waiting ++ l) (text_of-append (piece ∷ fed) later) ∙ sym (append_assoc waiting (text_of (piece ∷ fed)) (text_of later))
 
--- one piece more takes what waits and the piece
+-- one piece more takes the queued text and the piece
 fed-more : (waiting : List ℕ) (fed : List (List ℕ)) (piece : List ℕ)
     → fed_text waiting (fed ++ piece ∷ []) ≡ fed_text waiting fed ++ (left_of waiting fed ++ chars piece)
 fed-more waiting [] piece = ap (λ l. waiting ++ l) (append-nil (chars piece))

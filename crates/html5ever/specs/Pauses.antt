@@ -35,6 +35,6 @@ module _ {X S H : Type 0} (means : Means X S H) (rules : Rules) where
     UpToPause : (taken left : List ℕ) (reply : Reply H) → queue ≡ taken ++ left → EndsInPause K s text taken reply
         → ((front rest : List ℕ) (other : Reply H) → taken ≡ front ++ rest → rest ≢ [] → ¬ (EndsInPause K s text front other))
         → TakesByItems K s text queue taken left reply
-    -- all of it, where none does
+    -- all of it, if none does
     All : ((front rest : List ℕ) (other : Reply H) → queue ≡ front ++ rest → ¬ (EndsInPause K s text front other))
         → TakesByItems K s text queue queue [] KeepOn

@@ -73,7 +73,7 @@ module _ {X S H : Type 0} (means : Means X S H) where
   pub record StandsAt (t : Tokenizing X) (K : Start) (s : S) (text : List ℕ) : Type 0 where
     -- the sink was sent exactly the decided beginning
     pub told : means.state t.sink ≡ state_after means t.rules K s text
-    -- what follows is read from the start after the text
+    -- the rest is read from the start after the text
     pub position : t.position ≡ start_after means t.rules K s text
     pub not_failed : t.failed ≡ false
     pub not_ended : t.ended ≡ false
@@ -103,7 +103,7 @@ module _ {X S H : Type 0} (means : Means X S H) where
   ReadsWhole old more t =
       (K : Start) (s : S) (text : List ℕ) → StandsAt old K s text → t ≡ state_at_end means old.rules K s (text ++ more)
 
-  -- ---- by items: where nothing was open at the start K, the text after it is items, and at most one unfinished one
+  -- ---- by items: when nothing was open at the start K, the text after it is items, and at most one unfinished one
 
   -- after `more`, the sink was sent exactly what the items tell
   abbrev pub ReadsItems : Tokenizing X → Tokenizing X → List ℕ → Type 0

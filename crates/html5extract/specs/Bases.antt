@@ -67,7 +67,7 @@ abbrev pub named_from : Option Parts → Option Parts → Option (List ℕ) → 
 named_from (Some fallback) None (Some href) = Some (frozen_base fallback href)
 named_from fallback found href = None
 
--- the URL that a tag names, where none was named before it
+-- the URL that a tag names, when none was named before it
 abbrev pub named_by : Bases → TagOf → Option Parts
 named_by bases tag = named_from bases.fallback bases.found (base_href tag)
 
@@ -89,11 +89,11 @@ base_of bases = option_or bases.found bases.fallback
 abbrev pub url_at : Bases → List ℕ → Option Parts
 url_at bases address = option_and_then (λ base. leads_to (Some base) address) (base_of bases)
 
--- the text of a URL, or else the address as it is written
+-- the text of a URL, or else the unchanged address
 abbrev pub shown_or : List ℕ → Option Parts → List ℕ
 shown_or address None = address
 shown_or address (Some url) = serialize url
 
--- where an address leads, or else the address as it is written
+-- where an address leads, or else the unchanged address
 abbrev pub resolved : Bases → List ℕ → List ℕ
 resolved bases address = shown_or address (url_at bases address)

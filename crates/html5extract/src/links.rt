@@ -94,9 +94,9 @@ fn line_of<A: Allocator>(
     Ok(line)
 }
 
-/// Prints the links of the tags that it takes, a line each: the name in front, if there is one, the number of the line on which the tag
-/// ends, a space, and where the link leads, or the link as it is written, without the tabs and line breaks
-/// that a URL has none of.
+/// Prints the links of the tags that it takes, a line each: the name in front, if there is one, the number of the line
+/// on which the tag ends, a space, and where the link leads, or the unresolved link, without tabs and line breaks,
+/// which no URL has.
 #[derive(Drop)]
 pub struct Links<W, A: Allocator = Global> {
     pub alloc: A,

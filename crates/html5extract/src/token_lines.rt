@@ -53,7 +53,7 @@ fn is_open_after<A: Allocator>(in_text: bool, token: &Token<A>) -> bool
     }
 }
 
-// Appends a byte, after the name in front where no line has begun.
+// Appends a byte, after the name in front when no line has begun.
 fn push_byte<A: Allocator>(
     lines: &mut Vec<u8, A>,
     front: &Front,
@@ -198,7 +198,7 @@ impl<W, A: Allocator> Model for TokenLines<W, A> {
 }
 
 impl<W: Target, A: Allocator> TokenLines<W, A> {
-    /// Prints to this printer, where no text is open.
+    /// Prints to this printer, when no text is open.
     pub fn new(alloc: A, printer: Printer<W, A>, front: Front) -> TokenLines<W, A>
         ensures { result ≡ lines_started printer front }
     {

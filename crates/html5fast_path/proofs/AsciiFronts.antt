@@ -45,7 +45,7 @@ front-bytes P text len front =
 pub front-characters : (P : ℕ → Type 0) (text : List ℕ) (len : ℕ) → IsAsciiFront P text len → All P (chars (take len text))
 front-characters P text len front = rw (chars-IsAscii (take len text) front.ascii) (front-bytes P text len front)
 
--- where no byte with the property is in a set, the front is outside it
+-- when no byte with the property is in a set, the front is outside it
 pub front-outside : (P : ℕ → Type 0) (set : ℕ) (text : List ℕ) (len : ℕ) → ((c : ℕ) → P c → ¬ IsMember set c) → IsUtf8 text → IsAsciiFront P text len
     → BeginsOutside set text len
 front-outside P set text len out utf8 front = record {

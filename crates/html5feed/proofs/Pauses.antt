@@ -58,7 +58,7 @@ reply_in-pauses bytes Done other = absurd (other refl)
 reply_in-pauses bytes (Script handle) other = refl
 reply_in-pauses bytes (EncodingIndicator text) other = refl
 
--- where nothing pauses in two texts, nothing pauses in each
+-- when nothing pauses in two texts, nothing pauses in each
 pauses-parts : {H : Type 0} → (p : Bool) (r q : Reply H) → pauses r ≡ p → pauses (if pauses r then r else q) ≡ false
     → (pauses r ≡ false) × (pauses q ≡ false)
 pauses-parts true r q h none = absurd (false≢true (sym none ∙ rw h h))

@@ -195,7 +195,7 @@ module _ {X S H : Type 0} (means : Means X S H) (rules : Rules) where
       HasRead-stops means rules Memory K L old mid mid s t t [] read (record { text = refl; handed_in = refl; taken = omega arith })
       (record { more = (feed means rules L t [] mid.text).taken; parts = refl }) tt (Memory-at_once means.step means.faulted t _)
 
-  -- and leaves what follows the character
+  -- and leaves the text after the character
   pub leaves-quietly : {T : Type 0} (K L N : Start) (old mid new : TextQueue) (s t : S) → HasRead means rules K L old mid s t
       → TakesQuietly {T = T} rules (Err Memory) L N mid new → RefusedAfter means rules Memory K s [] old.text new.text t
   leaves-quietly K L N old mid new s t read takes =

@@ -47,7 +47,7 @@ module _ {X S H : Type 0} (means : Means X S H) where
   abbrev pub told_at_end : Rules → Start → S → List ℕ → List Message
   told_at_end rules K s text = drop (length (messages_so_far means rules K s text)) (all_messages means rules K s text)
 
-  -- the first reply to some messages that pauses, or to keep on where none does
+  -- the first reply to some messages that pauses, or to keep on if none does
   unfoldable pub first_pause : S → List Message → Reply H
   first_pause s [] = KeepOn
   first_pause s (m ∷ M) =
@@ -67,6 +67,6 @@ pub record IsEndOf (left text : List ℕ) : Type 0 where
   pub front : List ℕ
   pub parts : text ≡ front ++ left
 
--- at most two characters were taken for each that left the queue. What is held of a reference before and after counts, too.
+-- at most two characters were taken for each that left the queue. Held characters of a reference count too, before and after.
 abbrev pub IsLinear : ℕ → TextQueue → ℕ → TextQueue → Type 0
 IsLinear held old held_after new = (new.taken + held_after) + 2 * length new.text ≤ (old.taken + held) + 2 * length old.text

@@ -125,7 +125,7 @@ fn read_waiting_quietly<A: Allocator + Copy>(
     }
 }
 
-/// Reads what waits in the queue, up to the first tag whose reply pauses.
+/// Reads the queued text, up to the first tag whose reply pauses.
 pub fn read_queue<S: TokenSink<Token<A>>, A: Allocator + Copy>(
     alloc: A,
     sink: &mut S,

@@ -1,4 +1,4 @@
--- Characters that are held while they may begin a keyword: what is held of a word, and where none comes.
+-- Characters that are held while they may begin a keyword: the held text of a word, and when none comes.
 use Rattle.std.proofs.Common.{◌≡◌, ℕ, ◌+◌, ◌≤◌, ◌<◌, zero, suc, Bool, true, false, List, [], ◌∷◌, ◌++◌, take, length, length-append, refl, ap, sym, ◌∙◌, arith, subst}
 use Rattle.std.specs.Prelude.{◌==◌, ◌&&◌, not, cond, map, nat_eq, nat_le, nat_lt, count_by, if◌then◌else◌}
 use Rattle.std.specs.Char.{to_ascii_lowercase}
@@ -104,7 +104,7 @@ no_whole front c rest =
     let e : length front ≡ length (front ++ c ∷ rest) = ap length (same_text front (front ++ c ∷ rest) (sym h)) in
     omega (arith, e, length-append front (c ∷ rest), more))
 
--- a word with which a text doesn't begin is none of its beginnings
+-- a word with which a text doesn't begin is not one of its beginnings
 pub no_beginning : (word content front rest : List ℕ) → begins_with word content ≡ false → content ≡ front ++ rest → bytes_eq front word ≡ false
 no_beginning word content front rest h split =
     false_from_ne_true (bytes_eq front word) (λ e. false≢true (sym h
@@ -122,7 +122,7 @@ none_with (z ∷ text) (y ∷ word) x (suc n) h =
     let p = and_parts (not (x == y)) (list_all (λ z. not (x == z)) word) h in
     ap (λ t. nat_eq z y && t) (none_with text word x n p.1) ∙ and-false (nat_eq z y)
 
--- ---- what is held of a text, by a test of beginnings
+-- ---- the held text, by a test of beginnings
 
 pub while-parts : (begins : List ℕ → Bool) (before text : List ℕ) → run_while begins before text ++ after_while begins before text ≡ text
 unfolding run_while after_while
@@ -144,7 +144,7 @@ begins-while begins before (c ∷ text) h =
       | false ↦ λ e. ap begins (append-nil before) ∙ h
     ] refl
 
--- the character after what is held decides, be it a `>`, with which nothing begins
+-- the character after the held text decides, be it a `>`, with which nothing begins
 pub decides-while : (begins : List ℕ → Bool) → ((text : List ℕ) → begins (text ++ greater_than ∷ []) ≡ false) → (before text : List ℕ)
     → next_is (λ d. not (begins ((before ++ run_while begins before text) ++ d ∷ []))) (after_while begins before text ++ greater_than ∷ []) ≡ true
 unfolding run_while after_while

@@ -46,7 +46,7 @@ use Rattle.std.specs.Str.{bytes_eq}
 abbrev pub end_line : Input → List ℕ → ℕ
 end_line input Y = line_after (input_after input Y) []
 
--- "Data state", "PLAINTEXT state", the states of raw text and "CDATA section state", at the end: what the end tells where nothing
+-- "Data state", "PLAINTEXT state", the states of raw text and "CDATA section state", at the end: what the end tells when nothing
 -- is open. In escaped script data and within a CDATA section it is an error.
 abbrev pub nothing_at_end : Bool → Mode → List Told
 nothing_at_end exact Data = End ∷ []

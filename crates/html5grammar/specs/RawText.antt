@@ -1,4 +1,4 @@
--- Raw text as it is written, without `&` in RCDATA, and what it tells.
+-- The source of raw text, without `&` in RCDATA, and what it tells.
 use Rattle.std.specs.Prelude.{◌≡◌, ℕ, Bool, true, false, List, [], ◌∷◌, ◌++◌, ◌==◌, ◌&&◌, not, nat_eq, length, Option, None, Some, codes, if◌then◌else◌}
 use Rattle.std.specs.List.{list_all}
 use Rattle.std.specs.Str.{bytes_eq}

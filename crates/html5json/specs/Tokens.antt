@@ -10,7 +10,7 @@ use Rattle.json.specs.Json.{Json, null, boolean, number, string, array, object, 
 use Rattle.json.specs.Token.{Token, key, string as string_token}
 use Rattle.markup5ever.specs.Names.{AttributeOf}
 
--- a text, or null where there is none
+-- a text, or null if there is none
 abbrev pub json_of_option : Option (List ℕ) → Json
 json_of_option None = null
 json_of_option (Some text) = string text

@@ -26,8 +26,8 @@ use html5write::laws::whole_text;
 use std::alloc::Allocator;
 
 /// A page that is written of pieces, read by itself with any table by any sink that keeps on after their tags:
-/// what it tells has the items of the pieces, where texts that stand side by side are one (`items`). If
-/// they all fit, and no piece is a comment, the tree that is built of what is told is their nesting (`tree`).
+/// its messages have the items of the pieces, where texts that stand side by side are one (`items`). If
+/// they all fit, and no piece is a comment, the tree that is built of the messages is their nesting (`tree`).
 pub fn tree_of_written_page<S: TokenSink<Token<A>>, A: Allocator>()
     ensures items { (rules : Rules) (K : Start) (s : S.State) (pieces : List pieces.Piece)
         → IsReadBack {S = S.State} rules K S.means.reply pieces

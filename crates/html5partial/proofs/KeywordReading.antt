@@ -31,7 +31,7 @@ declaration-goes_on foreign held c later step = record {
   };
 }
 
--- a character after `<!` that belongs to no keyword ends what is held
+-- a character after `<!` that belongs to no keyword ends the held text
 pub declaration-ends : (foreign : Bool) (held : List ℕ) (c : ℕ)
     → ((exact : Bool) → declaration_step exact foreign held c ≡ record { settled = declaration_error exact held; here = bogus_comment_step exact held [] c })
     → EndsKeyword foreign (InDeclaration held) c
@@ -60,7 +60,7 @@ doctype_keyword-goes_on foreign (first ∷ held) d c later holds step = record {
   };
 }
 
--- a character after a doctype's name that belongs to no keyword ends what is held
+-- a character after a doctype's name that belongs to no keyword ends the held text
 pub doctype_keyword-ends : (foreign : Bool) (held : List ℕ) (d : DoctypeOf) (c : ℕ)
     → ((exact : Bool) → doctype_keyword_step exact held d c ≡ record { settled = keyword_error exact held; here = skipped_step exact [] (with_quirks d) c })
     → EndsKeyword foreign (InDoctypeKeyword held d) c

@@ -22,13 +22,12 @@ is_keyword_open (InDeclaration held) = true
 is_keyword_open (InDoctypeKeyword held doctype) = true
 is_keyword_open other = false
 
--- "Markup declaration open state": whether the sink is asked at a character. It is asked where the character belongs to the keyword
--- of a CDATA section.
+-- "Markup declaration open state": whether a character asks the sink. It does if it belongs to the keyword of a CDATA section.
 abbrev pub asks : Open → ℕ → Bool
 asks (InDeclaration held) c = begins_cdata (held ++ c ∷ [])
 asks other c = false
 
--- whether a keyword is not decided, by the state and what is held
+-- whether a keyword is not decided, by the state and the held text
 abbrev pub holds_keyword_in : State → List ℕ → Bool
 holds_keyword_in state.MarkupDeclarationOpen held = true
 holds_keyword_in state.AfterDoctypeName held = not (length held == 0)

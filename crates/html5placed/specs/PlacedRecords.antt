@@ -39,7 +39,7 @@ pub record PlacedWriting : Type 0 where
   pub bytes : List ℕ
   -- how many of these bytes were taken
   pub taken : ℕ
-  -- where the last token ended that is no error
+  -- where the last token other than an error ended
   pub passed : ℕ
 
 -- nothing was written

@@ -188,8 +188,8 @@ impl<A: Allocator + Copy> PlacedSession<A> {
         next
     }
 
-    /// Whether a piece of so many bytes is within the limit (`set_limit`). What is held counts: the bytes that were read since
-    /// the last token ended that is no error, and the records that wait.
+    /// Whether a piece of so many bytes is within the limit (`set_limit`). Held bytes count: those read since the last
+    /// token other than an error ended, and the records that wait.
     pub fn has_room(&self, more: usize) -> bool
         ensures { result ≡ has_room self.now more }
     {
@@ -232,7 +232,7 @@ impl<A: Allocator + Copy> PlacedSession<A> {
         (session, result)
     }
 
-    // Reads the front of a piece, up to bytes that are no UTF-8, and says their place.
+    // Reads the front of a piece, up to bytes that are not UTF-8, and says their place.
     fn feed_front(mut self, bytes: &[u8]) -> (PlacedSession<A>, Result<(), SessionError>)
         requires refused { IsNeverUtf8 (self.decoder.held ++ bytes.now) }
         requires going_on { is_over self ≡ false }
@@ -257,10 +257,10 @@ impl<A: Allocator + Copy> PlacedSession<A> {
 
     /// Takes a piece of the page, cut anywhere, and reads on.
     ///
-    /// Where bytes of the piece are no UTF-8, whatever follows, those before them are read, and then the answer is `NotUtf8`:
-    /// they are not taken, nor what stands after them, and the next feed goes on with what is to stand in their place. After
-    /// `Memory` the session is as it was, or it is over and the piece is lost. That is also the answer where the places of
-    /// the page no longer fit in a `usize`.
+    /// Where bytes of the piece are not UTF-8, whatever follows, those before them are read, and then the answer is
+    /// `NotUtf8`: neither the invalid bytes nor those after them are taken, and the next feed goes on with what is to
+    /// stand in their place. After `Memory` the session is as it was, or it is over and the piece is lost. That is also
+    /// the answer where the places of the page no longer fit in a `usize`.
     pub fn feed(mut self, bytes: &[u8]) -> (PlacedSession<A>, Result<(), SessionError>)
         ensures feeds { OnOk result.1 (Feeds self result.0 bytes.now) }
         ensures refused { IfErr result.1 (λ error. FeedRefused self result.0 bytes.now error) }

@@ -72,9 +72,9 @@ module _ {S : Type 0} (step : S → Placed → S) where
       (part-later step h0 h i (placed_by r0.rules B before a) (placed_by r0.rules B (before ++ a) b) (placed_by r0.rules B ((before ++ a) ++ b) rest)
       one.handler part)
 
--- ---- what waits in the sink
+-- ---- tokens that wait in the sink
 
--- after nothing waited, what waits is what was kept
+-- if nothing waited before, the kept tokens wait
 pub waiting-all : (tokens placed : List Placed) → handed_on waits tokens placed ≡ tokens ++ placed
 unfolding handed_on
 waiting-all tokens [] = sym (append-nil tokens)

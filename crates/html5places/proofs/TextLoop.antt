@@ -90,7 +90,7 @@ front-taken text rest front count utf8 utf8_rest within left parts =
     ∙ ap (λ l. chars (take count text) ++ chars l) left in
     append_cancel_right (chars (take count text)) front (chars rest) (sym split ∙ parts)
 
--- what stands before the last of some characters
+-- the text before the last of some characters
 front-same : (a b : List ℕ) (x y : ℕ) → a ++ x ∷ [] ≡ b ++ y ∷ [] → a ≡ b
 front-same [] [] x y e = refl
 front-same [] (d ∷ []) x y e = absurd (nil≢cons (cons_rest e))

@@ -107,7 +107,7 @@ impl<A: Allocator> Origins<A> {
         }
     }
 
-    /// Where the byte at a place of the whole text comes from. `None` where no byte was read there, as at the end.
+    /// Where the byte at a place of the whole text comes from. `None` if no byte was read there, as at the end.
     pub fn origin_of(&self, place: usize) -> Option<Origin>
         ensures { result ≡ origin_of self.now place }
     {

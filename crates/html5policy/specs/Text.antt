@@ -23,7 +23,7 @@ abbrev pub is_word : List ℕ → Bool
 is_word [] = false
 is_word (byte ∷ word) = true
 
--- what stands between them
+-- the words between them
 unfoldable pub words : List ℕ → List (List ℕ)
 words line = filter is_word (slice_split is_space line)
 
@@ -99,7 +99,7 @@ rules_said (word ∷ names) = rules_by_word word names
 
 -- ---- the policy
 
--- what comes of the policy with a rule, where nothing was wrong with it
+-- what comes of the policy with a rule, if nothing was wrong with it
 abbrev pub after_rule : (PolicyOf → Result PolicyOf RuleError) → Result PolicyOf RuleError → Result PolicyOf RuleError
 after_rule later (Ok policy) = later policy
 after_rule later (Err fault) = Err fault

@@ -10,7 +10,7 @@ use crate::marks::Marks;
 use crate::rule::Rule;
 use std::alloc::{AllocError, Allocator};
 
-// How many elements may be open where no rule says it.
+// How many elements may be open if no rule says it.
 const STANDARD_DEPTH: usize = 256;
 
 /// An attribute that is kept in elements of that name.

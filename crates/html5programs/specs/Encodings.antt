@@ -9,7 +9,7 @@ use Rattle.markup5ever.specs.NamedReferences.{NamedReference}
 use Rattle.html5programs.specs.declared.encoded.PageDecoding.{PageDecoding}
 use Rattle.html5programs.specs.declared.encoded.PageDecoding.TheVariants.{Utf8Alone, Fatal, ByPage}
 
--- the encoding that a label names, or none where no label is given
+-- the encoding that a label names, or none if no label is given
 abbrev pub IsEncodingAsked : Option (List ℕ) → Option Encoding → Type 0
 IsEncodingAsked None encoding = encoding ≡ None
 IsEncodingAsked (Some label) None = ⊥
@@ -20,7 +20,7 @@ abbrev pub IsUnknownLabel : Option (List ℕ) → Type 0
 IsUnknownLabel None = ⊥
 IsUnknownLabel (Some label) = encoding_of label ≡ None
 
--- how pages are decoded of which this encoding is said, or none, by whether bytes that are none of it are to be refused
+-- how pages are decoded of which this encoding is said, or none, by whether bytes that are invalid in it are to be refused
 abbrev pub decoding_of : Bool → Option Encoding → PageDecoding
 decoding_of true None = Utf8Alone
 decoding_of true (Some encoding) = Fatal encoding

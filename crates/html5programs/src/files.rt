@@ -27,7 +27,7 @@ enum FileError {
     System(io::Error),
     #[error("{0}")]
     Stream(StreamError),
-    // The bytes from this place on, which is on this line, are none of the encoding of this name.
+    // The bytes from this place on, which is on this line, are invalid in the encoding of this name.
     #[error("line {line}: the bytes from place {place} on are no {name}")]
     Bytes {
         name: &'static str,
@@ -77,7 +77,7 @@ fn read_or_error(read: Result<(), PageError>, fault: Option<io::Error>) -> Resul
     }
 }
 
-// Reads what is open, and shows by the meter how much of it was read.
+// Reads the open input, and shows by the meter how much of it was read.
 fn read_input<F: Filter<W>, W: Target + Drop, R: Read, M: Meter>(
     alloc: Global,
     filter: F,

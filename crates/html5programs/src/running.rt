@@ -27,7 +27,7 @@ use std::fs::Files;
 use std::io::{Read, Write};
 use std::rt::Env;
 
-// The settings that the words ask for. Where there are none, it says why.
+// The settings that the words ask for. If there are none, it says why.
 fn read_settings<S: Settings, R: Files + Alloc<A = Global> + Meters, E: Target>(
     rt: &R,
     asked: &Words<'_>,
@@ -165,7 +165,7 @@ fn names_of<'c>(alloc: Global, choices: &[Choice<'c>]) -> Result<Vec<&'c str>, A
     Ok(names)
 }
 
-// Says what is wrong with a word that is no option of a program, or that another must follow.
+// Says what is wrong with a word that is not an option of a program, or that another must follow.
 fn say_wrong<E: Target>(
     alloc: Global,
     choices: &[Choice<'_>],

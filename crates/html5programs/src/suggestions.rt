@@ -33,7 +33,7 @@ fn nearest<'n, A: Allocator + Copy>(
     Ok(found)
 }
 
-/// What is said of a word that is none of these names.
+/// The error for a word that is not among these names.
 pub fn no_such<'n>(alloc: Global, kind: &'n str, names: &[&'n str], word: &str) -> NoSuch<'n> {
     match nearest(alloc, names, word) {
         Ok(Some(name)) => NoSuch::Like { kind, name },

@@ -67,8 +67,8 @@ raw_end_error exact (Escaped dashes) = end_error_in exact (raw_state (Escaped da
 raw_end_error exact (DoubleEscaped dashes) = end_error_in exact (raw_state (DoubleEscaped dashes)) ∷ []
 raw_end_error exact other = []
 
--- "RCDATA less-than sign state", the end tag name states and the escape states, at the end: what is held there is text, and comes
--- first. After `<` and letters the error names double-escaped script data.
+-- "RCDATA less-than sign state", the end tag name states and the escape states, at the end: the held characters there are text,
+-- and come first. After `<` and letters the error names double-escaped script data.
 unfoldable pub told_at_raw_end : Bool → RawPlace → List Told
 told_at_raw_end exact (AfterLessThan kind) = told_after_less_than kind ++ raw_end_error exact (raw_of kind)
 told_at_raw_end exact (InEndName kind letters) = texts (less_than ∷ solidus ∷ letters) ++ raw_end_error exact (raw_of kind)

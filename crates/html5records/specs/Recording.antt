@@ -94,7 +94,7 @@ abbrev pub pause_after_tag : Told → Reply PausedAt
 pause_after_tag (Tag tag) = RunScript paused.Tag
 pause_after_tag other = KeepOn
 
--- the reply to what the sink is sent: where none is wanted it is to read on
+-- the reply to what the sink is sent: if none is wanted it is to read on
 abbrev pub reply_by : Replies → Told → Reply PausedAt
 reply_by None told = KeepOn
 reply_by Standard told = at_script (reply_where_tag standard_reply told)

@@ -19,7 +19,7 @@ use html5write::laws::{all_pieces, whole_text};
 use std::alloc::Allocator;
 
 /// A page of plain pieces, read with any table by any sink that keeps on after their tags, at once or after a
-/// pause, is read but for errors as exactly these pieces and the end.
+/// pause, is read, except for errors, as exactly these pieces and the end.
 pub fn rewritten_page<S: TokenSink<Token<A>>, A: Allocator>()
     ensures { (rules : Rules) (K : Start) (s : S.State) (pieces : List Piece)
         → IsReadBackPlain {S = S.State} rules K S.means.reply pieces
@@ -29,7 +29,7 @@ pub fn rewritten_page<S: TokenSink<Token<A>>, A: Allocator>()
 }
 
 /// Wherever it is put in a page, in Data and with no CR directly before it, such a page tells its pieces,
-/// and is read to where nothing is open: what follows it is read as it would be without it.
+/// and leaves nothing open: the text after it is read as it would be without it.
 pub fn rewritten_part<S: TokenSink<Token<A>>, A: Allocator>()
     ensures { (rules : Rules) (K : Start) (s : S.State) (pieces : List Piece)
         → IsReadBackPlain {S = S.State} rules K S.means.reply pieces

@@ -21,7 +21,7 @@ pub fn can_write(piece: &Piece<'_>) -> bool
     refusal_of(piece).is_none()
 }
 
-// Whether what stands after a start tag of this name is read as markup, by the characters of the name.
+// Whether the text after a start tag of this name is read as markup, by the characters of the name.
 fn reads_markup_after_text(name: &str) -> bool
     ensures { result ≡ reads_markup_after (encode_utf8_all (chars name.now)) }
 {

@@ -49,7 +49,7 @@ none-repeat_from a index (other ∷ later) =
       | false ↦ refl
     ]
 
--- of several reasons in turn there is none where no test fails
+-- of several reasons in turn there is none if no test fails
 none-next : (b : Bool) (e : SerializeError) (o : Option SerializeError) → is_none (if not b then Some e else o) ≡ (b && is_none o)
 none-next true e o = refl
 none-next false e o = refl

@@ -30,7 +30,7 @@ use html5sinks::tags::{TagHandler, TagsOnly};
 use html5sinks::text_runs::{TextRuns, TokenHandler};
 use std::alloc::Allocator;
 
-/// A token that can be written, as it is written where nothing is open in Data, tells that token, wherever
+/// A token that can be written, serialized in Data where nothing is open, tells that token, wherever
 /// it stands and whatever follows: a text its characters one by one, and any other itself, where that an
 /// attribute was left out is not read. It also tells errors, as the original may: they are not written. A
 /// tag leaves open what the sink's reply says, and any other token nothing.
@@ -51,7 +51,7 @@ pub fn tokens<S: TokenSink<Token<A>>, A: Allocator>()
         → proper (all_messages S.means rules K s (tokens_text tokens)) ≡ flat_map read_back tokens ++ End ∷ [] }
 {}
 
-/// Take the tokens that a text tells, and write them. What is written tells, but for errors, exactly these
+/// Take the tokens that a text tells, and write them. What is written tells, except for errors, exactly these
 /// tokens and the end, where the sink keeps on after each tag: a text its characters one by one, a tag
 /// without the mark that an attribute was left out. The first text may be read from any mode in which
 /// nothing is open. That the texts of the tokens are UTF-8 is supposed: those of a program's tokens are.
@@ -63,8 +63,8 @@ pub fn read_again<S: TokenSink<Token<A>>, A: Allocator>()
         → proper (all_messages S.means rules later t (tokens_text tokens)) ≡ flat_map read_back tokens ++ End ∷ [] }
 {}
 
-/// Raw text that can be written, as it is written where raw text of that kind is read, and the end tag of its
-/// element after it, tell exactly its characters and the end tag, but for errors, whatever follows. The
+/// Raw text that can be written, serialized where raw text of that kind is read, and the end tag of its
+/// element after it, tell exactly its characters and the end tag, except for errors, whatever follows. The
 /// sink's reply to the end tag says what is open after it.
 pub fn raw_text<S: TokenSink<Token<A>>, A: Allocator>()
     ensures { (rules : Rules) (K : Start) (s : S.State) (kind : RawKind) (name text : List ℕ) → IsTable rules.references
@@ -86,8 +86,8 @@ pub fn pages<S: TokenSink<Token<A>>, A: Allocator>()
 
 /// Take the tokens that a text tells, read from Data on, to a sink that asks after each tag for what the
 /// standard's elements ask for, and write them as a page: raw text in `script`, `style`, `textarea` and others
-/// as raw text, up to its end tag, and what stands after `plaintext` as plain text. Another sink that asks so,
-/// by rules of its own, is told exactly these tokens and the end by that page, but for errors, whatever the
+/// as raw text, up to its end tag, and the text after `plaintext` as plain text. Another sink that asks so,
+/// by rules of its own, receives exactly these tokens and the end from that page, except for errors, whatever the
 /// text was. It is so with scripting and without, where it is the same for both sinks and for the writer, and
 /// where characters are escaped by names that the reader's table has.
 pub fn page_read_again<S: TokenSink<Token<A>>, R: TokenSink<Token<A>>, A: Allocator>()
@@ -119,7 +119,7 @@ pub fn raw_refusals()
     ensures { (kind : RawKind) (name text : List ℕ) → is_none (raw_refusal kind name text) ≡ can_write_raw kind name text }
 {}
 
-/// Each token that a text tells can be written, by any table of references and for any sink, where nothing
+/// Each token that a text tells can be written, by any table of references and for any sink, when nothing
 /// was open before it: also those of the end, and those that are read in raw text or in foreign content.
 pub fn each_token<S: TokenSink<Token<A>>, A: Allocator>()
     ensures { (rules : Rules) (K : Start) (s : S.State) (text : List ℕ) → IsTable rules.references

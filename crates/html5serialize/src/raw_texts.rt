@@ -1,4 +1,4 @@
-//! Raw text as it is written: what stands in `script`, `style`, `textarea` and others.
+//! Serialized raw text: the content of `script`, `style`, `textarea` and others.
 ghost use Rattle.std.specs.Prelude.{◌≡◌, ◌++◌, chars, encode_utf8_all, string_bytes, OnOk};
 ghost use Rattle.std.specs.List.{list_all};
 ghost use Rattle.html5grammar.specs.Comment.{occurs};

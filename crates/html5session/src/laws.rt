@@ -12,7 +12,7 @@ ghost use Rattle.html5session.specs.Session.{EndRefused, EndsSession, FeedRefuse
 ghost use Rattle.html5session.specs.declared.error.SessionError.{SessionError};
 
 /// A text is read alike however many bytes of the records were taken. It tells the same, a feed pauses at the same tag,
-/// and what follows the text is read from the same start.
+/// and the text after it is read from the same start.
 pub fn readings_ignore_taking()
     ensures told { (rules : Rules) (K : Start) (r : Recorded) (count : ℕ) (text : List ℕ) →
         messages_so_far recorded_means rules K (taking r count) text

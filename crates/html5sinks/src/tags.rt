@@ -120,8 +120,8 @@ impl<H: TagHandler<Tag<A>>, A: Allocator> ReplyingTagHandler<Tag<A>> for H {
     }
 }
 
-/// Hands tags on to a handler, and nothing else. What stands in `script`, `style`, `title` and their
-/// like is no markup, unless the handler replies otherwise.
+/// Hands tags on to a handler, and nothing else. The content of `script`, `style`, `title` and their
+/// like is not markup, unless the handler replies otherwise.
 #[derive(Drop)]
 pub struct TagsOnly<H> {
     handler: H,

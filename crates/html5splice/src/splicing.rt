@@ -121,7 +121,7 @@ impl<H: Drop, O, A: Allocator + Copy> Splicing<H, O, A> {
 }
 
 impl<H: Splicer<Token<A>, A>, O: Output, A: Allocator + Copy> Splicing<H, O, A> {
-    // Takes a token that is no parse error.
+    // Takes a token that is not a parse error.
     fn take_cut(
         &mut self,
         run: &str,

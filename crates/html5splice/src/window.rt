@@ -63,15 +63,15 @@ impl<A: Allocator + Copy> Window<A> {
         }
     }
 
-    // What waits.
+    // The waiting text.
     fn waiting(&self) -> &str
         ensures { result.now ≡ self.now.bytes }
     {
         &self.text[self.gone..]
     }
 
-    // The run of text at the front of what waits, and the token after it, which stand there. There is none where they stand elsewhere, or
-    // begin within a character.
+    // The run of text at the front of the waiting text, and the token after it, which stand there. There is none where
+    // they stand elsewhere, or begin within a character.
     pub fn front(&self, places: Places) -> Option<Front<'_>>
         ensures run { IfSome result (λ front. front.run.now ≡ take (places.begin - self.now.base) self.now.bytes) }
         ensures source { IfSome result (λ front. front.source.now
@@ -85,7 +85,7 @@ impl<A: Allocator + Copy> Window<A> {
         split_twice(self.waiting(), run, source)
     }
 
-    // What waits up to a place is gone.
+    // Drops the waiting text up to a place.
     pub fn pass(&mut self, end: usize)
         requires within { self.old.base ≤ end }
         requires boundary { IsCharBoundary self.old.bytes (end - self.old.base) }

@@ -71,7 +71,7 @@ faults_of (Err Memory) = 0
 faults_of (Err Sink) = 1
 faults_of (Err Failed) = 0
 
--- a refusal of a call that sends: want of memory, or a fault of the sink
+-- a refusal of a call that sends: out of memory, or a fault of the sink
 abbrev pub IsRefusal : TokenizerError → Type 0
 IsRefusal Memory = Unit {0}
 IsRefusal Sink = Unit {0}

@@ -58,7 +58,7 @@ fn read_bytes<R: Source>(source: &mut R, buffer: &mut [u8]) -> Result<usize, Str
     }
 }
 
-// Hands in a text where nothing waits.
+// Hands in a text when the queue is empty.
 fn hand_in<A: Allocator>(queue: &mut BufferQueue<A>, text: String<A>) -> Result<(), StreamError>
     requires { queue.old.text ≡ [] }
     ensures ok { OnOk result (queue.new.text ≡ chars (string_bytes text)) }

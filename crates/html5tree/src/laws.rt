@@ -76,7 +76,7 @@ pub fn fits_in_host()
         → suits stack items ≡ true }
 {}
 
-/// Which hosts are flow hosts: one where nothing is open; a cell or a caption, if no form is open outside it; an
+/// Which hosts are flow hosts: one with nothing open; a cell or a caption, if no form is open outside it; an
 /// element in a flow host that changes nothing, such as a `div`, a `section`, a `ul`, a `span` or a `b`
 /// (`is_neutral`).
 pub fn flow_hosts()
@@ -99,7 +99,7 @@ pub fn narrow_hosts()
 
 /// What the normaliser makes of items (`normal`, specs/Normal), with a limit of how many elements may be open. It
 /// all fits, and leaves no element open (`fits`); nowhere are more elements open than the limit (`within`). So
-/// tree construction builds it as it is nested (`tree`). Items of which this holds already are not changed
+/// tree construction builds it with the same nesting (`tree`). Items of which this holds already are not changed
 /// (`unchanged`): made normal twice they are as once (`twice`). At most eight items are written for each
 /// that is read (`bound`).
 ///
@@ -118,13 +118,13 @@ pub fn normal_items()
         → whole_texts (normal limit items) ≡ whole_texts (normal limit others) }
 {}
 
-/// What the normaliser keeps of items, and what it adds (`Keeps`, specs/Keeping). It writes a part for each item, in their
-/// order. The part has all characters of a text, or the start tag with all its attributes; end tags come and go. A start
-/// tag is left out exactly where it has no place (`has_place`): a part of a table outside one, a form in another, and a tag of
-/// other names than the 94. Added are start tags of `tbody`, `tr`, `colgroup`, `td`, `p` and `br` alone, without attributes.
-/// That is so where eight elements may be open for each item (`all`). By any limit a start tag may be left out, too, and of a
-/// text what is no white space (`some`). Where no more elements would be open than the limit, if more could be, the limit
-/// changes nothing (`not_reached`).
+/// What the normaliser keeps of items, and what it adds (`Keeps`, specs/Keeping). It writes a part for each item, in
+/// their order. The part has all characters of a text, or the start tag with all its attributes; end tags come and go.
+/// A start tag is left out exactly where it has no place (`has_place`): a part of a table outside one, a form in
+/// another, and a tag of other names than the 94. Added are start tags of `tbody`, `tr`, `colgroup`, `td`, `p` and `br`
+/// alone, without attributes. That is so where eight elements may be open for each item (`all`). By any limit a start
+/// tag may be left out, too, and of a text what is not white space (`some`). When no more elements would be open than
+/// the limit, if more could be, the limit changes nothing (`not_reached`).
 pub fn kept_items()
     ensures some { (limit : ℕ) (items : List Item) → Keeps false [] items (normal limit items) }
     ensures all { (limit : ℕ) (items : List Item) → 8 * length items ≤ limit → Keeps true [] items (normal limit items) }

@@ -98,7 +98,7 @@ impl Bound {
     }
 }
 
-/// How many of the innermost open elements are closed so that the innermost that is wanted is closed. 0 where
+/// How many of the innermost open elements are closed so that the innermost that is wanted is closed. 0 if
 /// none is near. The innermost stands last.
 pub fn through(opened: &[ElementName], wanted: Wanted, bound: Bound) -> usize
     ensures value { result ≡ through (is_wanted wanted) (is_bound bound) (names_open opened.now) }

@@ -55,7 +55,7 @@ fn is_plain_piece(piece: &Piece<'_>) -> bool
 }
 
 impl<'a> Writable<'a> {
-    /// Looks at a piece: it is writable where nothing speaks against writing it.
+    /// Looks at a piece: it is writable if nothing speaks against writing it.
     #[inline(always)]
     pub fn new(piece: Piece<'a>) -> Result<Writable<'a>, WriteError>
         ensures same { IfOk result (λ writable. writable ≡ piece.entry) }

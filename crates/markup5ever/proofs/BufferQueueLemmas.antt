@@ -39,7 +39,7 @@ IsReadTo-more text front offset bytes is within utf8 = record {
   rest_utf8 = rw (is, drop-drop) at utf8;
 }
 
--- what waits is what so many bytes take, and what waits then
+-- the queued text is what so many bytes take, and the text queued then
 pub taken_apart : (text waiting : List ℕ) (offset bytes : ℕ) → IsReadTo text offset → chars (drop offset text) ≡ waiting → bytes ≤ length (encode_utf8_all waiting) → IsUtf8 (drop bytes (encode_utf8_all waiting)) → waiting ≡ chars (take bytes (encode_utf8_all waiting)) ++ chars (drop (offset + bytes) text)
 taken_apart text waiting offset bytes read is within utf8 =
     let front = drop offset text in
@@ -81,7 +81,7 @@ pub ends_run : (set : ℕ) (text : List ℕ) → ((c : ℕ) (rest : List ℕ) �
 ends_run set [] stops = tt
 ends_run set (c ∷ rest) stops = stops c rest refl
 
--- a run that begins what waits, and after which each first character is a member of the set
+-- a run that begins the queued text, and after which each first character is a member of the set
 pub rest_ends_run : (set : ℕ) (front run rest : List ℕ) (len : ℕ) → IsUtf8 run → run ≡ take len front → chars front ≡ chars run ++ rest → ((c : ℕ) (cs : List ℕ) → chars (drop len front) ≡ c ∷ cs → IsMember set c) → EndsRun set rest
 rest_ends_run set front run rest len utf8 run_is split stops =
     let cut : chars front ≡ chars run ++ chars (drop len front) = rw run_is (chars_cut front len (rw run_is at utf8)) in

@@ -118,8 +118,8 @@ fn make_boundary<A: Allocator>(text: &mut String<A>, offset: usize, at: usize) -
     text.is_char_boundary(at)
 }
 
-// Writes a text over the end of what was taken, so that it waits in front of the rest. Answers `false` where there is no
-// room: then what waits stays.
+// Writes a text over the end of what was taken, so that it waits in front of the rest. Answers `false` where there is
+// no room: then the queued text stays.
 fn write_in_front<A: Allocator>(text: &mut String<A>, offset: &mut usize, front: &str) -> bool
     requires { IsReadTo (string_bytes text.old) offset.old }
     ensures written { IsTrue result → drop offset.new (string_bytes text.new)
@@ -229,7 +229,7 @@ impl<A: Allocator> BufferQueue<A> {
         Ok(())
     }
 
-    /// Hands in a text in front of what waits. It comes back where there is no memory for it.
+    /// Hands in a text in front of the queued text. It comes back where there is no memory for it.
     pub fn push_front(&mut self, text: String<A>) -> Result<(), String<A>>
         ensures ok { OnOk result (GainsFront self.old self.new (chars (string_bytes text))) }
         ensures err { OnErr result (self.new ≡ self.old) }
@@ -242,7 +242,7 @@ impl<A: Allocator> BufferQueue<A> {
         Ok(())
     }
 
-    /// Puts a text that was handed in before in front of what waits. It comes back where there is no
+    /// Puts a text that was handed in before in front of the queued text. It comes back where there is no
     /// memory for it.
     pub fn give_back(&mut self, mut text: String<A>) -> Result<(), String<A>>
         ensures ok { OnOk result (TakesBack self.old self.new (chars (string_bytes text))) }
@@ -286,8 +286,8 @@ impl<A: Allocator> BufferQueue<A> {
         Some(c)
     }
 
-    /// Takes the pattern where what waits begins with it, and answers whether it does. `None` where
-    /// what waits ends before that is decided.
+    /// Takes the pattern if the queued text begins with it, and answers whether it does. `None` if the queued text ends
+    /// before that is decided.
     pub fn eat(&mut self, pat: &str, case: Case) -> Option<bool>
         requires filled { pat.now ≢ [] }
         requires ascii { IsAscii pat.now }
@@ -321,7 +321,7 @@ impl<A: Allocator> BufferQueue<A> {
         &text[self.offset..]
     }
 
-    /// Takes so many bytes of what waits.
+    /// Takes so many bytes of the queued text.
     #[inline(always)]
     pub fn skip(&mut self, bytes: usize)
         requires within { bytes ≤ length (encode_utf8_all self.old.text) }

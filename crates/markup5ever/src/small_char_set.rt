@@ -9,7 +9,7 @@ use crate::blocks::{BLOCK, Sought, first_from, lowest_bit};
 use std::marker::Model;
 use std::simd::prelude::*;
 
-// The bits of a byte, lowest first. What stands after them is never looked up.
+// The bits of a byte, lowest first. The entries after them are never looked up.
 const BITS: [u8; 16] = [1, 2, 4, 8, 16, 32, 64, 128, 0, 0, 0, 0, 0, 0, 0, 0];
 
 /// A set of characters below 64, as one number of 64 bits.

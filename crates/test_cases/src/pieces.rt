@@ -22,7 +22,7 @@ pub enum Cutting {
     Characters,
 }
 
-// The text before so many characters, and what follows it.
+// The text up to so many characters, and the rest.
 fn halves_of(alloc: Global, text: &str, count: usize) -> Result<Vec<String>, AllocError> {
     let mut first = String::new(alloc);
     let mut second = String::new(alloc);
@@ -75,7 +75,7 @@ impl Due {
     }
 }
 
-// The answer of a call to a tokenizer as one about a case: its sinks fail for want of memory alone.
+// The answer of a call to a tokenizer as one about a case: its sinks fail only when out of memory.
 fn answered(answer: Result<(), TokenizerError>) -> Result<(), CaseError> {
     match answer {
         Ok(()) => Ok(()),

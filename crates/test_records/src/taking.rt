@@ -15,7 +15,7 @@ fn records(rt: &impl Abort, alloc: Global, rounds: usize) -> Vec<u8> {
     all
 }
 
-// Takes what waits, in pieces of at most so many bytes, while it may.
+// Takes the waiting bytes, in pieces of at most so many bytes, while it may.
 fn take_pieces(
     rt: &impl Abort,
     sink: &mut RecordSink<Global>,

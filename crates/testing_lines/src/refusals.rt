@@ -120,7 +120,7 @@ fn error_of(played: &Played) -> Option<&str> {
     }
 }
 
-// Counts a refusal by the word of its error. One of the script's own memory is none of the tokenizer.
+// Counts a refusal by the word of its error. One of the script's own memory is not the tokenizer's.
 fn count(refusals: &mut Refusals, error: &str) {
     match error {
         "memory" => refusals.in_tokenizer = refusals.in_tokenizer.wrapping_add(1),

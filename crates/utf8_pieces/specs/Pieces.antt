@@ -20,7 +20,7 @@ pub record IsCutCharacter (bytes : List ℕ) : Type 0 where
   pub some : 0 < length rest
   pub whole : encode_utf8 character ≡ bytes ++ rest
 
--- whatever follows them, the bytes are no UTF-8
+-- whatever follows them, the bytes are not UTF-8
 abbrev pub IsNeverUtf8 : List ℕ → Type 0
 IsNeverUtf8 bytes = (later : List ℕ) → ¬ (IsUtf8 (bytes ++ later))
 

@@ -56,9 +56,9 @@ pub fn feed_until_done<S: TokenSink<Token<A>>, A: Allocator + Copy>(
 /// What a run hands in before it feeds once more.
 #[derive(Drop)]
 pub enum Step<A: Allocator = Global> {
-    /// A text after what waits.
+    /// A text after the queued text.
     Push(String<A>),
-    /// A text in front of what waits.
+    /// A text in front of the queued text.
     Insert(String<A>),
 }
 

@@ -17,7 +17,7 @@ use markup5ever::buffer_queue::BufferQueue;
 use markup5ever::data::NamedReferences;
 use std::alloc::Allocator;
 
-// Feeds a tokenizer what waits, and ends.
+// Feeds a tokenizer the queued text, and ends.
 fn read_waiting<S: TokenSink<Token<A>>, A: Allocator + Copy>(
     tokenizer: &mut Tokenizer<'_, S, A>,
     queue: &mut BufferQueue<A>,
@@ -34,7 +34,7 @@ fn read_waiting<S: TokenSink<Token<A>>, A: Allocator + Copy>(
     tokenizer.end()
 }
 
-// Reads what waits from the start of a stream.
+// Reads the queued text from the start of a stream.
 fn read_from_start<S: TokenSink<Token<A>>, A: Allocator + Copy>(
     alloc: A,
     sink: S,

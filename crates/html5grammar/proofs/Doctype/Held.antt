@@ -1,4 +1,4 @@
--- What is held of `doctype`, `public` and `system`, also where no keyword comes.
+-- The held text of `doctype`, `public` and `system`, also when no keyword comes.
 use Rattle.std.proofs.Common.{◌≡◌, ℕ, Bool, true, false, List, [], ◌∷◌, ◌++◌, length, refl, ap, sym, ◌∙◌}
 use Rattle.std.specs.Prelude.{◌==◌, ◌||◌, not, codes, nat_eq}
 use Rattle.std.specs.Char.{to_ascii_lowercase}
@@ -68,7 +68,7 @@ leads-doctype_word rules (c ∷ word) h =
 
 -- ---- `public` and `system`
 
--- a beginning of one keyword is none of the other
+-- a beginning of one keyword does not begin the other
 no_other : (kind other : DoctypeIdKind) (past rest : List ℕ) → begins_with (keyword_of other) (keyword_of kind) ≡ false
     → lower_case (past ++ rest) ≡ keyword_of kind → is_keyword other past ≡ false
 no_other kind other past rest apart e =
@@ -151,7 +151,7 @@ module _ (rules : Rules) (d : DoctypeOf) where
       → Leads rules (InDoctype AfterName d) (spell_silent keyword) (InDoctype (AfterKeyword kind) d)
   leads-keyword kind keyword h = leads-letters kind keyword (same_text (lower_case keyword) (keyword_of kind) (sym h))
 
--- ---- where no keyword comes
+-- ---- when no keyword comes
 
 -- no keyword comes within a rest that begins with none
 no_keyword : (kind : DoctypeIdKind) (rest held : List ℕ) (c : ℕ) (later : List ℕ) → begins_with (keyword_of kind) (lower_case rest) ≡ false

@@ -109,7 +109,7 @@ record IsMarkup (exact : Bool) (raw : Raw) (name : List ℕ) (c : ℕ) : Type 0 
   same : (c == line_feed) ≡ false
   anew : (standing : Standing) → continues name standing c ≡ false
 
--- a character of raw text that is no text by itself is markup
+-- a character of raw text that is not text by itself is markup
 is-markup : (exact : Bool) (raw : Raw) (name : List ℕ) (c : ℕ) → is_raw_text raw c ≡ false → IsMarkup exact raw name c
 unfolding raw_step is_bad_character
 is-markup exact raw name c h = at (c == less_than) (is_rcdata raw && (c == ampersand)) refl refl h

@@ -174,7 +174,7 @@ where
         self.spare.take().ok_or(Stop::BadStep)
     }
 
-    // Puts a fresh sink in, where nothing is pending.
+    // Puts a fresh sink in, when nothing is pending.
     fn put_fresh_sink(&mut self) -> Result<(), Stop> {
         if !self.tokenizer.nothing_pending() {
             return Err(Stop::BadStep);
@@ -310,7 +310,7 @@ where
         }
     }
 
-    // What waits, and the lines that the sink shows.
+    // The queued text, and the lines that the sink shows.
     fn left(&self) -> Result<(String, String), AllocError> {
         let waiting = String::from_str(self.stage.ample, self.queue.front_text())?;
         Ok((waiting, self.lines()?))
