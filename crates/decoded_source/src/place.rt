@@ -4,7 +4,7 @@ ghost use Rattle.decoded_source.specs.Lines.{ends_in_cr, line_ends};
 
 use crate::lines::line_ends;
 
-/// How many bytes were decoded, how many of them the whole characters are of, how many lines end in their text, and
+/// How many bytes were decoded, how many of them the whole characters take, how many lines end in their text, and
 /// whether that ends in CR. A number past `u64::MAX` is said to be `u64::MAX`.
 #[derive(Clone, Copy, Debug, PartialEq, Eq)]
 pub struct Place {

@@ -23,7 +23,7 @@ pub record Buffered : Type 0 where
 abbrev pub buffer_start : PolicyOf → ℕ → Buffered
 buffer_start policy taken = record { policy = policy; out = record { bytes = []; taken = taken }; hidden = nothing_hidden; opened = [] }
 
--- a run of text and the token after it: what is written of them waits after what waited
+-- a run of text and the token after it: their output waits after the bytes that waited
 abbrev pub buffered_step : Buffered → List ℕ → Told → ℕ → Buffered
 buffered_step b run told line = record {
   policy = b.policy;

@@ -13,15 +13,15 @@ use html5elements::is_void;
 use html5write::{Piece, Writable, WriteError, Writer};
 use std::alloc::Allocator;
 
-/// What is left to be done with the elements that are open: closing so many of them undoes what was
-/// begun, and closing so many ends it.
+/// How a step on the open elements ends: closing the innermost `undo` of them takes it back, closing
+/// the innermost `close` completes it.
 #[derive(Clone, Copy, Debug, PartialEq, Eq)]
 pub struct Change {
     pub undo: usize,
     pub close: usize,
 }
 
-/// Nothing is left to be done.
+/// No step is left.
 pub const NO_CHANGE: Change = Change { undo: 0, close: 0 };
 
 // Whether an element of this name has no end tag, by its characters.

@@ -15,15 +15,15 @@ use std::mem;
 pub struct Opened<A: Allocator> {
     pub tags: OpenElements<A>,
     pub tree: Nesting<A>,
-    /// What will be open in the tree, once what was written stands where it should.
+    /// What will be open in the tree, once The output reached its place: completes the step.
     pub next: Nesting<A>,
 }
 
-/// The change to the open elements that is left to make, once the output stands where it should.
+/// The step on the open elements that is left, once the output reached its place.
 #[derive(Clone, Copy, Debug, PartialEq, Eq)]
 pub enum Pending {
     Tags(Change),
-    /// What will be open in the tree takes the place of what is.
+    /// The next open elements of the tree replace the current ones.
     Tree,
     /// The open elements stay open.
     Nothing,
@@ -46,7 +46,7 @@ impl<A: Allocator + Copy> Opened<A> {
         }
     }
 
-    /// What was written stands where it should.
+    /// The output reached its place: completes the step.
     pub fn settle(&mut self, pending: Pending)
         ensures { self.new ≡ settled pending self.old }
     {
@@ -60,7 +60,7 @@ impl<A: Allocator + Copy> Opened<A> {
         }
     }
 
-    /// What was written is nowhere.
+    /// The output was dropped: takes the step back.
     pub fn undo(&mut self, pending: Pending)
         ensures { self.new ≡ undone pending self.old }
     {

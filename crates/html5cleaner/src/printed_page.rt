@@ -18,7 +18,7 @@ use html5stream::{StreamError, read_tokens};
 use markup5ever::data::NamedReferences;
 use std::alloc::{Allocator, Global};
 
-/// The pieces that are kept of any messages, as those of a page or of a beginning of it, are clean, where a policy
+/// The pieces that are kept of any messages, as those of a page or of a prefix of it, are clean, where a policy
 /// with the rule `tree` is sound, as each that is made is: so `laws::cleaned_page` says how what is printed of a page
 /// is read.
 pub fn prints_clean_pieces()

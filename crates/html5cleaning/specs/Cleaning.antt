@@ -89,7 +89,7 @@ abbrev pub EndsFed : CleaningOf → CleaningOf → Type 0
 EndsFed old new =
     (policy : PolicyOf) (references : List NamedReference) (bytes : List ℕ) → Fed policy references old bytes → Ended policy references new bytes
 
--- of the bytes that were fed and these a beginning was fed: all that stands before bytes that are not UTF-8
+-- of the bytes that were fed and these a prefix was fed: all that stands before bytes that are not UTF-8
 pub record FedUpTo (policy : PolicyOf) (references : List NamedReference) (s : CleaningOf) (bytes : List ℕ) : Type 0 where
   pub front : List ℕ
   pub rest : List ℕ

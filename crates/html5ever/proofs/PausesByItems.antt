@@ -1,4 +1,4 @@
--- A feed takes the shortest beginning whose items tell, as the last message, a tag to which the sink's reply pauses.
+-- A feed takes the shortest prefix whose items tell, as the last message, a tag to which the sink's reply pauses.
 use Rattle.std.proofs.Common.{◌≡◌, ℕ, Bool, true, false, List, [], ◌∷◌, ◌++◌, refl, ap, sym, ◌∙◌, subst, length, drop}
 use Rattle.std.specs.Prelude.{◌≢◌, ◌==◌, ◌&&◌, codes, cond, if◌then◌else◌}
 use Rattle.std.proofs.Math.Seq.{drop-append_seam}

@@ -107,7 +107,7 @@ impl<'t, Sink: TokenSink<Token<A>>, A: Allocator + Copy> Tokenizer<'t, Sink, A> 
 
     /// Reads the text that waits in the queue, up to the first tag after which the sink asks to
     /// pause. Then the queue holds the text after that tag's `>`. Text may be put in front of it, and
-    /// the caller goes on by feeding again. After a refusal the queue holds an end of the text that
+    /// the caller goes on by feeding again. After a refusal the queue holds a suffix of the text that
     /// it held, and every further call is refused.
     pub fn feed(
         &mut self,
@@ -115,7 +115,7 @@ impl<'t, Sink: TokenSink<Token<A>>, A: Allocator + Copy> Tokenizer<'t, Sink, A> 
     ) -> Result<TokenizerResult<Sink::Handle, String<A>>, TokenizerError>
         requires { self.old.ended ≡ false }
 
-        // What an `Ok` says: a beginning of the queue's text was taken, and the sink was sent exactly
+        // What an `Ok` says: a prefix of the queue's text was taken, and the sink was sent exactly
         // what that decides. The rest waits, and the answer is the reply that pauses.
         ensures reads { IfOk result (λ answer.
             Feeds Sink.means self.old self.new queue.old.text queue.new.text (reply_in string_bytes answer)) }

@@ -40,7 +40,7 @@ pub record ReadsFront (text : List ℕ) (bytes : ℕ) (opened later : Open) : Ty
   pub rest_utf8 : IsUtf8 (drop bytes text)
   pub quiet : ReadsQuietly opened (chars (take bytes text)) later
 
--- a beginning of the text was read so, and memory was refused for what begins with the next character
+-- a prefix of the text was read so, and memory was refused for what begins with the next character
 pub record StopsQuietly (opened : Open) (text : List ℕ) : Type 0 where
   pub front : List ℕ
   pub item : List ℕ

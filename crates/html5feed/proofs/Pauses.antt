@@ -182,7 +182,7 @@ module _ {X S H : Type 0} (means : Means X S H) (rules : Rules) where
       ∙ ap (λ N. takes_before (c ∷ Y) (feed means rules N (state_after means rules P t Y) [] Q)) (sym (after-append means.step means.reply means.foreign rules K s (c ∷ []) Y))
       ∙ ap (λ v. takes_before (c ∷ Y) (feed means rules (start_after means rules K s (c ∷ Y)) v [] Q)) (sym (state_beyond-append K s (c ∷ []) Y))
 
-  -- a feed takes a beginning of the queue's text
+  -- a feed takes a prefix of the queue's text
   pub feed-parts : (K : Start) (s : S) (X Q : List ℕ) → (feed means rules K s X Q).taken ++ (feed means rules K s X Q).left ≡ Q
   unfolding feed
   feed-parts K s X [] = refl

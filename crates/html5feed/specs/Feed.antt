@@ -22,7 +22,7 @@ reply_in bytes Done = KeepOn
 reply_in bytes (Script handle) = RunScript handle
 reply_in bytes (EncodingIndicator text) = SwitchEncoding (bytes text)
 
--- the beginning of the queue's text that one feed takes, the rest that it leaves, and the reply that it hands on
+-- the prefix of the queue's text that one feed takes, the rest that it leaves, and the reply that it hands on
 pub record Feed (H : Type 0) : Type 0 where
   pub taken : List ℕ
   pub left : List ℕ
@@ -62,7 +62,7 @@ module _ {X S H : Type 0} (means : Means X S H) where
   feed rules K s text [] = record { taken = []; left = []; answer = KeepOn }
   feed rules K s text (c ∷ queue) = up_to_pause (pause_at rules K s text c) c queue (feed rules K s (text ++ c ∷ []) queue)
 
--- what is left of a text is an end of it
+-- what is left of a text is a suffix of it
 pub record IsEndOf (left text : List ℕ) : Type 0 where
   pub front : List ℕ
   pub parts : text ≡ front ++ left

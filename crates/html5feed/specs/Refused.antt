@@ -1,4 +1,4 @@
--- What a refused feed leaves: which beginning of the queue's text is gone, and how much of what it tells was sent.
+-- What a refused feed leaves: which prefix of the queue's text is gone, and how much of what it tells was sent.
 use Rattle.std.specs.Prelude.{◌≡◌, ◌≤◌, ◌⊎◌, ℕ, false, List, ◌++◌, length, All}
 use Rattle.html5ever_interface.specs.Sink.{Means}
 use Rattle.html5reading.specs.Reading.{state_after, start_after}

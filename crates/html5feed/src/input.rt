@@ -9,10 +9,10 @@ use std::simd::prelude::*;
 // How many bytes are looked at in one step.
 const BLOCK: usize = 16;
 
-// How many are of a text that is shorter than a block.
+// How many in a text that is shorter than a block.
 const HALF: usize = 8;
 
-// How many are of one that is shorter than half a block.
+// How many in one that is shorter than half a block.
 const QUARTER: usize = 4;
 
 /// How the characters of a stream come in: the line that was reached, and whether the next character

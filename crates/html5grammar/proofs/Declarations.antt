@@ -33,9 +33,9 @@ use Rattle.html5grammar.specs.Declarations.{may_begin, IsOpenKeyword, IsOpenBogu
 use Rattle.html5grammar.proofs.Comment.Forms.{begins-parts}
 use Rattle.html5grammar.proofs.Telling.{TellsAll, tells-trace}
 
--- ---- beginnings of keywords
+-- ---- prefixes of keywords
 
--- a beginning of what begins a word begins it too
+-- a prefix of what begins a word begins it too
 pub begins-front : (word a b : List ℕ) → starts_with nat_eq word (a ++ b) ≡ true → starts_with nat_eq word a ≡ true
 begins-front word a b h =
     let later : List ℕ = drop (length (a ++ b)) word in

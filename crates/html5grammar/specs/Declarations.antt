@@ -32,7 +32,7 @@ use Rattle.html5reading.specs.Tag.{null_error}
 unfoldable pub may_begin : Bool → List ℕ → Bool
 may_begin foreign text = begins_keyword text || (foreign && begins_cdata text)
 
--- "Markup declaration open state", at the end: the text Y is `<!` and a beginning of a keyword, but not the whole of one
+-- "Markup declaration open state", at the end: the text Y is `<!` and a prefix of a keyword, but not the whole of one
 pub record IsOpenKeyword (K : Start) (foreign : Bool) (Y : List ℕ) (held : List ℕ) : Type 0 where
   pub starts : K.opened ≡ Between Data
   pub opens : can_open foreign ExclamationMark held ≡ true

@@ -297,7 +297,7 @@ spell_name exact word space first rest later =
     ++ (record { character = first; told = direct_error space (error_in exact state.Doctype first) ++ null_error exact state.BeforeDoctypeName first }
     ∷ spell (null_error exact state.DoctypeName) rest ++ spell_silent later)
 
--- "After DOCTYPE name state": the longest beginning of a rest that is a beginning of a keyword
+-- "After DOCTYPE name state": the longest prefix of a rest that is a prefix of a keyword
 abbrev pub held_of : List ℕ → List ℕ
 held_of rest = run_while begins_doctype_keyword [] rest
 

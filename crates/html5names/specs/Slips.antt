@@ -5,7 +5,7 @@ use Rattle.std.specs.List.{find, list_all, list_any}
 use Rattle.std.specs.Option.{option_or}
 use Rattle.std.specs.Str.{bytes_eq}
 
--- what is left of two names after the longest beginning that they share
+-- what is left of two names after the longest prefix that they share
 abbrev pub rests : List ℕ → List ℕ → List ℕ × List ℕ
 rests [] other = ([], other)
 rests (a ∷ name) [] = (a ∷ name, [])

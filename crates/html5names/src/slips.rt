@@ -4,7 +4,7 @@ ghost use Rattle.std.specs.Char.{is_ascii_alphanumeric};
 ghost use Rattle.std.specs.List.{list_all};
 ghost use Rattle.html5names.specs.Slips.{has_one_more, differs_by_one, has_one_other, is_near, is_swap_of, is_swapped, may_be_slip, rests};
 
-// What is left of two names after the longest beginning that they share.
+// What is left of two names after the longest prefix that they share.
 #[tactic(auto, using(crate::proofs::Rests::first_ends, crate::proofs::Rests::second_ends, crate::proofs::Rests::apart))]
 fn rests<'n>(name: &'n [u8], other: &'n [u8]) -> (&'n [u8], &'n [u8])
     ensures { (result.0.now, result.1.now) ≡ rests name.now other.now }

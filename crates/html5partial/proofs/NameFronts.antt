@@ -24,7 +24,7 @@ use Rattle.markup5ever.specs.NamedReferences.{NamedReference, begins_name}
 abbrev IsPlain : ℕ → Type 0
 IsPlain c = (number_sign ≤ c) × (c ≤ 0x7A)
 
--- ---- a name that begins with a text begins with each beginning of it
+-- ---- a name that begins with a text begins with each prefix of it
 
 starts-front : (name text rest : List ℕ) → starts_with nat_eq name (text ++ rest) ≡ true → starts_with nat_eq name text ≡ true
 starts-front name text rest starts =

@@ -257,7 +257,7 @@ pub fn longest_name<A: Allocator>(references: &NamedReferences<A>, text: &str) -
     longest_by_beginnings(references, text)
 }
 
-// The longest name with which the text begins, by its beginnings, as long as a name begins so.
+// The longest name with which the text begins, by its prefixes, as long as a name begins so.
 fn longest_by_beginnings<A: Allocator>(references: &NamedReferences<A>, text: &str) -> Option<Named>
     requires { IsAscii text.now }
     ensures { IsNamed text.now result (longest_name references.now text.now) }

@@ -13,7 +13,7 @@ use Rattle.html5places.proofs.Pieces.{has_no_token, has_token-append, placed_by-
 use Rattle.html5places.proofs.HandingOn.{place-after}
 use Rattle.html5places.proofs.ManyCharacters.{reads-append, reads-none, stops-append}
 
--- of a text a beginning was read, and these bytes are left
+-- of a text a prefix was read, and these bytes are left
 pub record HasRead {S : Type 0} (step : S → Placed → S) (t0 t : Reader) (h0 h : S) (text rest : List ℕ) : Type 0 where
   pub front : List ℕ
   pub parts : chars text ≡ front ++ chars rest

@@ -40,7 +40,7 @@ pub record StandsAfter (r : Reading) (B : Beginning) (before : List ℕ) : Type 
   pub position : r.position ≡ start_after standard r.rules B.start tt before
   pub marks : r.marks ≡ marks_of r.rules B before
 
--- a handler was handed a beginning of these tokens
+-- a handler was handed a prefix of these tokens
 pub record IsPart {S : Type 0} (step : S → Placed → S) (h : S) (placed : List Placed) (i : S) : Type 0 where
   pub front : List Placed
   pub back : List Placed

@@ -153,8 +153,8 @@ impl<'r, A: Allocator + Copy> PlaceReader<'r, A> {
         Ok(())
     }
 
-    /// Reads a text on. Each token that its characters tell is handed over. After `Memory` and `Handler` the handler was
-    /// handed a beginning of these tokens.
+    /// Reads a text on. Each token that its characters tell is handed over. After `Memory` and `Handler` the handler
+    /// was handed a prefix of these tokens.
     pub fn read<H: PlacedHandler<Token<A>>>(
         &mut self,
         text: &str,

@@ -41,7 +41,7 @@ fn refusal(error: PlaceError) -> TokenizerError
 /// as that after `&amp`; one that the end decides stands at the end.
 ///
 /// `Sink` says that the handler refused a token, and `Memory` that there was no memory. After either the handler was
-/// handed a beginning of the tokens.
+/// handed a prefix of the tokens.
 pub fn read_places<H: PlacedHandler<Token<A>>, A: Allocator + Copy>(
     alloc: A,
     references: &NamedReferences<A>,

@@ -16,7 +16,7 @@ module _ {E : Type 0} (contents : E → Option (List ℕ)) (program what : List 
   says-nothing target None = tt
   says-nothing target (Some why) = (0, omega arith, appends-none (contents target))
 
-  -- where it was written, or a beginning of it was
+  -- where it was written, or a prefix of it was
   says-written : {A B : Type 0} (before after : E) (line : List ℕ) (r : Result A B)
       → OnOk r (Appends (contents before) (contents after) line) → OnErr r (AppendsBeginning (contents before) (contents after) line)
       → SaysLine contents before after line

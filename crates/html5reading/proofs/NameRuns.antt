@@ -73,7 +73,7 @@ longest-run references held (c ∷ text) other =
           ∙ sym (longest-after references held c text (or-left_false (begins_name references (held ++ c ∷ [])) _ (sym (undecided-name references held c (no_number-front held c text other)) ∙ decides)))
     ] refl
 
--- ---- beginnings of a text that a name begins, or none
+-- ---- prefixes of a text that a name begins, or none
 
 starts-longer : (text more name : List ℕ) → starts_with nat_eq text name ≡ true → starts_with nat_eq (text ++ more) name ≡ true
 starts-longer text more name starts =
@@ -132,7 +132,7 @@ absorbed true a n h = refl
 absorbed false a true h = absurd (false≢true (h refl))
 absorbed false a false h = and-false a
 
--- where a name begins the text, the held text is the longest beginning of the text that begins a name
+-- where a name begins the text, the held text is the longest prefix of the text that begins a name
 pub held-named : (references : List NamedReference) (held text : List ℕ) → IsNoNumber (held ++ text) → is_none (longest_name references (held ++ text)) ≡ false
     → run_while (is_undecided references) held text ≡ run_while (begins_name references) held text
 unfolding run_while

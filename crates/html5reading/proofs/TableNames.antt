@@ -195,7 +195,7 @@ none_begins (x ∷ references) text plain odd =
 
 -- ---- the name of an entry
 
--- a table has a name that begins with each beginning of it
+-- a table has a name that begins with each prefix of it
 begins-append : (text rest : List ℕ) → starts_with nat_eq (text ++ rest) text ≡ true
 begins-append text rest =
     (starts_is Decides-eqb (text ++ rest) text (starts_with nat_eq (text ++ rest) text) refl).1 rest refl

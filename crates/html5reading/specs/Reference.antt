@@ -1,4 +1,4 @@
--- Character references: `&` and a name of the table, or `&#` and a number. The held text is the longest beginning of the text
+-- Character references: `&` and a name of the table, or `&#` and a number. The held text is the longest prefix of the text
 -- after `&` that leaves the reference undecided. The character after it decides, or the end.
 -- The slices at the end are vocabulary of proofs: `html5grammar/specs/Reference` says how a reference is written.
 use Rattle.std.specs.Prelude.{ℕ, ◌+◌, ◌-◌, ◌%◌, ◌^◌, suc, Bool, true, false, List, [], ◌∷◌, ◌++◌, ◌==◌, ◌||◌, ◌&&◌, nat_lt, nat_eq, length, drop, replicate, codes, encode_utf8, map, Option, Some, None, not, flat_map, encode_utf8_all, if◌then◌else◌}

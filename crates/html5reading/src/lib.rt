@@ -36,7 +36,7 @@ pub fn forgetting<S: TokenSink<Token<A>>, A: Allocator>()
         (state_after S.means rules K s text) rest }
 {}
 
-/// What the sink is sent of a text is a beginning of what it is sent of that text and more.
+/// What the sink is sent of a text is a prefix of what it is sent of that text and more.
 pub fn beginning<S: TokenSink<Token<A>>, A: Allocator>()
     ensures { (rules : Rules) (K : Start) (s : S.State) (text rest : List ℕ) → (later : List Message)
         × (messages_so_far S.means rules K s (text ++ rest)
@@ -54,8 +54,8 @@ pub fn told_of_a_split<S: TokenSink<Token<A>>, A: Allocator>()
 
 /// Names after an `&` that no `#` follows. When a reference is decided, the longest name that begins
 /// the held text is the longest that begins the whole text. By a table the held text is the longest
-/// beginning of the text that begins a name. When no name begins the text, it is the text's letters
-/// and digits up to another character.
+/// prefix of the text that begins a name. When no name begins the text, it is the text's letters and
+/// digits up to another character.
 pub fn longest_name_of_text()
     ensures name { (references : List NamedReference) (text : List ℕ) → first_or text None ≢ Some number_sign →
         longest_name references (run_while (is_undecided references) [] text) ≡ longest_name references text }

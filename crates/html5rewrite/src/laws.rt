@@ -45,7 +45,7 @@ pub fn plain_pieces_are_markup<S: TokenSink<Token<A>>, A: Allocator>()
         → FollowsStandard {S = S.State} S.means.reply → KeepsOn {S = S.State} S.means.reply pieces }
 {}
 
-/// The pieces that any rewriter keeps of any messages, as those of a page or of a beginning of it, are
+/// The pieces that any rewriter keeps of any messages, as those of a page or of a prefix of it, are
 /// plain.
 pub fn written_pieces_are_plain()
     ensures { (rewriter : Rewriter) (M : List Message) → list_all is_plain (pieces_of rewriter M) ≡ true }

@@ -57,7 +57,7 @@ abbrev pub keeps_on : {H : Type 0} → Reply H → Bool
 keeps_on KeepOn = true
 keeps_on other = false
 
--- after a call that read what waited: the rest of the text waits, and all else is as the piece left it
+-- after a call that read the waiting text: the rest of the text waits, and all else is as the piece left it
 abbrev pub intake_after : {X : Type 0} → Bool → SessionOf X → IntakeOf → List ℕ → IntakeOf
 intake_after all new taken left = record taken { text = left; unsettled = unsettled_after (all && nothing_open_in new) taken.unsettled }
 
@@ -90,7 +90,7 @@ pub record EndSaysFault {X : Type 0} (old new : SessionOf X) (place : ℕ) : Typ
 module _ {X S H : Type 0} (means : Means X S H) where
   -- ---- what one feed of the text that waits does
 
-  -- from wherever the tokenizer stood, a beginning of the text was read, up to a pause or all of it, and the rest waits
+  -- from wherever the tokenizer stood, a prefix of the text was read, up to a pause or all of it, and the rest waits
   pub record FeedsText (old new : Tokenizing X) (text left : List ℕ) (reply : Reply H) : Type 0 where
     pub feeds : Feeds means old new text left reply
     pub items : FeedsItems means old new text left reply
@@ -108,7 +108,8 @@ module _ {X S H : Type 0} (means : Means X S H) where
 
   -- ---- a feed
 
-  -- a piece was fed: of what waited and the text that was taken of the piece a beginning was read, up to this pause, and the rest waits
+  -- a piece was fed: of the waiting text and the text that was taken of the piece a prefix was read, up to this pause, and the rest
+  -- waits
   pub record FeedsPiece (old new : SessionOf X) (piece : Piece) (reply : Reply H) : Type 0 where
     pub text : List ℕ
     pub taken : IntakeOf

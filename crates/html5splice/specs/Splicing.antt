@@ -99,7 +99,7 @@ module _ {S : Type 0} (splices : Splices S) where
   abbrev pub text_parts : Rules → Start → S → List ℕ → List (List ℕ)
   text_parts rules K s text = parts splices s (cuts rules K text)
 
-  -- a beginning of that was written after these bytes
+  -- a prefix of that was written after these bytes
   pub record WritesBeginning (rules : Rules) (K : Start) (s : S) (written text after : List ℕ) : Type 0 where
     pub front : List (List ℕ)
     pub back : List (List ℕ)

@@ -194,7 +194,7 @@ end_plan limit kind stack name =
     else lone_end_plan limit kind stack
 
 -- A text is put in a cell from its first character on that is not white space. Where that would be too deep only its white space is written, so
--- that it is all one how a text is cut.
+-- that it doesn't matter how a text is cut.
 abbrev pub cell_text_plan : ℕ → List (List ℕ) → Plan → Plan
 cell_text_plan limit stack plan =
     if nat_le (length (moved plan stack)) limit then record plan { writes = Parted } else record dropped { writes = WhiteSpace }

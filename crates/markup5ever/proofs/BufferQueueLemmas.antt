@@ -48,7 +48,7 @@ taken_apart text waiting offset bytes read is within utf8 =
     let cut : waiting ≡ chars (take bytes front) ++ chars (drop bytes front) = sym is ∙ chars_cut front bytes (IsUtf8-take front bytes read.rest_utf8 boundary) in
     cut ∙ ap (λ bs. chars (take bytes bs) ++ chars (drop bytes front)) (sym all) ∙ ap (λ bs. chars (take bytes (encode_utf8_all waiting)) ++ chars bs) (drop-drop bytes offset text)
 
--- the first bytes of a text, as a range and as a beginning
+-- the first bytes of a text, as a range and as a prefix
 pub range_from_start : (text : List ℕ) (bytes : ℕ) → slice_range text 0 bytes ≡ take bytes text
 range_from_start text bytes = ap (λ n. take n text) (omega arith)
 

@@ -68,7 +68,7 @@ pub struct Due {
 }
 
 impl Due {
-    // Whether lines so far are a beginning of those that are due: whole ones, and a text that is open.
+    // Whether lines so far are a prefix of those that are due: whole ones, and a text that is open.
     fn begins_with(&self, so_far: &str) -> bool {
         let (_, open) = so_far.rsplit_once('\n').unwrap_or(("", so_far));
         self.lines.starts_with(so_far) && (open.is_empty() || open.starts_with("text \""))
@@ -98,7 +98,7 @@ fn feed_piece<S: TokenSink<Token> + SoFar>(
     answered(feed_until_done(tokenizer, queue))
 }
 
-// Feeds the pieces. Answers whether after each a beginning of what is due was sent.
+// Feeds the pieces. Answers whether after each a prefix of what is due was sent.
 fn feed_all<S: TokenSink<Token> + SoFar>(
     alloc: Global,
     tokenizer: &mut Tokenizer<'_, S>,
@@ -136,7 +136,7 @@ fn is_told<S: TokenSink<Token> + SoFar>(
 }
 
 /// Feeds a new tokenizer the pieces one after another, and ends it. Answers whether its sink was sent
-/// after each piece a beginning of what is due, and all of it in the end; and the sink.
+/// after each piece a prefix of what is due, and all of it in the end; and the sink.
 pub fn feed_pieces<S: TokenSink<Token> + SoFar>(
     alloc: Global,
     sink: S,

@@ -87,7 +87,7 @@ impl Wanted {
     }
 }
 
-// Whether the lines, the last of which is a text without its quote and LF, are a beginning of others.
+// Whether the lines, the last of which is a text without its quote and LF, are a prefix of others.
 fn is_cut_text(lines: &str, others: &str) -> bool {
     let last = match lines.rsplit_once('\n') {
         Some((_, last)) => last,

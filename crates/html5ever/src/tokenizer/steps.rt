@@ -126,7 +126,7 @@ fn take_steps<S: TokenSink<Token<A>>, A: Allocator + Copy>(
 
 /// Runs a tokenizer from the start of a stream. Each step hands in its text and feeds once. After the
 /// last one it feeds until nothing waits, and ends. Hands the sink back. The sink was sent all that
-/// the text taken tells, and finished. After a refusal it was sent a beginning of that.
+/// the text taken tells, and finished. After a refusal it received a prefix of that.
 pub fn run_steps<S: TokenSink<Token<A>>, A: Allocator + Copy>(
     alloc: A,
     sink: S,

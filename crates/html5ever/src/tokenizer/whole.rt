@@ -74,7 +74,7 @@ fn hand_in_pieces<A: Allocator + Copy>(
 }
 
 /// Reads a whole text from the start of a stream, and hands the sink back. The sink was sent all that
-/// the text tells, and finished. After a refusal it was sent a beginning of that.
+/// the text tells, and finished. After a refusal it received a prefix of that.
 pub fn read_whole<S: TokenSink<Token<A>>, A: Allocator + Copy>(
     alloc: A,
     sink: S,

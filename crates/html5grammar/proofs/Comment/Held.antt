@@ -26,11 +26,11 @@ use Rattle.html5grammar.proofs.HeldWords.{IsPlain, plain-beginning, plain-word, 
 use Rattle.html5reading.specs.Machine.{step_at, brought_at, declaration_step, declaration_answer_step}
 use Rattle.html5reading.proofs.Traces.{trace_brought, trace, with_messages, none_without_beginning}
 
--- whether a text is a beginning of a keyword, by the sink's answer
+-- whether a text is a prefix of a keyword, by the sink's answer
 unfoldable pub begins_declaration : Bool → List ℕ → Bool
 begins_declaration foreign held = begins_keyword held || (foreign && begins_cdata held)
 
--- the longest beginning of a content that is one, and the text after it
+-- the longest prefix of a content that is one, and the text after it
 abbrev pub held_of : Bool → List ℕ → List ℕ
 held_of foreign content = run_while (begins_declaration foreign) [] content
 

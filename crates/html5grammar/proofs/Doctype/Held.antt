@@ -37,7 +37,7 @@ no_dashes past rest e = false_from_ne_true (bytes_eq past (codes "--")) (λ h.
     let f : lower_case (codes "--" ++ rest) ≡ codes "doctype" = ap (λ l. lower_case (l ++ rest)) (sym (same_text past (codes "--") (sym h))) ∙ e in
     false≢true (sym (ap (begins_with (codes "--")) f)))
 
--- a beginning of a word, of which more follows
+-- a prefix of a word, of which more follows
 parts_of : (past : List ℕ) (c : ℕ) (rest word : List ℕ) → lower_case (past ++ c ∷ rest) ≡ word → lower_case past ++ (to_ascii_lowercase c ∷ lower_case rest) ≡ word
 parts_of past c rest word e = sym (map-append to_ascii_lowercase past (c ∷ rest)) ∙ e
 
@@ -68,7 +68,7 @@ leads-doctype_word rules (c ∷ word) h =
 
 -- ---- `public` and `system`
 
--- a beginning of one keyword does not begin the other
+-- a prefix of one keyword does not begin the other
 no_other : (kind other : DoctypeIdKind) (past rest : List ℕ) → begins_with (keyword_of other) (keyword_of kind) ≡ false
     → lower_case (past ++ rest) ≡ keyword_of kind → is_keyword other past ≡ false
 no_other kind other past rest apart e =
@@ -78,7 +78,7 @@ module _ (rules : Rules) (d : DoctypeOf) where
   abbrev undecided : List ℕ → Open
   undecided held = InDoctypeKeyword held d
 
-  -- a proper beginning of a keyword is held
+  -- a proper prefix of a keyword is held
   holds : (kind : DoctypeIdKind) (held : List ℕ) (c b : ℕ) (rest : List ℕ) → lower_case ((held ++ c ∷ []) ++ b ∷ rest) ≡ keyword_of kind → IsHeld rules undecided held c
   unfolding brought_at doctype_keyword_step begins_doctype_keyword
   holds Public held c b rest e foreign =

@@ -232,7 +232,7 @@ where
         self.check_state(is_error(found), false)
     }
 
-    // Looks at what each feed leaves: an end of what waited, and nothing where it is done.
+    // Looks at what each feed leaves: a suffix of the text that waited, and nothing where it is done.
     fn check_fed(&self, before: &str, found: &str) -> Result<(), Stop> {
         let ample = self.stage.ample;
         let left = self.queue.front_text();
