@@ -1,4 +1,4 @@
-"""Comments, and what else begins with `<!`: docs/GRAMMAR.md, "One comment, as it is written" and "Comments"."""
+"""Comments, and what else begins with `<!`: docs/GRAMMAR.md, "One comment as source text" and "Comments"."""
 
 from __future__ import annotations
 

@@ -1,4 +1,4 @@
-"""Doctypes: docs/GRAMMAR.md, "One doctype, as it is written" and "Doctypes"."""
+"""Doctypes: docs/GRAMMAR.md, "One doctype as source text" and "Doctypes"."""
 
 from __future__ import annotations
 

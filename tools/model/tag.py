@@ -1,4 +1,4 @@
-"""Tags: docs/GRAMMAR.md, "One tag, as it is written" and "Tags"."""
+"""Tags: docs/GRAMMAR.md, "One tag as source text" and "Tags"."""
 
 from __future__ import annotations
 
