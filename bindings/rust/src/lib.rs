@@ -94,8 +94,8 @@ pub enum Replies {
 /// ```
 #[derive(Clone, Copy, Debug, Default, PartialEq, Eq)]
 pub enum Encoding<'e> {
-    /// The page tells, as to a browser: by a byte order mark; else by a `<meta charset=..>` in its first bytes; else it is UTF-8
-    /// where these are UTF-8, and windows-1252.
+    /// The page tells, as to a browser: by a byte order mark; else by a `<meta charset=..>` or an XML declaration in its first
+    /// bytes; else it is UTF-8 where these are UTF-8, and windows-1252.
     #[default]
     Auto,
     /// That of a label of the Encoding Standard, as `shift_jis`, said by a header of the transport. A byte order mark overrules

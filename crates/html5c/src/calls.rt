@@ -32,10 +32,10 @@ pub extern "C" fn html5_new(
     }
 }
 
-/// Begins another page in a handle that is open, by these options and after a start tag of a name, as `html5_new` does, and by
-/// the table of named references, the limit and the encoding that the handle has. So the table is not made anew. What was
-/// recorded and not taken is gone. Where it is refused nothing changes. A page with places goes on with places: options that ask
-/// for the other kind are refused.
+/// Begins another page in an open handle, by these options and after a start tag of a name, as `html5_new` does. It
+/// keeps the handle's table of named references, limit and encoding, so the table is not made anew. Records that were
+/// not taken are gone. A refusal changes nothing. A page with places goes on with places: options that ask for the
+/// other kind are refused.
 #[unsafe(no_mangle)]
 pub extern "C" fn html5_restart(
     alloc: Global,
@@ -148,11 +148,11 @@ pub extern "C" fn html5_set_limit(alloc: Global, h: &mut Handle, limit: u64) -> 
     status
 }
 
-/// Reads the page in the encoding that it is in, from the first byte on, where the encoding that a label names is said
-/// of it, as by a header of the transport; a label of no bytes says nothing. It is determined as by a browser: by a
-/// byte order mark; else by what is said; else by a `<meta charset=..>` in the first bytes; else UTF-8 where these are
-/// UTF-8, or windows-1252. Then no bytes are `NOT_UTF8`: those that are invalid in the encoding give U+FFFD. After
-/// bytes were fed it answers `BEGUN`, and `BAD_OPTION` if no encoding has the label.
+/// Reads the page in the encoding that it is in, from the first byte on. The label names the encoding that is said of
+/// it, as by a header of the transport; a label of no bytes says nothing. It is determined as by a browser: by a byte
+/// order mark; else by what is said; else by a `<meta charset=..>` or an XML declaration in the first bytes; else UTF-8
+/// where these are UTF-8, or windows-1252. Then no bytes are `NOT_UTF8`: those that are invalid in the encoding give
+/// U+FFFD. After bytes were fed it answers `BEGUN`, and `BAD_OPTION` if no encoding has the label.
 #[unsafe(no_mangle)]
 pub extern "C" fn html5_set_encoding(alloc: Global, h: &mut Handle, label: &[u8]) -> u32
     ensures session { SetsEncoding (session_of h.old.owned.value) (session_of h.new.owned.value) label.now result }

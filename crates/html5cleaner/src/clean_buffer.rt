@@ -25,8 +25,8 @@ use outbox::Outbox;
 use std::alloc::{Allocator, Global};
 use std::marker::Model;
 
-/// What a buffer keeps of a page is what the policy keeps, and the messages of a page, or of a part of one, take none
-/// of the waiting bytes: more come after them.
+/// What a buffer keeps of a page is what the policy keeps. The messages of a page, or of a part of one, take none of
+/// the waiting bytes: more come after them.
 pub fn buffers_clean_pages()
     ensures page { (policy : PolicyOf) (taken : ℕ) (references : List NamedReference) (bytes : List ℕ) →
         (runs_after buffered_step references (buffer_start policy taken) bytes).out.bytes

@@ -160,8 +160,8 @@ pub fn kept_in_tree()
 
 /// Cleaning twice by a policy changes nothing, whatever the table of each reading: what was kept of a text
 /// is kept again to the byte. Of the output for a page, or for a prefix of it, the same is printed again, and then the
-/// end tags of what is still open there: of a whole page, and by a policy that neither balances nor makes a tree, that
-/// is nothing.
+/// end tags of the elements still open there. There are none of a whole page, and none by a policy that neither
+/// balances nor makes a tree.
 pub fn cleaning_twice()
     ensures text { (policy : PolicyOf) (references others : List NamedReference) (text : List ℕ) → IsSound policy
         → IsTable others → page_bytes (kept_of_page policy others (page_bytes (kept_of_page policy references text)))

@@ -18,9 +18,8 @@ use html5stream::{StreamError, read_tokens};
 use markup5ever::data::NamedReferences;
 use std::alloc::{Allocator, Global};
 
-/// The pieces that are kept of any messages, as those of a page or of a prefix of it, are clean, where a policy
-/// with the rule `tree` is sound, as each that is made is: so `laws::cleaned_page` says how what is printed of a page
-/// is read.
+/// The pieces that are kept of any messages, as those of a page or of a prefix of it, are clean, where a policy with
+/// the rule `tree` is sound, as each that is made is. So `laws::cleaned_page` says how the output for a page is read.
 pub fn prints_clean_pieces()
     ensures { (policy : PolicyOf) (M : List Message) → (policy.tree ≡ true → IsSound policy)
         → list_all (is_clean policy) (runs_handed clean_step (at_start policy) M).pieces ≡ true }

@@ -58,8 +58,8 @@ buffer_means = runs_means cleaning_run buffered_step
 
 -- ---- the fed bytes, and what was kept of them
 
--- exactly these bytes were fed, by this policy and this table: a text, whose reading the cleaner was sent as far as it is decided,
--- and after it what may begin a character; where the page is decoded, this text is what is decided of it by these bytes
+-- exactly these bytes were fed, by this policy and this table: a text, whose reading the cleaner was sent as far as it is decided, and
+-- after it what may begin a character. Where the page is decoded, this text is what these bytes decide of it
 pub record Fed (policy : PolicyOf) (references : List NamedReference) (s : CleaningOf) (bytes : List ℕ) : Type 0 where
   pub text : List ℕ
   pub parts : IsTextSoFar references s.intake bytes text

@@ -57,9 +57,9 @@ impl Decoder {
         Ok(text)
     }
 
-    /// The text of a piece before the first error in it, as the error mode "fatal" of the Standard has it; how many
-    /// bytes of the piece stand before that error; and after how many of these the last whole character ends, if
-    /// one does.
+    /// The text of a piece before the first error in it, as the error mode "fatal" of the Standard has it. Also how
+    /// many bytes of the piece stand before that error, and after how many of these the last whole character ends,
+    /// if one does.
     pub fn decode_before_error<A: Allocator>(
         &mut self,
         alloc: A,

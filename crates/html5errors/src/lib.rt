@@ -2,8 +2,8 @@
 //!
 //! `error_code` takes the text of an error that the tokenizer sends, where errors are not exact, and answers the code
 //! that the standard's "Parse errors" has for it, as `missing-attribute-value`. By proof this is the code in the tables
-//! of specs/Codes: of the state and the character where one was seen (`code_in`), of the state where the end was seen
-//! (`end_code_in`), and of a message that names nothing of the text (`fixed_code`). Each error that is sent without
+//! of specs/Codes. They go by the state and the character seen there (`code_in`), by the state where the end was seen
+//! (`end_code_in`), or by a message that names nothing of the text (`fixed_code`). Each error that is sent without
 //! exact errors is one of these (`errors_have_forms`). `as_str` and `Display` write the code as the standard does.
 //!
 //! Tested, and not proved: that these tables are the standard's. Nothing is promised of a text that is not an error's.

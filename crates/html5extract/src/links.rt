@@ -94,9 +94,9 @@ fn line_of<A: Allocator>(
     Ok(line)
 }
 
-/// Prints the links of the tags that it takes, a line each: the name in front, if there is one, the number of the line
-/// on which the tag ends, a space, and where the link leads, or the unresolved link, without tabs and line breaks,
-/// which no URL has.
+/// Prints the links of the tags that it takes, a line each. It has the name in front, if there is one, the number of
+/// the line on which the tag ends, a space, and where the link leads. If no URL comes of it, that is the unresolved
+/// link, without tabs and line breaks, which no URL has.
 #[derive(Drop)]
 pub struct Links<W, A: Allocator = Global> {
     pub alloc: A,

@@ -258,7 +258,7 @@ impl<A: Allocator + Copy> PlacedSession<A> {
     /// Takes a piece of the page, cut anywhere, and reads on.
     ///
     /// Where bytes of the piece are not UTF-8, whatever follows, those before them are read, and then the answer is
-    /// `NotUtf8`: neither the invalid bytes nor those after them are taken, and the next feed goes on with what is to
+    /// `NotUtf8`. Neither the invalid bytes nor those after them are taken, and the next feed goes on with what is to
     /// stand in their place. After `Memory` the session is as it was, or it is over and the piece is lost. That is also
     /// the answer where the places of the page no longer fit in a `usize`.
     pub fn feed(mut self, bytes: &[u8]) -> (PlacedSession<A>, Result<(), SessionError>)

@@ -1,10 +1,10 @@
 //! Where each token of a text stands, in bytes, beside the token.
 //!
 //! `read_places` reads a text and hands a `PlacedHandler` each token but the texts, with the whole run of text before
-//! it, and where both stand: the token from `begin` up to `end`, the run from `text` up to `begin`. The definition is
-//! `placed_tokens` (specs/Placed). A tag, a comment, an instruction and a doctype end at the character that tells them,
-//! by the reading of the whole text, and begin at the last `<` after which markup may be open (`is_after_less_than`).
-//! The places follow one another (`places_follow`).
+//! it, and where both stand. The token stands from `begin` up to `end`, the run from `text` up to `begin`. The
+//! definition is `placed_tokens` (specs/Placed). A tag, a comment, an instruction and a doctype end at the character
+//! that tells them, by the reading of the whole text, and begin at the last `<` after which markup may be open
+//! (`is_after_less_than`). The places follow one another (`places_follow`).
 //!
 //! The characters between the places of such a token are one item of the grammar as source text, which tells the token
 //! last. At the end of the text they may be an unfinished item, whose token the end tells. The places of each token are

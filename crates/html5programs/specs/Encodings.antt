@@ -32,7 +32,7 @@ pub record IsTextIn (by : Encoding) (bytes text : List ℕ) : Type 0 where
   pub decoded : text ≡ encode_utf8_all (decoded by bytes)
 
 -- The text of a page that a source gave, by a table of references. As UTF-8 alone it is the bytes that the source had left, up to its
--- end; else it is what all of them decode to by the encoding of the page, and where errors are fatal there is none in them.
+-- end. Else it is what all of them decode to by the encoding of the page, and if errors are fatal there is none in them.
 abbrev pub IsTextOf : List NamedReference → PageDecoding → Option (List ℕ) → Option (List ℕ) → List ℕ → Type 0
 IsTextOf references Utf8Alone unread left text = Consumes unread left text × IsAtEnd left
 IsTextOf references (Fatal said) unread left text =

@@ -28,9 +28,9 @@ pub enum Ending {
 }
 
 impl Ending {
-    /// The status that the process ends with: 0 where all was done or nobody reads the output, 1 where
-    /// something was found, or could not be read or printed, and 2 where the words, the label of the encoding, or a file
-    /// that they name for the table or the settings, are wrong.
+    /// The status that the process ends with. 0: all was done, or nobody reads the output. 1: something was found, or
+    /// could not be read or printed. 2: the words, the label of the encoding, or a file that they name for the table or
+    /// the settings, are wrong.
     pub fn status(self) -> u8
         ensures { result ≡ status_of self }
     {

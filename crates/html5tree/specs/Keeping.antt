@@ -54,7 +54,7 @@ AreAdded items = IsWithout may_be_added (content_of items) []
 -- ---- what is left out
 
 -- Whether a start tag has a place above these open elements. A part of a table has one where an element is open that holds it, or does so by
--- implied parents; a form when no form is open, but not straight among parts; a tag of another name than the 94 nowhere.
+-- implied parents. A form has one when no form is open, but not straight among parts; a tag of another name than the 94 nowhere.
 abbrev pub has_place : Kind → List (List ℕ) → Bool
 has_place Unknown stack = false
 has_place Form stack = not (holds_parts (kind_on_top stack)) && not (near (of_kind is_form) no_kind stack)
