@@ -57,7 +57,7 @@ impl<S, A: Allocator> Model for DecodedSource<S, A> {
     } };
 }
 
-// The error mode after bytes of which so many stand before the first error.
+// The error mode after bytes of which this many stand before the first error.
 fn mode_after(len: usize, all: usize) -> ErrorMode
     ensures failed { len < all → result ≡ ErrorMode.Failed }
     ensures fatal { all ≤ len → result ≡ ErrorMode.Fatal }

@@ -45,7 +45,7 @@ found name waiting = found_from 0 name waiting
 abbrev pub depth_after : TagOf → ℕ → ℕ
 depth_after tag depth = depth_by_kind tag.kind (has_content tag) depth
 
--- so many are open of the one at this place: at 0 it waits no more
+-- this many are open of the one at this place: at 0 it waits no more
 unfoldable pub counted_at : ℕ → ℕ → List OpenOf → List OpenOf
 counted_at place depth [] = []
 counted_at zero depth (o ∷ waiting) = if depth == 0 then waiting else (record o { depth = depth } ∷ waiting)

@@ -13,7 +13,8 @@ use std::marker::Model;
 // Room for more elements than before, where one more would find none.
 pub type Room<A> = Option<VecDeque<Open<A>, A>>;
 
-// Those that wait. What is to change is said before it is written, and changes after: so the room for one more is found before.
+// Those that wait. A change is decided before it is written, and takes place after: so the room for one more is found
+// before.
 #[derive(Drop)]
 pub struct Waiting<A: Allocator> {
     alloc: A,
@@ -94,7 +95,7 @@ impl<A: Allocator + Copy> Waiting<A> {
         Ok(Some(VecDeque::with_capacity(self.alloc, places)?))
     }
 
-    // So many elements of its name are open, of one at this place.
+    // This many elements of its name are open, of one at this place.
     fn count_at(&mut self, place: usize, depth: u64)
         ensures { self.new ≡ record self.old { elements = counted_at place depth self.old.elements } }
     {

@@ -51,7 +51,7 @@ error_status Over = 7
 
 -- ---- a new session
 
--- it stands at the start of a page, by these options, and reads references by the table. It may hold so many bytes, and a page that is
+-- it stands at the start of a page, by these options, and reads references by the table. It may hold this many bytes, and a page that is
 -- decoded is decoded so
 pub record StartsBy (names : List NamedReference) (limit : ℕ) (page : Option PageDecoding) (s : RecordSessionOf) (name : List ℕ) (o : Options) : Type 0 where
   pub replies : Replies
@@ -122,7 +122,7 @@ pub record PageRestartSays (old new : RecordSessionOf) (name : List ℕ) (o : Op
 
 -- ---- what a status of each call says of a handle that has a session
 
--- so many bytes more are within the limit
+-- this many bytes more are within the limit
 abbrev pub fits_in : RecordSessionOf → ℕ → Bool
 fits_in s more = has_room s.intake (length (waiting (recorded_by s))) more
 
@@ -153,7 +153,7 @@ pub record EndSays (old new : RecordSessionOf) (status : ℕ) : Type 0 where
   pub done : status ≡ 0 → EndsSession recorded_means old new
   pub no_memory : status ≡ 3 → LosesEnd recorded_means old new
   pub waiting : (status ≡ 6) ↔ ((is_over old ≡ false) × (old.intake.text ≢ []))
-  -- a fault that was still to be said
+  -- a fault that was still to be reported
   pub not_utf8 : (status ≡ 4) ↔ ((is_over old ≡ false) × (old.intake.text ≡ []) × (old.intake.fault ≡ true))
   pub place : status ≡ 4 → (place : ℕ) × EndSaysFault old new place
   pub cut : (status ≡ 5) ↔ ((is_over old ≡ false) × (old.intake.text ≡ []) × (old.intake.fault ≡ false) × ¬ (IsComplete old.intake))
@@ -196,7 +196,7 @@ pub record ForeignSays (old new : RecordSessionOf) (foreign : Bool) (status : �
   pub done : status ≡ 0
   pub sets : SetsForeign old new foreign
 
--- the next bytes of the records that wait were copied, as many as there was room for, and let go; nothing else changed
+-- the next bytes of the records that wait were copied, as many as there was room for, and dropped; nothing else changed
 pub record TakeSays (old new : RecordSessionOf) (room out : List ℕ) (n : ℕ) : Type 0 where
   pub count : n ≡ min (length room) (length (waiting (recorded_by old)))
   pub copied : out ≡ take n (waiting (recorded_by old)) ++ drop n room

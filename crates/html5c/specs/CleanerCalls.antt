@@ -103,7 +103,7 @@ pub record CleanerEndSays (old new : CleaningOf) (status : ℕ) : Type 0 where
   pub unchanged : (status ≡ 5) ⊎ (status ≡ 7) → new ≡ old
   pub only : (status ≡ 0) ⊎ (status ≡ 3) ⊎ (status ≡ 5) ⊎ (status ≡ 7)
 
--- the next bytes of what was kept were copied, as many as wait and as there was room for, and let go; nothing else changed
+-- the next bytes of what was kept were copied, as many as wait and as there was room for, and dropped; nothing else changed
 pub record CleanerTakeSays (old new : CleaningOf) (room out : List ℕ) (n : ℕ) : Type 0 where
   pub count : n ≡ min (length room) (length (waiting_in old))
   pub copied : out ≡ take n (waiting_in old) ++ drop n room

@@ -16,7 +16,7 @@ abbrev pub said_by : List ℕ → Option (Option Encoding)
 said_by [] = Some None
 said_by (b ∷ bytes) = option_map (λ encoding. Some encoding) (encoding_of (b ∷ bytes))
 
--- a session that takes the bytes of a page by the encoding that it is in, where this one is said of it
+-- a session that takes the bytes of a page by the encoding that it is in, where this one is declared for it
 abbrev pub decoding : {X : Type 0} → SessionOf X → Option Encoding → SessionOf X
 decoding s said = record s { intake = record s.intake { page = Some (page_start said None) } }
 

@@ -62,7 +62,7 @@ place_in (Some place) = place
 abbrev pub is_past : Bool → Bool → Bool
 is_past over fits = not over && not fits
 
--- a session that may hold so many bytes
+-- a session that may hold this many bytes
 abbrev pub limited : {X : Type 0} → ℕ → SessionOf X → SessionOf X
 limited limit s = record s { intake = record s.intake { limit = limit } }
 

@@ -148,11 +148,11 @@ pub extern "C" fn html5_set_limit(alloc: Global, h: &mut Handle, limit: u64) -> 
     status
 }
 
-/// Reads the page in the encoding that it is in, from the first byte on. The label names the encoding that is said of
-/// it, as by a header of the transport; a label of no bytes says nothing. It is determined as by a browser: by a byte
-/// order mark; else by what is said; else by a `<meta charset=..>` or an XML declaration in the first bytes; else UTF-8
-/// where these are UTF-8, or windows-1252. Then no bytes are `NOT_UTF8`: those that are invalid in the encoding give
-/// U+FFFD. After bytes were fed it answers `BEGUN`, and `BAD_OPTION` if no encoding has the label.
+/// Reads the page in the encoding that it is in, from the first byte on. The label names the encoding that is declared
+/// for it, as by a header of the transport; a label of no bytes declares none. It is determined as by a browser: by a
+/// byte order mark; else by the declared one; else by a `<meta charset=..>` or an XML declaration in the first bytes;
+/// else UTF-8 where these are UTF-8, or windows-1252. Then no bytes are `NOT_UTF8`: those that are invalid in the
+/// encoding give U+FFFD. After bytes were fed it answers `BEGUN`, and `BAD_OPTION` if no encoding has the label.
 #[unsafe(no_mangle)]
 pub extern "C" fn html5_set_encoding(alloc: Global, h: &mut Handle, label: &[u8]) -> u32
     ensures session { SetsEncoding (session_of h.old.owned.value) (session_of h.new.owned.value) label.now result }

@@ -11,7 +11,7 @@ use html5cleaning::CleaningSession;
 use std::alloc::Global;
 use std::mem;
 
-// Whether more is read, and so many bytes more would go past the limit.
+// Whether more is read, and this many bytes more would go past the limit.
 fn goes_past_limit(session: &CleaningSession<Global>, more: usize) -> bool
     ensures { result ≡ is_past (is_over session.now) (fits_in session.now more) }
 {

@@ -60,14 +60,14 @@ pub(crate) fn status_of_error(error: SessionError) -> u32
     }
 }
 
-// Whether more is read, and so many bytes more would go past the limit.
+// Whether more is read, and this many bytes more would go past the limit.
 fn goes_past_limit(session: &RecordSession<Global>, more: usize) -> bool
     ensures { result ≡ is_past (is_over session.now) (fits_in session.now more) }
 {
     !session.is_over() && !fits_in(session, more)
 }
 
-// Whether so many bytes more are within the limit of a session.
+// Whether this many bytes more are within the limit of a session.
 fn fits_in(session: &RecordSession<Global>, more: usize) -> bool
     ensures { result ≡ fits_in session.now more }
 {

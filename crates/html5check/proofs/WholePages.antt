@@ -22,7 +22,7 @@ pub grown-text : (before piece after held more bytes : List ℕ) → after ≡ b
 grown-text before piece after held more bytes grown decoded =
     ap (λ l. l ++ more) grown ∙ append_assoc before piece more ∙ ap (λ l. before ++ l) (sym decoded) ∙ sym (append_assoc before held bytes)
 
--- so many bytes more were read, after those before
+-- this many bytes more were read, after those before
 pub reads-more : (unread between left : Option (List ℕ)) (before after : List ℕ) (count : ℕ) → Consumes unread between before
     → Grows between left before after count → Consumes unread left after
 reads-more unread between left before after count consumed grows =

@@ -32,7 +32,7 @@ unclosed inner =
     if has_optional_end inner.name then []
     else record { begin = inner.begin; end = inner.end; fault = UnclosedElement; subject = inner.name; meant = None } ∷ []
 
--- so many of the innermost are left open
+-- this many of the innermost are left open
 abbrev pub left_open : ℕ → Checking → Checking
 left_open count s = record s { opened = drop count s.opened; found = s.found ++ flat_map unclosed (take count s.opened) }
 
@@ -77,7 +77,7 @@ at_start_tag s seen tag = opened_at (at_id s seen tag) seen tag
 abbrev pub stray_fault : List ℕ → Fault
 stray_fault name = if is_void name then EndTagOfVoidElement else EndTagWithoutStart
 
--- an end tag that ends so many of the innermost: of those within its element some are left open
+-- an end tag that ends this many of the innermost: of those within its element some are left open
 abbrev pub closed_at : Checking → Seen → List ℕ → ℕ → Checking
 closed_at s seen name count =
     if count == 0 then record s { found = s.found ++ plain_finding seen (stray_fault name) name ∷ [] }

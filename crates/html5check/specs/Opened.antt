@@ -33,7 +33,7 @@ ended_before [] name = 0
 ended_before (inner ∷ outer) name =
     if has_optional_end inner.name then and_this (ends_before name inner.name) (ended_before outer name) else 0
 
--- so many of the innermost an end tag is compared with. Browsers keep no more open.
+-- with how many of the innermost an end tag is compared. Browsers keep no more open.
 abbrev pub depth : ℕ
 depth = 512
 

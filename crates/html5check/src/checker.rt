@@ -153,7 +153,7 @@ impl<'t> Checker<'t> {
         Ok(())
     }
 
-    // Takes so many of the open elements away, that are left open.
+    // Takes this many of the open elements away, that are left open.
     fn leave_open(&mut self, count: usize) -> Result<(), AllocError>
         ensures { OnOk result (self.new ≡ left_open count self.old) }
     {

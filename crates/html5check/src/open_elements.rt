@@ -6,7 +6,7 @@ use crate::elements::{ends_before, has_optional_end};
 use std::alloc::{AllocError, Global};
 use std::marker::Model;
 
-/// So many of the innermost elements an end tag is compared with. Browsers keep no more open.
+/// With how many of the innermost elements an end tag is compared. Browsers keep no more open.
 const DEPTH: usize = 512;
 
 /// An element that is open: its name, where its start tag stands, and whether its content is of another namespace.
@@ -126,7 +126,7 @@ impl<'t> OpenElements<'t> {
         self.elements.pop()
     }
 
-    /// Closes so many, or all where there are fewer.
+    /// Closes this many, or all where there are fewer.
     pub fn close(&mut self, count: usize)
         ensures { self.new ≡ drop count self.old }
     {

@@ -16,7 +16,7 @@ use Rattle.html5cleaner.proofs.Printing.{page_bytes-append}
 use Rattle.html5cleaner.proofs.SameReadings.{page-same}
 use Rattle.markup5ever.specs.NamedReferences.{NamedReference}
 
--- where these pieces were kept, and so many bytes were taken
+-- where these pieces were kept, and this many bytes were taken
 abbrev buffered_after : ℕ → Cleaned → Buffered
 buffered_after taken c = record { policy = c.policy; out = record { bytes = page_bytes c.pieces; taken = taken }; hidden = c.hidden; opened = c.opened }
 

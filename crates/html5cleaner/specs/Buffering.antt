@@ -19,7 +19,7 @@ pub record Buffered : Type 0 where
   pub hidden : Hidden
   pub opened : List (List ℕ)
 
--- where a page begins, after so many bytes were taken that belong to none
+-- where a page begins, after this many bytes were taken that belong to none
 abbrev pub buffer_start : PolicyOf → ℕ → Buffered
 buffer_start policy taken = record { policy = policy; out = record { bytes = []; taken = taken }; hidden = nothing_hidden; opened = [] }
 
@@ -32,7 +32,7 @@ buffered_step b run told line = record {
   opened = open_by (shape_of b.policy) (is_end told) b.opened (kept_where b.policy b.hidden.depth run told);
 }
 
--- so many bytes more were taken, and all else is as it was
+-- this many bytes more were taken, and all else is as it was
 abbrev pub after_taking : Buffered → ℕ → Buffered
 after_taking b count = record b { out = taking b.out count }
 

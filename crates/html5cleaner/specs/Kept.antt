@@ -23,7 +23,7 @@ piece_where (Some piece) = piece_of piece ∷ []
 -- `pieces`, and `elements` are open afterwards; after an error nothing is changed
 pub record Keeps (result : Result Change WriteError) (before after : List Piece) (was now : List (List ℕ)) (pieces : List Piece) (elements : List (List ℕ)) : Type 0 where
   pub written : OnOk result (after ≡ before ++ pieces)
-  -- closing so many of the open elements takes the step back, or completes it
+  -- closing this many of the open elements takes the step back, or completes it
   pub undone : IfOk result (λ change. drop change.undo now ≡ was)
   pub done : IfOk result (λ change. drop change.close now ≡ elements)
   pub unchanged : OnErr result (after ≡ before)

@@ -31,7 +31,7 @@ fn is_void_name(name: &str) -> bool
     is_void(name)
 }
 
-// Writes the end tags of so many of these names, the last first.
+// Writes the end tags of this many of these names, the last first.
 fn write_end_tags<A: Allocator + Copy>(
     page: &mut Writer<A>,
     names: &[String<A>],
@@ -52,8 +52,8 @@ fn write_end_tags<A: Allocator + Copy>(
     Ok(())
 }
 
-/// Writes the kept part of a run of text, and after it the end tags of so many of the open elements:
-/// all of it or nothing.
+/// Writes the kept part of a run of text, and after it the end tags of this many of the open
+/// elements: all of it or nothing.
 pub fn write_closed<A: Allocator + Copy>(
     alloc: A,
     opened: &OpenElements<A>,

@@ -115,8 +115,8 @@ fn keep_end<A: Allocator + Copy>(
     Ok(Change { undo: 0, close })
 }
 
-// Writes the kept part of a run of text and the token after it, by its tags: all of it or nothing, when so
-// many elements hide their content.
+// Writes the kept part of a run of text and the token after it, by its tags: all of it or nothing, when
+// this many elements hide their content.
 fn keep_by_tags<A: Allocator + Copy>(
     alloc: A,
     policy: &Policy<A>,
@@ -143,7 +143,7 @@ fn keep_by_tags<A: Allocator + Copy>(
     }
 }
 
-/// Writes the kept part of a run of text and the token after it, all of it or nothing, when so many
+/// Writes the kept part of a run of text and the token after it, all of it or nothing, when this many
 /// elements hide their content.
 pub fn keep_where<A: Allocator + Copy>(
     alloc: A,

@@ -35,8 +35,8 @@ impl<A: Allocator + Copy> Draft<A> {
         self.alloc
     }
 
-    /// Holds the kept part of a run of text and the token after it, and nothing from before, when so many elements
-    /// hide their content.
+    /// Holds the kept part of a run of text and the token after it, and nothing from before, when this many
+    /// elements hide their content.
     pub fn keep(
         &mut self,
         policy: &Policy<A>,

@@ -232,7 +232,7 @@ fn keep_tag<A: Allocator + Copy>(
     keep_tag_with(alloc, policy, opened, page, run, tag, &attributes)
 }
 
-/// Writes the kept part of a run of text and the token after it so that it fits, all of it or nothing, when so many
+/// Writes the kept part of a run of text and the token after it so that it fits, all of it or nothing, when this many
 /// elements hide their content.
 pub fn keep_in_tree<A: Allocator + Copy>(
     alloc: A,

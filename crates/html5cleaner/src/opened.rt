@@ -34,7 +34,7 @@ pub enum Pending {
 }
 
 impl<A: Allocator + Copy> Opened<A> {
-    /// Nothing is open. In a tree at most so many elements will be.
+    /// Nothing is open. In a tree at most this many elements will be.
     pub fn none(alloc: A, limit: usize) -> Opened<A>
         ensures named { (shape : Shape) → names_in shape result ≡ [] }
         ensures tree { result.tree ≡ nothing_nested limit }

@@ -91,7 +91,7 @@ fed_parts before text held bytes more rest was is =
 
 -- ---- a take
 
--- so many of the waiting bytes were taken
+-- this many of the waiting bytes were taken
 abbrev taking_run : ℕ → S → S
 taking_run count s = record s { joined = record s.joined { handler = after_taking s.joined.handler count } }
 

@@ -38,11 +38,11 @@ waiting_in s = waiting (buffer_of s).out
 abbrev pub held_in_sink : CleaningOf → ℕ
 held_in_sink s = place_after (length s.detached.sink.run) (length (waiting_in s))
 
--- so many bytes more are within the limit
+-- this many bytes more are within the limit
 abbrev pub fits_in : CleaningOf → ℕ → Bool
 fits_in s more = has_room s.intake (held_in_sink s) more
 
--- so many bytes of those that wait were taken, and all else is as it was
+-- this many bytes of those that wait were taken, and all else is as it was
 abbrev pub after_session_takes : CleaningOf → ℕ → CleaningOf
 after_session_takes s count =
     record s { detached = record s.detached { sink = record s.detached.sink { handler = after_taking s.detached.sink.handler count } } }
@@ -107,7 +107,7 @@ FedFront old new bytes =
 abbrev pub DecodesFrom : CleaningOf → CleaningOf → Type 0
 DecodesFrom old new = (policy : PolicyOf) (references : List NamedReference) → Fed policy references old [] → Fed policy references new []
 
--- a page at its start, with nothing that was fed, kept or refused, which may hold so many bytes, and whose bytes this decoder takes, if
+-- a page at its start, with nothing that was fed, kept or refused, which may hold this many bytes, and whose bytes this decoder takes, if
 -- there is one
 pub record StartsPage (policy : PolicyOf) (references : List NamedReference) (limit : ℕ) (page : Option PageDecoding) (s : CleaningOf) : Type 0 where
   pub fed : Fed policy references s []
@@ -116,7 +116,7 @@ pub record StartsPage (policy : PolicyOf) (references : List NamedReference) (li
   pub intake : s.intake ≡ record nothing_taken { limit = limit; page = page }
   pub going_on : is_over s ≡ false
 
--- between two calls nothing waits to be read, and no fault is still to be said: no reply of the cleaner pauses
+-- between two calls nothing waits to be read, and no fault is still to be reported: no reply of the cleaner pauses
 pub record ReadsAtOnce (i : IntakeOf) : Type 0 where
   pub read : i.text ≡ []
   pub no_fault : i.fault ≡ false

@@ -39,8 +39,8 @@ fn feed_piece<A: Allocator + Copy>(
     }
 }
 
-/// Feeds the text, cut into pieces of so many characters, and 0 stands for a number of its own. After a piece the
-/// output is written if it is full. What is left on it at the end is the caller's to write.
+/// Feeds the text, cut into pieces of this many characters, and 0 stands for a number of its own. After a piece
+/// the output is written if it is full. What is left on it at the end is the caller's to write.
 pub fn feed_text<W: Target, A: Allocator + Copy>(
     alloc: A,
     tokenizer: &mut Tokenizer<'_, PrintSink<A>, A>,

@@ -54,7 +54,7 @@ module _ {X S H : Type 0} (means : Means X S H) where
       (K : Start) (s : S) → StandsAt means old K s []
       → EndStops means e s (all_messages means old.rules K s (run_text old.rules K s [] [] steps)) t
 
-  -- ---- by items: how much each feed takes is said by `TakesByItems`
+  -- ---- by items: `TakesByItems` says how much each feed takes
 
   -- where `text` was taken and `queue` waits, the steps take `whole` in all. A feed after each step takes a prefix of the queued
   -- text, and after the last step all is taken.

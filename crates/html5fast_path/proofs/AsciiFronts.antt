@@ -9,7 +9,7 @@ use Rattle.std.proofs.lemmas.Str.{IsCharBoundary-after_ascii, IsCharBoundary-sta
 use Rattle.std.proofs.lemmas.Str.Ascii.{IsAscii-more, IsAscii-nil}
 use Rattle.markup5ever.specs.SmallCharSet.{BeginsOutside, IsMember}
 
--- so many bytes are such a front
+-- this many bytes are such a front
 pub record IsAsciiFront (P : ℕ → Type 0) (text : List ℕ) (len : ℕ) : Type 0 where
   pub boundary : IsCharBoundary text len
   pub ascii : IsAscii (take len text)

@@ -34,7 +34,7 @@ unfoldable pub ReadsQuietly : Open → List ℕ → Open → Type 0
 ReadsQuietly opened [] later = opened ≡ later
 ReadsQuietly opened (c ∷ text) later = (next : Open) × (IsQuiet opened next c × ReadsQuietly next text later)
 
--- so many bytes at the front of a text are read so
+-- this many bytes at the front of a text are read so
 pub record ReadsFront (text : List ℕ) (bytes : ℕ) (opened later : Open) : Type 0 where
   pub within : bytes ≤ length text
   pub rest_utf8 : IsUtf8 (drop bytes text)
@@ -65,7 +65,8 @@ abbrev pub opening_of : TagKind → Open
 opening_of StartTag = LessThan
 opening_of EndTag = LessThanSolidus
 
--- so many bytes at the front of a text are a name: the first character is a letter, and none is in the set of those that end it
+-- this many bytes at the front of a text are a name: the first character is a letter, and none is in the set of those that end
+-- it
 pub record IsNameIn (ends : ℕ) (text : List ℕ) (len : ℕ) : Type 0 where
   pub outside : BeginsOutside ends text len
   pub first : ℕ

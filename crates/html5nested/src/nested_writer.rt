@@ -34,7 +34,7 @@ impl<A: Allocator> Model for NestedWriter<A> {
 }
 
 impl<A: Allocator + Copy> NestedWriter<A> {
-    /// Nothing is written yet. At most so many elements will be open.
+    /// Nothing is written yet. At most this many elements will be open.
     pub fn new(alloc: A, limit: usize) -> NestedWriter<A>
         ensures page { result ≡ nothing_written limit }
         ensures made { IsMadeOf result [] }

@@ -54,7 +54,7 @@ pub record BeginsInAscii (text : List ℕ) : Type 0 where
   pub ascii : IsAscii (take 1 text)
   pub rest_utf8 : IsUtf8 (drop 1 text)
 
--- "Named character reference state": a text begins with so many letters and digits, and so many bytes of it are these with a
+-- "Named character reference state": a text begins with this many letters and digits, and this many bytes of it are these with a
 -- semicolon after them or with none, where a name of the table begins so. Both are 0 if no name does.
 pub record IsNameFront (references : List NamedReference) (text : List ℕ) (letters bytes : ℕ) : Type 0 where
   pub within : bytes ≤ length text

@@ -203,7 +203,7 @@ fn is_semicolon_at(text: &str, at: usize) -> bool
     at < text.len() && text.as_bytes()[at] == b';'
 }
 
-// How many bytes of a text are held at once, where it begins with so many letters and digits.
+// How many bytes of a text are held at once, where it begins with this many letters and digits.
 fn front_len<A: Allocator>(references: &NamedReferences<A>, text: &str, letters: usize) -> usize
     requires within { letters ≤ length text.now }
     requires letters { list_all is_ascii_alphanumeric (take letters text.now) ≡ true }

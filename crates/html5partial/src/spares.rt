@@ -8,7 +8,7 @@ use std::alloc::{AllocError, Allocator, Global};
 /// Of how many attributes of a tag the texts are kept.
 const MANY: usize = 16;
 
-/// From more bytes than this on, the memory of a text is let go.
+/// From more bytes than this on, the memory of a text is freed.
 const LONG: usize = 256;
 
 /// Texts that are kept for their memory alone.

@@ -99,7 +99,7 @@ impl<A: Allocator> PlacedRecords<A> {
         rest_of(&self.written, self.skipped)
     }
 
-    /// Takes so many of the waiting bytes.
+    /// Takes this many of the waiting bytes.
     pub fn skip(&mut self, count: usize)
         requires { count ≤ length (waiting self.old) }
         ensures { self.new ≡ after_taking self.old count }

@@ -188,8 +188,8 @@ impl<A: Allocator + Copy> PlacedSession<A> {
         next
     }
 
-    /// Whether a piece of so many bytes is within the limit (`set_limit`). Held bytes count: those read since the last
-    /// token other than an error ended, and the records that wait.
+    /// Whether a piece of this many bytes is within the limit (`set_limit`). Held bytes count: those read since the
+    /// last token other than an error ended, and the records that wait.
     pub fn has_room(&self, more: usize) -> bool
         ensures { result ≡ has_room self.now more }
     {

@@ -91,7 +91,7 @@ to-from rules K s before (c ∷ text) =
     let len = length-append (encode_utf8 c) (encode_utf8_all text) in
     omega (arith, more, one, len)
 
--- a reading stands so many bytes after where it began
+-- a reading stands this many bytes after where it began
 pub to-stands : (r : Reading) (B : Beginning) (before : List ℕ) → StandsAfter r B before → r.marks.to ≡ B.marks.to + place_after before
 to-stands r B before there = ap (λ (m : Marks). m.to) there.marks ∙ to-from r.rules B.start B.marks [] before
 

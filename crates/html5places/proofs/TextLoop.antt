@@ -63,14 +63,14 @@ module _ {S : Type 0} (step : S → Placed → S) where
 
 -- ---- up to a token
 
--- of a text so many bytes were read, and none of their characters told a token
+-- of a text this many bytes were read, and none of their characters told a token
 pub record HasReadQuietly {S : Type 0} (step : S → Placed → S) (t0 t : Reader) (h0 h : S) (text rest : List ℕ) (count : ℕ) : Type 0 where
   pub has : HasRead step t0 t h0 h text rest
   pub within : count ≤ length text
   pub left : drop count text ≡ rest
   pub quiet : TellsToken (reading_of t0) has.front false
 
--- so many bytes lie within the text
+-- this many bytes lie within the text
 count-within : (text rest later : List ℕ) (count c : ℕ) → count ≤ length text → drop count text ≡ rest → rest ≡ encode_utf8 c ++ later
     → count + len_utf8 c ≤ length text
 count-within text rest later count c within left bytes =

@@ -29,7 +29,7 @@ fn is_plain(byte: u8) -> bool
     byte < 0x80 && byte != b'\n' && byte != b'\r'
 }
 
-// How many such bytes these begin with, of so many at most.
+// How many such bytes these begin with, of this many at most.
 fn plain_len(bytes: &[u8], limit: usize) -> usize
     ensures within { result ≤ length bytes.now }
     ensures limit { result ≤ limit }
@@ -44,7 +44,7 @@ fn plain_len(bytes: &[u8], limit: usize) -> usize
     len
 }
 
-// The text after so many such bytes.
+// The text after this many such bytes.
 fn after_plain(text: &str, len: usize) -> &str
     requires within { len ≤ length text.now }
     requires plain { list_all is_plain (take len text.now) ≡ true }

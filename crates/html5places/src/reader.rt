@@ -196,7 +196,7 @@ impl<'r, A: Allocator + Copy> PlaceReader<'r, A> {
         text: &str,
         handler: &mut H,
     ) -> Result<usize, PlaceError>
-        // What an `Ok` says: the same as for `read`, of so many bytes of the text, which end between two characters.
+        // What an `Ok` says: the same as for `read`, of this many bytes of the text, which end between two characters.
         ensures reads { IfOk result (λ count. Reads H.step self.old.reading self.new.reading
             (H.state handler.old) (H.state handler.new) (chars (take count text.now))) }
         ensures within { IfOk result (λ count. count ≤ length text.now) }

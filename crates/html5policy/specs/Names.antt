@@ -35,7 +35,7 @@ abbrev pub is_of_kind : Kind → Bool
 is_of_kind Unknown = false
 is_of_kind kind = true
 
--- whether tree construction is said of an element of this name: it is one of the 94 of html5tree
+-- whether tree construction is defined for an element of this name: it is one of the 94 of html5tree
 unfoldable pub has_place : List ℕ → Bool
 has_place name = is_of_kind (kind_of name)
 

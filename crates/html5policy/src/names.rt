@@ -72,7 +72,7 @@ pub fn acts_on_page(name: &str) -> bool
     )
 }
 
-/// Whether tree construction is said of an element of this name.
+/// Whether tree construction is defined for an element of this name.
 #[tactic(auto, unfolding(crate::specs::Names::has_place))]
 pub fn has_place(name: &str) -> bool
     ensures { result ≡ has_place name.now }

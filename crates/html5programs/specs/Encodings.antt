@@ -20,7 +20,7 @@ abbrev pub IsUnknownLabel : Option (List ℕ) → Type 0
 IsUnknownLabel None = ⊥
 IsUnknownLabel (Some label) = encoding_of label ≡ None
 
--- how pages are decoded of which this encoding is said, or none, by whether bytes that are invalid in it are to be refused
+-- how pages are decoded with this declared encoding, or none, by whether bytes that are invalid in it are to be refused
 abbrev pub decoding_of : Bool → Option Encoding → PageDecoding
 decoding_of true None = Utf8Alone
 decoding_of true (Some encoding) = Fatal encoding

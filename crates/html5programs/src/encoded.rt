@@ -40,7 +40,7 @@ pub enum PageDecoding {
     Utf8Alone,
     /// By this encoding, or one that a byte order mark names, and bytes that are invalid in it are refused.
     Fatal(Encoding),
-    /// By the encoding that each page is in, where this one is said of them.
+    /// By the encoding that each page is in, where this one is declared for them.
     ByPage(Option<Encoding>),
 }
 
@@ -58,7 +58,7 @@ pub fn encoding_asked(label: Option<&str>) -> Result<Option<Encoding>, UnknownLa
     }
 }
 
-/// How pages are decoded of which this encoding is said, where bytes that are invalid in it may be replaced or not.
+/// How pages are decoded with this declared encoding, where bytes that are invalid in it may be replaced or not.
 pub fn decoding_of(is_fatal: bool, said: Option<Encoding>) -> PageDecoding
     ensures { result ≡ decoding_of is_fatal said }
 {

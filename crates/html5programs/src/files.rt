@@ -41,7 +41,7 @@ enum FileError {
 enum Outcome {
     // All were read.
     Read,
-    // Some were not, and it was said why.
+    // Some were not, and the reason was reported.
     Missed,
     // What the filter makes of one can't be printed.
     Stopped,

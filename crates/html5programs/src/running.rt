@@ -48,7 +48,7 @@ fn read_settings<S: Settings, R: Files + Alloc<A = Global> + Meters, E: Target>(
     }
 }
 
-// The settings, or that there are none, and it was said why.
+// The settings, or that there are none, and the reason was reported.
 fn settings_or_say<S: Settings, E: Target>(
     said: Result<S, S::Fault>,
     what: &str,

@@ -1,4 +1,4 @@
-//! What is said of a word that names nothing: what it may have been meant for.
+//! The error for a word that names nothing: what it may have been meant for.
 use std::alloc::{AllocError, Allocator, Global};
 use strsim::jaro;
 use thiserror::Error;

@@ -21,7 +21,7 @@ use Rattle.html5reading.specs.Tag.{null_error}
 abbrev pub ends_in : List ℕ → List ℕ → Bool
 ends_in text word = ends_with nat_eq text word
 
--- the text without so many last bytes
+-- the text without this many last bytes
 abbrev pub without_last : ℕ → List ℕ → List ℕ
 without_last n text = take (length text - n) text
 

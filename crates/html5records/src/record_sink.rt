@@ -239,7 +239,7 @@ impl<A: Allocator> RecordSink<A> {
         self.foreign = foreign;
     }
 
-    /// Takes so many of the waiting bytes.
+    /// Takes this many of the waiting bytes.
     pub fn skip(&mut self, count: usize)
         requires { count ≤ length (waiting self.old.recorded) }
         ensures { self.new ≡ after_taking self.old count }

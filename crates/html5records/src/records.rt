@@ -32,7 +32,7 @@ fn push_long<A: Allocator>(written: &mut Vec<u8, A>, bytes: &[u8]) -> Result<(),
     written.extend_from_slice(bytes)
 }
 
-// Appends so many bytes. Where the compiler knows how many, it stores them.
+// Appends this many bytes. Where the compiler knows how many, it stores them.
 #[inline(always)]
 fn push_short<A: Allocator>(
     written: &mut Vec<u8, A>,

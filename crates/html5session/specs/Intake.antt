@@ -16,7 +16,7 @@ pub record IntakeOf : Type 0 where
   pub page : Option PageDecoding
   -- the text that waits to be read
   pub text : List ℕ
-  -- whether bytes that are not UTF-8 follow those that were taken, which is still to be said
+  -- whether bytes that are not UTF-8 follow those that were taken, which is still to be reported
   pub fault : Bool
   -- where those bytes are that were last said to be no UTF-8
   pub error_at : Option ℕ
@@ -110,7 +110,7 @@ abbrev pub held_of : Option PageDecoding → ℕ
 held_of None = 0
 held_of (Some d) = length d.held
 
--- how many bytes are held where so many wait in the sink and so many more come, as a u64 counts
+-- how many bytes are held where this many wait in the sink and that many more come, as a u64 counts
 abbrev pub held_with : IntakeOf → ℕ → ℕ → ℕ
 held_with i waiting more = place_after (place_after (place_after i.unsettled (held_of i.page)) waiting) more
 
@@ -145,11 +145,11 @@ pub data TakesBytes (references : List NamedReference) (old new : IntakeOf) (byt
   -- the whole piece, with the text that it completes
   Whole : old.page ≡ None → old.fault ≡ false → Completes old.decoder new.decoder bytes text → new ≡ record (gains old text) { decoder = new.decoder }
       → TakesBytes references old new bytes text
-  -- its front, up to bytes that are not UTF-8, whatever follows: that is still to be said
+  -- its front, up to bytes that are not UTF-8, whatever follows: that is still to be reported
   Front : old.page ≡ None → old.fault ≡ false → IsNeverUtf8 (old.decoder.held ++ bytes)
       → EndsAtFault old.decoder new.decoder (old.decoder.held ++ bytes) text
       → new ≡ record (gains old text) { decoder = new.decoder; fault = true } → TakesBytes references old new bytes text
-  -- nothing, while the fault of an earlier piece is still to be said
+  -- nothing, while the fault of an earlier piece is still to be reported
   Nothing : old.page ≡ None → old.fault ≡ true → text ≡ [] → new ≡ old → TakesBytes references old new bytes text
   -- where a page is decoded all of it, with the text that is decided by it
   InPage : (before after : PageDecoding) → old.page ≡ Some before → old.fault ≡ false → GoesOn references before after bytes text → IsUtf8 text
@@ -184,6 +184,6 @@ PieceRefused old new = (new ≡ old) ⊎ (new.lost ≡ true)
 
 -- ---- faults
 
--- the fault is said, at the place up to which the bytes were taken
+-- the fault is reported, at the place up to which the bytes were taken
 abbrev pub fault_said : IntakeOf → IntakeOf
 fault_said i = record i { fault = false; error_at = Some i.decoder.taken }

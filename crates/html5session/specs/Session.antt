@@ -61,7 +61,7 @@ keeps_on other = false
 abbrev pub intake_after : {X : Type 0} → Bool → SessionOf X → IntakeOf → List ℕ → IntakeOf
 intake_after all new taken left = record taken { text = left; unsettled = unsettled_after (all && nothing_open_in new) taken.unsettled }
 
--- all that was taken was read: when nothing is open the count begins anew, and a fault that was still to be said is said
+-- all that was taken was read: when nothing is open the count begins anew, and a fault that was still to be reported is reported
 pub record Settles {X : Type 0} (old new : SessionOf X) : Type 0 where
   pub kept : new ≡ record old { intake = new.intake }
   pub silent : old.intake.fault ≡ false → new.intake ≡ record old.intake { unsettled = unsettled_after (nothing_open_in old) old.intake.unsettled }
@@ -80,7 +80,7 @@ pub record IsCutShort (i : IntakeOf) : Type 0 where
   pub no_fault : i.fault ≡ false
   pub held : ¬ (IsComplete i)
 
--- a fault that was still to be said is said at the end
+-- a fault that was still to be reported is reported at the end
 pub record EndSaysFault {X : Type 0} (old new : SessionOf X) (place : ℕ) : Type 0 where
   pub read : old.intake.text ≡ []
   pub fault : old.intake.fault ≡ true
@@ -121,7 +121,8 @@ module _ {X S H : Type 0} (means : Means X S H) where
     pub kept : new ≡ record old { detached = new.detached; intake = new.intake }
     pub going_on : is_over new ≡ false
 
-  -- a piece was fed up to bytes in it, or in an earlier one, that are not UTF-8: all before them was read, and their place is said
+  -- a piece was fed up to bytes in it, or in an earlier one, that are not UTF-8: all before them was read, and their place is
+  -- reported
   pub record SaysFault (old new : SessionOf X) (piece : Piece) (place : ℕ) : Type 0 where
     pub text : List ℕ
     pub taken : IntakeOf

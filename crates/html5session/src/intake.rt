@@ -167,7 +167,7 @@ impl<A: Allocator> Intake<A> {
         self.error_at
     }
 
-    /// Whether so many bytes more are within the limit, where so many wait in the sink.
+    /// Whether this many bytes more are within the limit, where that many wait in the sink.
     pub fn has_room(&self, waiting: usize, more: usize) -> bool
         ensures { result ≡ has_room self.now waiting more }
     {
@@ -206,7 +206,7 @@ impl<A: Allocator> Intake<A> {
         self.lost = lost;
     }
 
-    /// Says a fault, if one is still to be said: its place.
+    /// Says a fault, if one is still to be reported: its place.
     pub fn say_fault(&mut self) -> Option<u64>
         ensures said { MatchOption result (self.old.fault ≡ false)
             (λ place. (self.old.fault ≡ true) × (place ≡ self.old.decoder.taken)) }
@@ -297,7 +297,8 @@ impl<A: Allocator + Copy> Intake<A> {
     }
 
     /// Takes a piece: its text comes after the waiting text. Bytes that are not UTF-8 are not taken, nor those
-    /// after them, and nothing more is until that is said (`say_fault`); where a page is decoded all are taken.
+    /// after them, and nothing more is until that is reported (`say_fault`); where a page is decoded all are
+    /// taken.
     pub fn take(&mut self, references: &NamedReferences<A>, bytes: &[u8]) -> Result<(), AllocError>
         ensures takes { OnOk result (TakesPiece references.now self.old self.new (Bytes bytes.now)) }
         ensures refused { OnErr result (PieceRefused self.old self.new) }

@@ -83,7 +83,7 @@ impl<S, A: Allocator> Session<S, A> {
         self.intake.error_at()
     }
 
-    /// Whether a piece of so many bytes is within the limit (`set_limit`), where so many bytes wait in the sink. Held
+    /// Whether a piece of that many bytes is within the limit (`set_limit`), where this many wait in the sink. Held
     /// text counts: what came since all was read and nothing was open.
     pub fn has_room(&self, waiting: usize, more: usize) -> bool
         ensures { result ≡ has_room self.now.intake waiting more }
@@ -167,7 +167,7 @@ impl<S: TokenSink<Token<A>>, A: Allocator + Copy> Session<S, A> {
         }
     }
 
-    /// The decoder of another page of which the same is said as of this one, where a decoder takes the bytes.
+    /// The decoder of another page with the same declared encoding, where a decoder takes the bytes.
     pub fn page_decoder_again(&self) -> Option<PageDecoder<A>>
         ensures { result ≡ page_again self.now.intake }
     {
@@ -228,7 +228,7 @@ impl<S: TokenSink<Token<A>>, A: Allocator + Copy> Session<S, A> {
         (session, answer)
     }
 
-    // All that was taken was read: a fault that is still to be said is said.
+    // All that was taken was read: a fault that is still to be reported is reported.
     fn settle(
         mut self,
     ) -> (
@@ -385,7 +385,8 @@ impl<S: TokenSink<Token<A>>, A: Allocator + Copy> Session<S, A> {
     }
 
     /// Ends the page. It is refused, and changes nothing, while text waits, and where the bytes so far end within a
-    /// character or, where a decoder takes them, were not ended (`end_bytes`). A fault that is still to be said is said.
+    /// character or, where a decoder takes them, were not ended (`end_bytes`). A fault that is still to be reported is
+    /// reported.
     pub fn end(mut self) -> (Session<S, A>, Result<(), SessionError>)
         ensures ends { OnOk result.1 (EndsSession S.means self result.0) }
         ensures refused { IfErr result.1 (λ error. EndRefused S.means self result.0 error) }

@@ -9,7 +9,7 @@ use Rattle.html5sniffing.specs.declared.page_decoder.Known.{Known}
 use Rattle.markup5ever.specs.NamedReferences.{NamedReference}
 
 pub record PageDecoding : Type 0 where
-  -- what is said of the page, and its encoding if nothing tells
+  -- the encoding declared for the page, and its encoding if nothing tells
   pub said : Option Encoding
   pub fallback : Option Encoding
   -- the bytes that were pushed, while the encoding isn't known

@@ -122,8 +122,8 @@ impl<A: Allocator> PageDecoder<A> {
 }
 
 impl<A: Allocator + Copy> PageDecoder<A> {
-    /// The decoder of a page of which this encoding is said, as by a header of the transport, and which is in the other
-    /// if nothing tells.
+    /// The decoder of a page for which this encoding is declared, as by a header of the transport, and which is in the
+    /// other if nothing tells.
     pub fn new(alloc: A, said: Option<Encoding>, fallback: Option<Encoding>) -> PageDecoder<A>
         ensures { result ≡ page_start said fallback }
     {
@@ -137,7 +137,7 @@ impl<A: Allocator + Copy> PageDecoder<A> {
         }
     }
 
-    /// The decoder of another page of which the same is said.
+    /// The decoder of another page with the same declared encoding.
     pub fn restarted(&self) -> PageDecoder<A>
         ensures { result ≡ page_start self.now.said self.now.fallback }
     {

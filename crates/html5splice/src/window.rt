@@ -38,7 +38,7 @@ impl<A: Allocator> Model for Window<A> {
     ghost invariant = { λ w. IsCharBoundary (string_bytes w.text) w.gone };
 }
 
-// A text that is cut twice: so many bytes, so many more, and the rest.
+// A text that is cut twice: this many bytes, this many more, and the rest.
 fn split_twice(text: &str, first: usize, second: usize) -> Option<Front<'_>>
     ensures run { IfSome result (λ front. front.run.now ≡ take first text.now) }
     ensures source { IfSome result (λ front. front.source.now ≡ take second (drop first text.now)) }

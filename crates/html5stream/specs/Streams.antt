@@ -54,7 +54,7 @@ pub record GivesNoFault (before after : Option (List ℕ)) : Type 0 where
   pub given : Consumes before after bytes
   pub may_go_on : ¬ (IsNeverUtf8 bytes)
 
--- the source gave so many bytes, or more
+-- the source gave this many bytes, or more
 pub record GivesAtLeast (count : ℕ) (before after : Option (List ℕ)) : Type 0 where
   pub bytes : List ℕ
   pub given : Consumes before after bytes

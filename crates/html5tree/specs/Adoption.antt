@@ -119,7 +119,7 @@ turn again p name (Some f) =
     else if is_bounded ends_scope (inside f.node p.page.opened) then p
     else adopted_by again p f (furthest_block (inside f.node p.page.opened))
 
--- the outer loop, at most so many turns
+-- the outer loop, at most this many turns
 unfoldable pub outer_loop : ℕ → Parser → List ℕ → Parser
 outer_loop zero p name = p
 outer_loop (suc turns) p name = turn (λ later. outer_loop turns later name) p name (last_named (named name) p.formatting)

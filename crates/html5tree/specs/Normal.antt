@@ -137,7 +137,7 @@ start_plan kind stack =
     else if holds_parts (kind_on_top stack) then table_plan kind stack
     else flow_plan kind stack
 
--- the open elements when so many parents are opened
+-- the open elements when this many parents are opened
 unfoldable pub opened : List (List ℕ) → List (List ℕ) → List (List ℕ)
 opened [] stack = stack
 opened (name ∷ names) stack = opened names (name ∷ stack)

@@ -190,7 +190,8 @@ fn depth_after(opened: &[ElementName], plan: Plan) -> usize
     opened.len().saturating_sub(plan.closes) + plan.opens.len()
 }
 
-// A plan, unless more elements than the limit would be open after it. The item itself opens so many.
+// A plan, unless more elements than the limit would be open after it. The item itself opens this
+// many.
 fn limited(limit: usize, opened: &[ElementName], plan: Plan, own: usize) -> Plan
     requires { own ≤ 1 }
     ensures { plan_said result ≡ (if nat_le (length (moved (plan_said plan) (names_open opened.now)) + own) limit

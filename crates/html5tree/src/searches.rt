@@ -155,7 +155,7 @@ pub fn implied_run(opened: &[ElementName], before_text: bool) -> usize
     opened.len()
 }
 
-/// The kind of the innermost open element, when so many are closed.
+/// The kind of the innermost open element, when this many are closed.
 pub fn kind_under(opened: &[ElementName], closes: usize) -> Kind
     ensures { result ≡ kind_on_top (drop closes (names_open opened.now)) }
 {

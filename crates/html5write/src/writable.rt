@@ -16,7 +16,7 @@ use markup5ever::text::{push_long, push_text};
 use std::alloc::{AllocError, Allocator};
 use std::marker::Model;
 
-// Texts of so many bytes are appended without a call that copies bytes.
+// Texts of this many bytes are appended without a call that copies bytes.
 const SHORT: usize = 8;
 
 /// A piece that was looked at, and can be written. Contracts see the piece.

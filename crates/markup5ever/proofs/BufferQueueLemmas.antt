@@ -32,14 +32,14 @@ read_boundary text offset read = IsCharBoundary-from_drop text offset read.withi
 pub IsReadTo-start : (text : List ℕ) → IsUtf8 text → IsReadTo text 0
 IsReadTo-start text utf8 = record { within = omega arith; rest_utf8 = utf8 }
 
--- so many bytes further
+-- this many bytes further
 pub IsReadTo-more : (text front : List ℕ) (offset bytes : ℕ) → front ≡ drop offset text → bytes < length front → IsUtf8 (drop bytes front) → IsReadTo text (offset + bytes)
 IsReadTo-more text front offset bytes is within utf8 = record {
   within = omega (arith, within, ap length is, length-drop offset text);
   rest_utf8 = rw (is, drop-drop) at utf8;
 }
 
--- the queued text is what so many bytes take, and the text queued then
+-- the queued text is what this many bytes take, and the text queued then
 pub taken_apart : (text waiting : List ℕ) (offset bytes : ℕ) → IsReadTo text offset → chars (drop offset text) ≡ waiting → bytes ≤ length (encode_utf8_all waiting) → IsUtf8 (drop bytes (encode_utf8_all waiting)) → waiting ≡ chars (take bytes (encode_utf8_all waiting)) ++ chars (drop (offset + bytes) text)
 taken_apart text waiting offset bytes read is within utf8 =
     let front = drop offset text in
@@ -52,7 +52,7 @@ taken_apart text waiting offset bytes read is within utf8 =
 pub range_from_start : (text : List ℕ) (bytes : ℕ) → slice_range text 0 bytes ≡ take bytes text
 range_from_start text bytes = ap (λ n. take n text) (omega arith)
 
--- so many bytes were taken, and their characters counted
+-- this many bytes were taken, and their characters counted
 pub takes_bytes : (old new : TextQueue) (text run : List ℕ) (offset bytes : ℕ) → IsReadTo text offset → chars (drop offset text) ≡ old.text → run ≡ take bytes (drop offset text) → bytes ≤ length (encode_utf8_all old.text) → IsUtf8 (drop bytes (encode_utf8_all old.text)) → new.text ≡ chars (drop (offset + bytes) text) → new.handed_in ≡ old.handed_in → new.taken ≡ old.taken + length (chars run) → Takes old new (chars (take bytes (encode_utf8_all old.text)))
 takes_bytes old new text run offset bytes read is run_is within utf8 rest_is handed_in taken =
     let all : drop offset text ≡ encode_utf8_all old.text = sym (waiting_bytes text old.text offset read is) in

@@ -33,7 +33,7 @@ filled_chars bs utf8 filled =
 pub chars_cut : (bs : List ℕ) (n : ℕ) → IsUtf8 (take n bs) → chars bs ≡ chars (take n bs) ++ chars (drop n bs)
 chars_cut bs n utf8 = ap chars (sym (take-append-drop n bs)) ∙ chars-append (take n bs) (drop n bs) utf8
 
--- the first character, which takes so many bytes, and the text after it
+-- the first character, which takes this many bytes, and the text after it
 pub record BeginsWith (bs : List ℕ) (c width : ℕ) : Type 0 where
   pub within : width ≤ length bs
   pub rest_utf8 : IsUtf8 (drop width bs)

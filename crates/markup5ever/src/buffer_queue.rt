@@ -74,7 +74,7 @@ impl<A: Allocator> Model for BufferQueue<A> {
     ghost invariant = { λ q. IsReadTo (string_bytes q.text) q.offset };
 }
 
-// Appends a text to one of which so many bytes were taken. What is left of it moves to the front of its
+// Appends a text to one of which this many bytes were taken. What is left of it moves to the front of its
 // memory first, once more than half was taken.
 fn append<A: Allocator>(
     text: &mut String<A>,
@@ -321,7 +321,7 @@ impl<A: Allocator> BufferQueue<A> {
         &text[self.offset..]
     }
 
-    /// Takes so many bytes of the queued text.
+    /// Takes this many bytes of the queued text.
     #[inline(always)]
     pub fn skip(&mut self, bytes: usize)
         requires within { bytes ≤ length (encode_utf8_all self.old.text) }
@@ -339,7 +339,7 @@ impl<A: Allocator> BufferQueue<A> {
     }
 }
 
-// So many bytes are handed out in the queue's own memory. Fewer are copied.
+// This many bytes are handed out in the queue's own memory. Fewer are copied.
 const LENT: usize = 16;
 
 impl<A: Allocator + Copy> BufferQueue<A> {
@@ -366,7 +366,7 @@ impl<A: Allocator + Copy> BufferQueue<A> {
         Ok(Some(SetResult::NotFromSet(text)))
     }
 
-    /// Takes so many bytes as a text. Where these are all of the text, it is handed out as it is, unless
+    /// Takes this many bytes as a text. Where these are all of the text, it is handed out as it is, unless
     /// it is short: the queue then keeps its memory for what comes next.
     #[inline(always)]
     pub fn take_text(&mut self, bytes: usize) -> Result<String<A>, AllocError>

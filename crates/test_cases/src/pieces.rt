@@ -16,13 +16,13 @@ use testing_lines::CaseError;
 /// How an input is cut.
 #[derive(Clone, Copy, Debug, PartialEq, Eq)]
 pub enum Cutting {
-    /// In two, after so many characters.
+    /// In two, after this many characters.
     Afterwards(usize),
     /// Into its characters.
     Characters,
 }
 
-// The text up to so many characters, and the rest.
+// The text up to this many characters, and the rest.
 fn halves_of(alloc: Global, text: &str, count: usize) -> Result<Vec<String>, AllocError> {
     let mut first = String::new(alloc);
     let mut second = String::new(alloc);

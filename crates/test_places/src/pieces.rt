@@ -235,7 +235,7 @@ fn a_refused_growth_leaves_a_beginning(rt: HostRuntime) {
     assert!(rt; finished);
 }
 
-// Takes so many tokens, and refuses the next one.
+// Takes this many tokens, and refuses the next one.
 #[derive(Drop)]
 struct Few {
     left: u64,
@@ -278,8 +278,8 @@ fn a_handler_may_refuse_a_token(rt: HostRuntime) {
     assert_eq!(rt; failing, None);
 }
 
-// Which of the calls a reader answers otherwise on a heap that refuses the request after so many, and whether it
-// refused one. The handler asks for none.
+// Which of the calls a reader answers otherwise on a heap that refuses the request after this many, and whether
+// it refused one. The handler asks for none.
 fn failing_of_few(alloc: Global, admitted: u64, calls: &[Call<'_>]) -> (Option<usize>, bool) {
     let heap = Refusing::<Global>::new(alloc, admitted);
     let Ok(references) = NamedReferences::check(&heap, Vec::new(&heap)) else {

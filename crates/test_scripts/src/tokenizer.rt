@@ -17,7 +17,7 @@ pub enum SinkKind {
     Alternate,
     Count,
     Print,
-    /// It faults after so many calls.
+    /// It faults after this many calls.
     FaultAfter(usize),
     FaultAtEnd,
 }
@@ -36,7 +36,7 @@ pub enum Cuts {
 pub enum Cutting {
     Whole,
     Characters,
-    /// Each in two, the first with so many characters.
+    /// Each in two, the first with this many characters.
     Two(usize),
 }
 

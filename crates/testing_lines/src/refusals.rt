@@ -78,7 +78,7 @@ impl Wanted {
         }
     }
 
-    // Whether so many may be found.
+    // Whether this many may be found.
     fn allows(&self, found: &Refusals) -> bool {
         match self {
             Wanted::AtLeast(least) => found.reaches(least),

@@ -24,7 +24,7 @@ pub record IsCutCharacter (bytes : List ℕ) : Type 0 where
 abbrev pub IsNeverUtf8 : List ℕ → Type 0
 IsNeverUtf8 bytes = (later : List ℕ) → ¬ (IsUtf8 (bytes ++ later))
 
--- the place so many bytes after another, as a `u64` counts: it stays at the greatest once there
+-- the place this many bytes after another, as a `u64` counts: it stays at the greatest once there
 abbrev pub place_after : ℕ → ℕ → ℕ
 place_after place count = min (place + count) (2 ^ 64 - 1)
 

@@ -167,7 +167,7 @@ impl Decoder {
         Ok(text)
     }
 
-    // Holds these bytes, so many bytes after where the ones held until now stood.
+    // Holds these bytes, this many bytes after where the ones held until now stood.
     fn hold(&mut self, bytes: &[u8], given: usize)
         requires { IsCutCharacter bytes.now }
         ensures held { self.new.held ≡ bytes.now }

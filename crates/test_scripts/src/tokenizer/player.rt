@@ -70,7 +70,7 @@ fn push_characters<A: Allocator + Copy>(
     Ok(())
 }
 
-// Appends two pieces, the first with so many characters of a text.
+// Appends two pieces, the first with this many characters of a text.
 fn push_two<A: Allocator + Copy>(
     heap: A,
     parts: &mut Vec<steps::Step<A>, A>,
