@@ -129,8 +129,8 @@ pub extern "C" fn html5_set_foreign(alloc: Global, h: &mut Handle, foreign: bool
     status
 }
 
-/// Sets how many bytes a handle of either kind may hold: the bytes fed since all was read and nothing was open, and
-/// those that wait to be taken. A piece that would go past that is answered `LIMIT`, and not taken.
+/// Sets how many bytes a handle of either kind may hold. The bytes fed since all was read and nothing was open count,
+/// and those that wait to be taken. A piece that would go past that is answered `LIMIT`, and not taken.
 #[unsafe(no_mangle)]
 pub extern "C" fn html5_set_limit(alloc: Global, h: &mut Handle, limit: u64) -> u32
     ensures session { session_of h.new.owned.value ≡ option_map (limited limit) (session_of h.old.owned.value) }
@@ -150,8 +150,8 @@ pub extern "C" fn html5_set_limit(alloc: Global, h: &mut Handle, limit: u64) -> 
 
 /// Reads the page in the encoding that it is in, from the first byte on. The label names the encoding that is declared
 /// for it, as by a header of the transport; a label of no bytes declares none. It is determined as by a browser: by a
-/// byte order mark; else by the declared one; else by a `<meta charset=..>` or an XML declaration in the first bytes;
-/// else UTF-8 where these are UTF-8, or windows-1252. Then no bytes are `NOT_UTF8`: those that are invalid in the
+/// byte order mark; else by the declared one; else by a `<meta charset=..>` or an XML declaration in the first bytes.
+/// Else it is UTF-8 where these are UTF-8, or windows-1252. Then no bytes are `NOT_UTF8`: those that are invalid in the
 /// encoding give U+FFFD. After bytes were fed it answers `BEGUN`, and `BAD_OPTION` if no encoding has the label.
 #[unsafe(no_mangle)]
 pub extern "C" fn html5_set_encoding(alloc: Global, h: &mut Handle, label: &[u8]) -> u32

@@ -19,9 +19,9 @@ pub fn findings_stand_at_tokens()
         → All (StandsInText (chars text)) (findings_in (seen_in references text)) }
 {}
 
-/// A tag without its other is found exactly where tags don't match (`all_match`). There an end tag ends no open
-/// element, or an element is still open whose end tag may not be left out, at the end tag of one around it or at the
-/// end.
+/// A tag without its other is found exactly where tags don't match (`all_match`). Tags don't match if an end tag ends
+/// no open element. Nor do they if an element whose end tag may not be left out is still open at the end tag of one
+/// around it, or at the end.
 pub fn unmatched_tags_are_found()
     ensures { (tokens : List Seen) → list_all has_other (found_by tokens) ≡ all_match nothing_checked tokens }
 {}

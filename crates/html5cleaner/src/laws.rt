@@ -43,10 +43,9 @@ use html5tree::laws::fits_in_host;
 use html5write::laws::{all_pieces, whole_text};
 use std::alloc::Allocator;
 
-/// By each policy a page of clean pieces, read with any table by any sink that keeps on after their tags, at
-/// once or after a pause, is read, except for errors, as exactly these pieces and the end. Each of their tokens
-/// is allowed: text, or a tag of an allowed element, with attributes that are kept and addresses that are
-/// safe.
+/// By each policy a page of clean pieces is read, except for errors, as exactly these pieces and the end. The table may
+/// be any, and the sink any that keeps on after their tags, at once or after a pause. Each of their tokens is allowed:
+/// text, or a tag of an allowed element, with attributes that are kept and addresses that are safe.
 pub fn cleaned_page<S: TokenSink<Token<A>>, A: Allocator>()
     ensures tokens { (policy : PolicyOf) (rules : Rules) (K : Start) (s : S.State) (pieces : List Piece)
         → IsReadBackClean {S = S.State} policy rules K S.means.reply pieces
@@ -58,8 +57,8 @@ pub fn cleaned_page<S: TokenSink<Token<A>>, A: Allocator>()
     whole_text::<S, A>();
 }
 
-/// Wherever it is put in a page, in Data and with no CR directly before it, such a page tells its pieces,
-/// and leaves nothing open: the text after it is read as it would be without it.
+/// Wherever it is put in a page, in Data and with no CR directly before it, such a page tells its pieces. It leaves
+/// nothing open: the text after it is read as it would be without it.
 pub fn cleaned_part<S: TokenSink<Token<A>>, A: Allocator>()
     ensures { (policy : PolicyOf) (rules : Rules) (K : Start) (s : S.State) (pieces : List Piece)
         → IsReadBackClean {S = S.State} policy rules K S.means.reply pieces
@@ -100,7 +99,7 @@ pub fn balanced_page()
 
 /// By a policy with the rule `tree` each page fits at every item (`fits`), with no more elements open than the policy's
 /// depth (`within`). So the tree that is built of the page's messages, read by any table and a sink that follows the
-/// standard, is the nesting of its pieces (`tree`): their tags and texts, as `cleaned_page` says, are the policy's. A
+/// standard, is the nesting of its pieces (`tree`). Their tags and texts, as `cleaned_page` says, are the policy's. A
 /// newline straight after the start tag of a `pre` is ignored, as tree construction does (`read_items`).
 pub fn tree_of_cleaned_page<S: TokenSink<Token<A>>, A: Allocator>()
     ensures fits { (policy : PolicyOf) (references : List NamedReference) (text : List ℕ) → policy.tree ≡ true

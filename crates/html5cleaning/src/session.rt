@@ -64,8 +64,9 @@ impl<A: Allocator> CleaningSession<A> {
         self.session.error_at()
     }
 
-    /// Whether a piece of this many bytes is within the limit (`set_limit`). The held text counts: what came since all
-    /// was read and nothing was open, the run of text that no tag has ended yet, and the bytes that wait to be taken.
+    /// Whether a piece of this many bytes is within the limit (`set_limit`). Three held things count: the text that
+    /// came since all was read and nothing was open, the run of text that no tag has ended yet, and the bytes that wait
+    /// to be taken.
     pub fn has_room(&self, more: usize) -> bool
         ensures { result ≡ fits_in self.now more }
     {
@@ -136,9 +137,9 @@ impl<A: Allocator + Copy> CleaningSession<A> {
         self.session.set_page_decoder(page);
     }
 
-    /// Decodes the page by the encoding that it is in, where this one is declared for it, as by a header of the
-    /// transport: as a browser determines it. Then no bytes are refused, and those that are invalid in the encoding
-    /// give U+FFFD.
+    /// Decodes the page by the encoding that it is in, as a browser determines it, where this one is declared for it,
+    /// as by a header of the transport. Then no bytes are refused, and those that are invalid in the encoding give
+    /// U+FFFD.
     pub fn decode_page(&mut self, said: Option<Encoding>)
         requires { IsUnbegun self.old.intake }
         ensures decodes { self.new ≡ record self.old { intake = record self.old.intake { page = Some (page_start said None) } } }

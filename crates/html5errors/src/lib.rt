@@ -1,6 +1,6 @@
 //! Parse errors by the standard's codes.
 //!
-//! `error_code` takes the text of an error that the tokenizer sends, where errors are not exact, and answers the code
+//! `error_code` takes the text of an error that the tokenizer sends, where errors are not exact. It answers the code
 //! that the standard's "Parse errors" has for it, as `missing-attribute-value`. By proof this is the code in the tables
 //! of specs/Codes. They go by the state and the character seen there (`code_in`), by the state where the end was seen
 //! (`end_code_in`), or by a message that names nothing of the text (`fixed_code`). Each error that is sent without

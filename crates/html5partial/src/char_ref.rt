@@ -112,9 +112,10 @@ impl<A: Allocator> CharRef<A> {
         self.hold_name(references, c)
     }
 
-    /// Right after the `&`, holds all the letters and digits with which a text begins, where a name of the
-    /// table begins with them, and the semicolon after them, where one begins with that, too. Answers how
-    /// many bytes it holds. They are none if something is held, so a text is searched once for each `&`.
+    /// Right after the `&`, holds all the letters and digits with which a text begins, if a name of the
+    /// table begins with them. It holds the semicolon after them, if one begins with that, too. Answers
+    /// how many bytes it holds. They are none if something is held, so a text is searched once for each
+    /// `&`.
     #[inline(never)]
     pub fn hold_front(
         &mut self,

@@ -3,7 +3,7 @@
 //! `read_places` reads a text and hands a `PlacedHandler` each token but the texts, with the whole run of text before
 //! it, and where both stand. The token stands from `begin` up to `end`, the run from `text` up to `begin`. The
 //! definition is `placed_tokens` (specs/Placed). A tag, a comment, an instruction and a doctype end at the character
-//! that tells them, by the reading of the whole text, and begin at the last `<` after which markup may be open
+//! that tells them, by the reading of the whole text. They begin at the last `<` after which markup may be open
 //! (`is_after_less_than`). The places follow one another (`places_follow`).
 //!
 //! The characters between the places of such a token are one item of the grammar as source text, which tells the token
@@ -12,7 +12,7 @@
 //!
 //! `PlaceReader` does the same for a text that arrives in pieces. A piece tells what its characters tell after all text
 //! before it (`placed_by`), and places count on. The tokens of the pieces and of the end are those of the whole text
-//! (`pieces_tell_the_text`), and what was handed over stands between characters of the text so far
+//! (`pieces_tell_the_text`). The tokens handed over stand between characters of the text so far
 //! (`pieces_stand_in_the_text`). `read_to_token` stops after a token: there a caller may put a text in, as
 //! `document.write` does, or set a state, as a tree builder asks. `Origins` says where the bytes of such a text come
 //! from (`bytes_come_from_their_origins`).

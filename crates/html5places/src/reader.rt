@@ -189,7 +189,7 @@ impl<'r, A: Allocator + Copy> PlaceReader<'r, A> {
     }
 
     /// Reads a text up to and with the first character after which a token other than a parse error was handed over, or
-    /// to its end, and says how many bytes that is. So a caller may go on with another text there, as `document.write`
+    /// to its end. Answers how many bytes that is. So a caller may go on with another text there, as `document.write`
     /// puts one in, or in another state.
     pub fn read_to_token<H: PlacedHandler<Token<A>>>(
         &mut self,

@@ -15,9 +15,9 @@ use crate::rules::{Rules, is_own};
 use std::alloc::{Allocator, Global};
 use std::marker::Model;
 
-/// What a policy keeps of a page: the elements, each with its attributes, the attributes of each element, and
-/// the schemes of addresses; and which further elements are dropped with their content. No rule of
-/// it lets a page run anything, or be read otherwise than it was written.
+/// What a policy keeps of a page: the elements, each with its attributes, the attributes of each element, and the
+/// schemes of addresses. It also says which further elements are dropped with their content. No rule of it lets a page
+/// run anything, or be read otherwise than it was written.
 #[derive(Drop)]
 pub struct Policy<A: Allocator = Global> {
     alloc: A,

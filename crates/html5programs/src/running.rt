@@ -180,7 +180,7 @@ fn say_wrong<E: Target>(
     messages.say(word, no_such(alloc, "option", &names, word));
 }
 
-/// Runs a program by the words after its name: prints how it is used, its version, its settings, or what its
+/// Runs a program by the words after its name. It prints its usage, its version, its settings, or what its
 /// filter makes of the files that the words name, or else of standard input. It gives the output back, and
 /// how it ended. What a file holds that is opened by its path no contract says.
 pub fn filter_by_words<

@@ -176,8 +176,8 @@ impl<'w, A: Allocator> Words<'w, A> {
         &self.files
     }
 
-    /// Whether the names of files stand in front of what is printed of them: as the last option about them
-    /// says, or else where there is more than one.
+    /// Whether the names of files stand in front of their output: as the last option about them says, or
+    /// else if there is more than one.
     #[tactic(auto, unfolding(crate::specs::Words::naming_of))]
     pub fn shows_names(&self) -> bool
         ensures { result ≡ shows_names (asked_by self.now) }

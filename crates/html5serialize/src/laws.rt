@@ -39,9 +39,8 @@ pub fn read_back<S: TokenSink<Token<A>>, A: Allocator>()
         → HasTexts token → can_write token ≡ true → ReadsBack S.means rules K s token }
 {}
 
-/// Tokens that can be written, one after another, tell these tokens, wherever they stand, and nothing is
-/// open after them, where the sink keeps on after each tag, at once or after a pause. Read alone they tell
-/// that and the end.
+/// Tokens that can be written, one after another, tell these tokens, wherever they stand, and nothing is open after
+/// them. The sink keeps on after each tag, at once or after a pause. Read alone they tell that and the end.
 pub fn tokens<S: TokenSink<Token<A>>, A: Allocator>()
     ensures tells { (rules : Rules) (K : Start) (s : S.State) (tokens : List Told) → IsTable rules.references → IsOpen K
         → HaveTexts tokens → list_all can_write tokens ≡ true → KeepsOnAfterAll {S = S.State} S.means.reply tokens
@@ -63,8 +62,8 @@ pub fn read_again<S: TokenSink<Token<A>>, A: Allocator>()
         → proper (all_messages S.means rules later t (tokens_text tokens)) ≡ flat_map read_back tokens ++ End ∷ [] }
 {}
 
-/// Raw text that can be written, serialized where raw text of that kind is read, and the end tag of its
-/// element after it, tell exactly its characters and the end tag, except for errors, whatever follows. The
+/// Take raw text that can be written, serialized where raw text of that kind is read, and the end tag of its
+/// element after it. They tell exactly its characters and the end tag, except for errors, whatever follows. The
 /// sink's reply to the end tag says what is open after it.
 pub fn raw_text<S: TokenSink<Token<A>>, A: Allocator>()
     ensures { (rules : Rules) (K : Start) (s : S.State) (kind : RawKind) (name text : List ℕ) → IsTable rules.references

@@ -297,7 +297,7 @@ impl<A: Allocator + Copy> Intake<A> {
     }
 
     /// Takes a piece: its text comes after the waiting text. Bytes that are not UTF-8 are not taken, nor those
-    /// after them, and nothing more is until that is reported (`say_fault`); where a page is decoded all are
+    /// after them, and nothing more is until that is reported (`say_fault`). Where a page is decoded all are
     /// taken.
     pub fn take(&mut self, references: &NamedReferences<A>, bytes: &[u8]) -> Result<(), AllocError>
         ensures takes { OnOk result (TakesPiece references.now self.old self.new (Bytes bytes.now)) }

@@ -384,7 +384,7 @@ impl<S: TokenSink<Token<A>>, A: Allocator + Copy> Session<S, A> {
         (session, result)
     }
 
-    /// Ends the page. It is refused, and changes nothing, while text waits, and where the bytes so far end within a
+    /// Ends the page. It is refused, and changes nothing, while text waits. So it is if the bytes so far end within a
     /// character or, where a decoder takes them, were not ended (`end_bytes`). A fault that is still to be reported is
     /// reported.
     pub fn end(mut self) -> (Session<S, A>, Result<(), SessionError>)

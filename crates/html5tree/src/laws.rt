@@ -36,7 +36,7 @@ pub fn tree_of_fitting()
 /// each by all names that are open, leave a parser that is a host again, whose tree is that of the items nested
 /// there (`host`). Where they close all that they open, and nothing else (`balanced`), the open elements, the
 /// insertion mode, the form element pointer and foster parenting are afterwards what they were (`back`). The document
-/// is what it was, with the nesting of the items at the end of the innermost open element: as they are read
+/// is what it was, with the nesting of the items at the end of the innermost open element. They are as they are read
 /// (`as_read`), or as they stand if no newline is ignored (`in_place`). Of the list of active formatting elements
 /// `host` says that no entry has to be opened again.
 ///
@@ -77,7 +77,7 @@ pub fn fits_in_host()
         → suits stack items ≡ true }
 {}
 
-/// Which hosts are flow hosts. One with nothing open; a cell or a caption, if no form is open outside it; an element in
+/// Which hosts are flow hosts. One with nothing open. A cell or a caption, if no form is open outside it. An element in
 /// a flow host that changes nothing, such as a `div`, a `section`, a `ul`, a `span` or a `b` (`is_neutral`).
 pub fn flow_hosts()
     ensures nothing_open { is_flow_host [] ≡ true }
@@ -120,11 +120,11 @@ pub fn normal_items()
 
 /// What the normaliser keeps of items, and what it adds (`Keeps`, specs/Keeping). It writes a part for each item, in
 /// their order. The part has all characters of a text, or the start tag with all its attributes; end tags come and go.
-/// A start tag is left out exactly where it has no place (`has_place`): a part of a table outside one, a form in
-/// another, and a tag of other names than the 94. Added are start tags of `tbody`, `tr`, `colgroup`, `td`, `p` and `br`
-/// alone, without attributes. That is so where eight elements may be open for each item (`all`). By any limit a start
-/// tag may be left out, too, and of a text what is not white space (`some`). When no more elements would be open than
-/// the limit, if more could be, the limit changes nothing (`not_reached`).
+/// A start tag is left out exactly where it has no place (`has_place`). That is a part of a table outside one, a form
+/// in another, and a tag of other names than the 94. Added are start tags of `tbody`, `tr`, `colgroup`, `td`, `p` and
+/// `br` alone, without attributes. That is so where eight elements may be open for each item (`all`). By any limit a
+/// start tag may be left out, too, and of a text what is not white space (`some`). When no more elements would be open
+/// than the limit, if more could be, the limit changes nothing (`not_reached`).
 pub fn kept_items()
     ensures some { (limit : ℕ) (items : List Item) → Keeps false [] items (normal limit items) }
     ensures all { (limit : ℕ) (items : List Item) → 8 * length items ≤ limit → Keeps true [] items (normal limit items) }

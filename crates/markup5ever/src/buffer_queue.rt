@@ -142,8 +142,8 @@ fn write_in_front<A: Allocator>(text: &mut String<A>, offset: &mut usize, front:
     true
 }
 
-// Appends the rest to a text. A copy of the rest's first half comes before both, and the answer is its length: it is room
-// for further texts, so that many short ones don't copy the rest each time.
+// Appends the rest to a text. A copy of the rest's first half comes before both, and the answer is its length. It is
+// room for further texts, so that many short ones don't copy the rest each time.
 fn append_with_room<A: Allocator>(text: &mut String<A>, rest: &str) -> Result<usize, AllocError>
     ensures waits { IfOk result (λ offset. drop offset (string_bytes text.new)
         ≡ string_bytes text.old ++ rest.now) }

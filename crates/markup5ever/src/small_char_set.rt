@@ -90,9 +90,9 @@ impl Sought for SmallCharSet {
     }
 }
 
-// A lane for each byte, which is not zero just where the byte is in the set of these bits. Two tables are looked up, each
-// for all bytes at once: by the higher bits of a byte eight bits of the set, and by its lowest three the one of them that
-// stands for it.
+// A lane for each byte, which is not zero just where the byte is in the set of these bits. Two tables are looked up,
+// each for all bytes at once. The higher bits of a byte give eight bits of the set, and its lowest three the one of
+// them that stands for it.
 #[inline(always)]
 fn marks(bits: u64, block: u8x16) -> u8x16
     ensures { (k : ℕ) → k < BLOCK
