@@ -9,8 +9,9 @@ use std::sync::Arc;
 ///
 /// Each name is one name, as it stands: nothing in it is read as a rule. What no policy takes is [`Error::BadRule`].
 ///
-/// By default, a link that is kept gets `rel="noopener noreferrer"`, and the kept part of a page is made to fit,
-/// so that a browser builds it with the nesting of its tags: by `tree` where each element has a place in the tree, else by `balance`.
+/// By default, a link that is kept gets `rel="noopener noreferrer"`, and the kept part of a page is made to fit, so
+/// that a browser builds it with the nesting of its tags: by `tree` where each element has a place in the tree, else by
+/// `balance`.
 ///
 /// ```
 /// use firnuubal::PolicyBuilder;
