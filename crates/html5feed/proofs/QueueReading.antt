@@ -228,7 +228,7 @@ module _ {X S H : Type 0} (means : Means X S H) (rules : Rules) where
       ∙ ap (λ v. start_after means rules L v (item ++ is_taken.more)) (sym read.state)
       ∙ after-append means.step means.reply means.foreign rules L t item is_taken.more
 
-  -- a start is what is open and how characters come in
+  -- a start is an open item and how characters come in
   pub moved-after : (N K : Start) (s : S) (X : List ℕ) → N.opened ≡ (start_after means rules K s X).opened → N.last_start_tag ≡ (start_after means rules K s X).last_start_tag → N.input ≡ input_after K.input X → N ≡ start_after means rules K s X
   moved-after N K s X opened last input = rw (← opened, ← last, ← input) refl
 

@@ -1,4 +1,4 @@
--- Characters that tell nothing leave the sink as it is, and lead to what is open after them.
+-- Characters that tell nothing leave the sink as it is, and lead to the item open after them.
 use Rattle.std.proofs.Common.{◌≡◌, ◌≢◌, ◌⊎◌, inl, inr, ℕ, ◌<◌, ◌+◌, ◌^◌, zero, suc, false, List, [], ◌∷◌, ◌++◌, Ok, Err, refl, ap, sym, ◌∙◌, subst, arith, length, length-append, take}
 use Rattle.std.specs.Prelude.{All, encode_utf8_all}
 use Rattle.std.specs.Str.{chars}

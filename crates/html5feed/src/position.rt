@@ -113,7 +113,7 @@ impl<A: Allocator + Copy> Position<A> {
         self.input.line()
     }
 
-    /// Sends what the end of input tells of what is open.
+    /// Sends what the end of input tells of the open item.
     pub fn emit_end_of_input<S: TokenSink<Token<A>>>(
         &mut self,
         alloc: A,

@@ -34,7 +34,7 @@ value_bytes-run (c ∷ run) all =
     rw (ne_eqb c null (All-head (λ c. c ≢ null) c run all))
     (ap (λ l. encode_utf8 c ++ l) (value_bytes-run run (All-tail (λ c. c ≢ null) c run all)))
 
--- an empty run leaves open what is open
+-- an empty run leaves the open item as it is
 pub opened_after_run-nil : (opened : Open) → opened_after_run opened [] ≡ opened
 opened_after_run-nil (Between mode) = refl
 opened_after_run-nil LessThan = refl

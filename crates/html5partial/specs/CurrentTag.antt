@@ -1,4 +1,4 @@
--- What a tokenizer keeps of what is open, in the words of the grammar.
+-- The open item that a tokenizer keeps, in the words of the grammar.
 use Rattle.std.specs.Prelude.{ℕ, Bool, true, false, List, [], ◌∷◌, string_bytes}
 use Rattle.std.specs.Str.{chars}
 use Rattle.html5ever_interface.specs.Token.{DoctypeOf, doctype_of}

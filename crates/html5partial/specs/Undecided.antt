@@ -38,7 +38,7 @@ pub record BelongsTo (rules : Rules) (foreign : Bool) (opened : Open) (c : ℕ) 
   pub here : (brought_at rules foreign opened c).here ≡ Tells [] later
   pub good : is_bad_character c ≡ false
 
--- the character decides, and is then read as what is open after that says
+-- the character decides, and is then read by the item open after that
 pub record Decides (rules : Rules) (foreign : Bool) (opened : Open) (c : ℕ) (later : Open) : Type 0 where
   pub here : (brought_at rules foreign opened c).here ≡ step_at rules.exact later c
   pub decided : is_undecided_open later ≡ false

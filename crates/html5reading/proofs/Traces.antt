@@ -119,7 +119,7 @@ rests-of_doctypes : ⊤
 unfolding doctype before_doctype_name after_word_and_space doctype_name after_doctype_name after_doctype_name_and_space keyword_or_end doctype_keyword after_keyword identifier_after_space after_keyword_and_space identifier after_in_identifier between_identifiers after_space_between skipped_rest after_skipped_rest reference_text after_held run_while after_while run_of after_run
 rests-of_doctypes = tt
 
--- before an empty text what is open stays open
+-- before an empty text the open item stays open
 pub rest_of-nil : (rules : Rules) (opened : Open) → open_after (rest_of rules opened []).afterwards ≡ opened
 unfolding rests-of_tags rests-of_comments rests-of_doctypes
 rest_of-nil rules (Between mode) = refl

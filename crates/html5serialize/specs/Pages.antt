@@ -21,7 +21,7 @@ pub data Part : Type 0 where
   One : Told → Part
   Element : TagOf → RawKind → List ℕ → Part
 
--- as it is written
+-- serialized
 abbrev pub part_text : Part → List ℕ
 part_text (One token) = token_text token
 part_text (Element tag kind text) = token_text (Tag tag) ++ (raw_text kind text ++ end_text (chars tag.name))
