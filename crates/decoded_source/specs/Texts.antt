@@ -19,7 +19,7 @@ pub record Reading (S : Type 0) : Type 0 where
 abbrev pub refusal : List ℕ
 refusal = 0xFF ∷ []
 
--- the text of bytes up to the first error, and the refusal where there is one
+-- the text of bytes up to the first error, and the refusal if there is one
 abbrev pub text_up_to_error : State → List ℕ → List ℕ
 text_up_to_error now [] = if is_whole now then [] else refusal
 text_up_to_error now (byte ∷ bytes) =

@@ -63,7 +63,7 @@ impl<W: Target, A: Allocator> Printer<W, A> {
         written
     }
 
-    /// Prints bytes. Where there is no memory for it nothing was printed; where a full buffer can't be
+    /// Prints bytes. If there is no memory for it nothing was printed; where a full buffer can't be
     /// written the printer has failed, and prints nothing more.
     pub fn print(&mut self, bytes: &[u8]) -> Result<(), Fault>
         ensures ok { OnOk result (self.new.printed ≡ self.old.printed ++ bytes.now) }

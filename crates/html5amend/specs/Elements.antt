@@ -13,7 +13,7 @@ use Rattle.html5amend.specs.Parts.{PartOf, is_as_it_is}
 pub record ElementOf : Type 0 where
   -- its start tag, with the name and the attributes that it is given
   pub tag : TagOf
-  -- the name that it has in the page, where it is given another
+  -- the name that it has in the page, if it is given another
   pub page_name : Option (List ℕ)
   -- whether something can stand in it
   pub has_content : Bool
@@ -59,11 +59,11 @@ without_value attribute e =
 abbrev pub with_name : List ℕ → ElementOf → ElementOf
 with_name name e = record e { tag = record e.tag { name = name }; page_name = Some (name_in_page e); is_new = true }
 
--- after what was put there before it
+-- after the earlier content there
 abbrev pub with_before : List ℕ → ElementOf → ElementOf
 with_before content e = record e { before = e.before ++ content }
 
--- before what was put there before it
+-- before the earlier content there
 abbrev pub with_after : List ℕ → ElementOf → ElementOf
 with_after content e = record e { after = content ++ e.after }
 
@@ -75,7 +75,7 @@ with_prepended content e = if e.has_content then record e { prepended = content 
 abbrev pub with_appended : List ℕ → ElementOf → ElementOf
 with_appended content e = if e.has_content then record e { appended = e.appended ++ content } else e
 
--- in place of its content, and of what was put there
+-- in place of its content, and of the content put there
 abbrev pub filled_with : List ℕ → ElementOf → ElementOf
 filled_with content e = record e { drops_content = true; prepended = content; appended = [] }
 

@@ -30,7 +30,7 @@ use std::mem::replace;
 pub struct Element<A: Allocator = Global> {
     alloc: A,
     tag: Tag<A>,
-    // The name that it has in the page, where it is given another.
+    // The name that it has in the page, if it is given another.
     page_name: Option<String<A>>,
     has_content: bool,
     is_new: bool,
@@ -118,7 +118,7 @@ impl<A: Allocator + Copy> Element<A> {
         &self.tag.name.0
     }
 
-    /// The value of an attribute, where there is one.
+    /// The value of an attribute, if there is one.
     pub fn value(&self, attribute: &str) -> Option<&str>
         ensures { option_map (λ value. value.now) result ≡ value_of attribute.now self.now.tag.attributes }
     {
@@ -150,7 +150,7 @@ impl<A: Allocator + Copy> Element<A> {
         Ok(())
     }
 
-    /// Removes an attribute, where there is one.
+    /// Removes an attribute, if there is one.
     pub fn remove_attribute(&mut self, attribute: &str)
         ensures { self.new ≡ without_value attribute.now self.old }
     {
@@ -178,14 +178,14 @@ impl<A: Allocator + Copy> Element<A> {
         Ok(())
     }
 
-    /// Puts a content before its start tag, after what was put there before.
+    /// Puts a content before its start tag, after the earlier content there.
     pub fn before(&mut self, content: Content<'_>) -> Result<(), AllocError>
         ensures { OnOk result (self.new ≡ with_before (content_bytes content.entry) self.old) }
     {
         push_content(&mut self.before, content)
     }
 
-    /// Puts a content after its end tag, before what was put there before.
+    /// Puts a content after its end tag, before the earlier content there.
     pub fn after(&mut self, content: Content<'_>) -> Result<(), AllocError>
         ensures { OnOk result (self.new ≡ with_after (content_bytes content.entry) self.old) }
     {
@@ -193,7 +193,7 @@ impl<A: Allocator + Copy> Element<A> {
         Ok(())
     }
 
-    /// Puts a content after its start tag, before what was put there before. If it can't have content, nothing is put
+    /// Puts a content after its start tag, before the earlier content there. If it can't have content, nothing is put
     /// there.
     pub fn prepend(&mut self, content: Content<'_>) -> Result<(), AllocError>
         ensures { OnOk result (self.new ≡ with_prepended (content_bytes content.entry) self.old) }
@@ -204,7 +204,7 @@ impl<A: Allocator + Copy> Element<A> {
         Ok(())
     }
 
-    /// Puts a content before its end tag, after what was put there before. If it can't have content, nothing is put
+    /// Puts a content before its end tag, after the earlier content there. If it can't have content, nothing is put
     /// there.
     pub fn append(&mut self, content: Content<'_>) -> Result<(), AllocError>
         ensures { OnOk result (self.new ≡ with_appended (content_bytes content.entry) self.old) }
@@ -215,7 +215,7 @@ impl<A: Allocator + Copy> Element<A> {
         Ok(())
     }
 
-    // Replaces its content, and what was put there, by another.
+    // Replaces its content, and the content put there, by another.
     fn fill(&mut self, content: Content<'_>) -> Result<(), AllocError>
         ensures { OnOk result (self.new ≡ filled_with (content_bytes content.entry) self.old) }
     {
@@ -225,7 +225,7 @@ impl<A: Allocator + Copy> Element<A> {
         Ok(())
     }
 
-    /// Replaces its content, and what was put there, by another. If it can't have content, nothing changes.
+    /// Replaces its content, and the content put there, by another. If it can't have content, nothing changes.
     pub fn set_inner_content(&mut self, content: Content<'_>) -> Result<(), AllocError>
         ensures { OnOk result (self.new ≡ with_content (content_bytes content.entry) self.old) }
     {

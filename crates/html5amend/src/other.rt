@@ -51,14 +51,14 @@ impl<A: Allocator + Copy> Other<A> {
         &self.token
     }
 
-    /// Puts a content before it, after what was put there before.
+    /// Puts a content before it, after the earlier content there.
     pub fn before(&mut self, content: Content<'_>) -> Result<(), AllocError>
         ensures { OnOk result (self.new ≡ put_before (content_bytes content.entry) self.old) }
     {
         push_content(&mut self.part.before, content)
     }
 
-    /// Puts a content after it, before what was put there before.
+    /// Puts a content after it, before the earlier content there.
     pub fn after(&mut self, content: Content<'_>) -> Result<(), AllocError>
         ensures { OnOk result (self.new ≡ put_after (content_bytes content.entry) self.old) }
     {

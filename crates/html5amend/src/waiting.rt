@@ -108,7 +108,7 @@ impl<A: Allocator + Copy> Waiting<A> {
         }
     }
 
-    // The same, where there is one.
+    // The same, if there is one.
     pub fn count(&mut self, count: Option<Count>)
         ensures { self.new ≡ with_count count self.old }
     {
@@ -117,7 +117,7 @@ impl<A: Allocator + Copy> Waiting<A> {
         }
     }
 
-    // One more, where there is room.
+    // One more, if there is room.
     fn push_within(&mut self, element: Open<A>)
         ensures { self.new ≡ with_open element None self.old }
     {
@@ -126,7 +126,7 @@ impl<A: Allocator + Copy> Waiting<A> {
         }
     }
 
-    // One more, and all of them go where there is room for more of them.
+    // One more, and all of them go if there is room for more of them.
     fn push_into(&mut self, element: Open<A>, mut room: VecDeque<Open<A>, A>)
         ensures { self.new ≡ with_open element (Some room) self.old }
     {

@@ -23,7 +23,7 @@ use Rattle.markup5ever.specs.NamedReferences.{table_of}
 
 -- ---- a new page
 
--- the policy of a text: the standard one where it has no bytes
+-- the policy of a text: the standard one if it has no bytes
 abbrev pub PolicyGiven : List ℕ → PolicyOf → Type 0
 PolicyGiven [] policy = policy ≡ standard_policy
 PolicyGiven (b ∷ bytes) policy = policy_said (b ∷ bytes) ≡ Ok policy

@@ -11,7 +11,7 @@ use Rattle.html5session.specs.Intake.{IsUnbegun, encoding_known}
 use Rattle.html5session.specs.Session.{SessionOf, is_over}
 use Rattle.html5sniffing.specs.PageDecoding.{page_start}
 
--- what a label says of a page, if it says something: nothing, where it has no bytes, or its encoding
+-- what a label says of a page, if it says something: nothing, if it has no bytes, or its encoding
 abbrev pub said_by : List ℕ → Option (Option Encoding)
 said_by [] = Some None
 said_by (b ∷ bytes) = option_map (λ encoding. Some encoding) (encoding_of (b ∷ bytes))

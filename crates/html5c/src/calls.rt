@@ -169,9 +169,9 @@ pub extern "C" fn html5_set_encoding(alloc: Global, h: &mut Handle, label: &[u8]
     status
 }
 
-/// The name of the encoding in which a page is read by `html5_set_encoding`, once it is known: the first bytes of the page tell,
-/// or its end. It copies as much of the name as there is room for, and answers how many bytes that is: 0 where it isn't
-/// known.
+/// The name of the encoding in which a page is read by `html5_set_encoding`, once it is known: the first bytes of the
+/// page tell, or its end. It copies as much of the name as there is room for, and answers how many bytes that is: 0 if
+/// it isn't known.
 #[unsafe(no_mangle)]
 pub extern "C" fn html5_encoding(alloc: Global, h: &mut Handle, out: &mut [u8]) -> usize
     ensures name { NamesEncoding (encoding_in h.old.owned.value) out.old out.new result }

@@ -35,7 +35,7 @@ pub extern "C" fn html5_cleaner_new(
     }
 }
 
-/// Begins another page, by the same policy. What was kept and not taken is gone.
+/// Begins another page, by the same policy. Kept bytes that were not taken are gone.
 #[unsafe(no_mangle)]
 pub extern "C" fn html5_cleaner_restart(alloc: Global, h: &mut Handle) -> u32
     ensures restarts { Restarts (cleaner_of h.old.owned.value) (cleaner_of h.new.owned.value) result }
@@ -116,7 +116,8 @@ pub extern "C" fn html5_cleaner_error_at(alloc: Global, h: &mut Handle) -> u64
 }
 
 /// Whether nothing more is read: the page has ended, or a call failed for good. Then `html5_cleaner_feed` and
-/// `html5_cleaner_end` answer `OVER`, and what was kept can still be taken. It is false where the handle is of no page.
+/// `html5_cleaner_end` answer `OVER`, and the kept bytes can still be taken. It is false where the handle is of no
+/// page.
 #[unsafe(no_mangle)]
 pub extern "C" fn html5_cleaner_is_over(alloc: Global, h: &mut Handle) -> bool
     ensures over { result ≡ cleaner_over_in (cleaner_of h.old.owned.value) }

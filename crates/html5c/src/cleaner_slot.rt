@@ -87,7 +87,7 @@ impl PageSlot {
         }
     }
 
-    /// Takes the next bytes of what was kept.
+    /// Takes the next bytes of the kept part.
     pub fn take_cleaned(&mut self, out: &mut [u8]) -> usize
         ensures takes { CleanerTakes (cleaner_in self.old) (cleaner_in self.new) out.old out.new result }
         ensures other { session_in self.new ≡ session_in self.old }

@@ -12,7 +12,7 @@ use html5session::RecordSession;
 use html5sniffing::{PageDecoder, encoding_of};
 use std::alloc::Global;
 
-// What a label says of a page, if it says something: nothing, where it has no bytes, or its encoding.
+// What a label says of a page, if it says something: nothing, if it has no bytes, or its encoding.
 fn said_by(label: &[u8]) -> Option<Option<Encoding>>
     ensures { result ≡ said_by label.now }
 {

@@ -21,7 +21,7 @@ pub struct Options {
     pub replies: u32,
     /// Report every bad character, and name no state in error messages.
     pub exact_errors: bool,
-    /// Keep U+FEFF where it is the first character.
+    /// Keep U+FEFF if it is the first character.
     pub keep_bom: bool,
     /// Whether the current node is outside the HTML namespace, so that `<![CDATA[` begins a section.
     pub foreign: bool,

@@ -46,7 +46,7 @@ impl<'t> Checker<'t> {
         }
     }
 
-    /// What was found, in the order of the tokens that showed it.
+    /// The findings, in the order of their tokens.
     pub fn into_found(self) -> Vec<Finding<'t>>
         ensures { map finding_by result.items ≡ self.entry.found }
     {

@@ -99,7 +99,7 @@ impl<'t> OpenElements<'t> {
         ended_before(&self.elements, name)
     }
 
-    /// How many an end tag of this name ends: those in the innermost of its name, and that one; none where there is no
+    /// How many an end tag of this name ends: those in the innermost of its name, and that one; none if there is no
     /// such.
     pub fn closed_by(&self, name: &str) -> usize
         ensures { result ≡ closed_by self.now name.now }
@@ -126,7 +126,7 @@ impl<'t> OpenElements<'t> {
         self.elements.pop()
     }
 
-    /// Closes this many, or all where there are fewer.
+    /// Closes this many, or all if there are fewer.
     pub fn close(&mut self, count: usize)
         ensures { self.new ≡ drop count self.old }
     {

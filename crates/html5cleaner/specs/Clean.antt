@@ -66,7 +66,7 @@ abbrev pub allows_by_kind : PolicyOf → TagKind → List ℕ → Bool
 allows_by_kind policy StartTag name = is_allowed policy name
 allows_by_kind policy EndTag name = is_allowed policy name && has_end name
 
--- a piece, where it can be written
+-- a piece, if it can be written
 abbrev pub where_writable : Piece → List Piece
 where_writable piece = if can_write piece then piece ∷ [] else []
 
@@ -93,7 +93,7 @@ abbrev pub kept_of_token : PolicyOf → Told → List Piece
 kept_of_token policy (Tag tag) = kept_of_tag policy tag
 kept_of_token policy other = []
 
--- a run, where there is one
+-- a run, if there is one
 unfoldable pub kept_of_run : List ℕ → List Piece
 kept_of_run [] = []
 kept_of_run (byte ∷ run) = where_writable (TextPiece (chars (byte ∷ run)))

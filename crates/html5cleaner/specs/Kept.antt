@@ -14,7 +14,7 @@ use Rattle.html5tree.specs.Items.{Item}
 use Rattle.html5tree.specs.Nested.{Nested}
 use Rattle.html5tree.specs.Normal.{IsReady, end_tags}
 
--- a piece, where there is one
+-- a piece, if there is one
 abbrev pub piece_where : Option RustPiece → List Piece
 piece_where None = []
 piece_where (Some piece) = piece_of piece ∷ []

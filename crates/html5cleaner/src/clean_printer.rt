@@ -103,7 +103,7 @@ impl<W: Target, A: Allocator + Copy> CleanPrinter<W, A> {
         self
     }
 
-    /// The printer, with what was printed.
+    /// The printer, with its output.
     pub fn into_inner(self) -> Printer<W, A>
         ensures { result ≡ self.printer }
     {

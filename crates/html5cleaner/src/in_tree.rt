@@ -79,7 +79,7 @@ fn write_piece<A: Allocator + Copy>(
     }
 }
 
-// Writes a piece so that it fits, where there is one.
+// Writes a piece so that it fits, if there is one.
 fn write_where<A: Allocator + Copy>(
     alloc: A,
     page: &mut Writer<A>,

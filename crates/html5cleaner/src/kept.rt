@@ -23,7 +23,7 @@ pub fn is_end<A: Allocator>(token: &Token<A>) -> bool
     matches!(token, Token::EOFToken)
 }
 
-// The piece, where it can be written.
+// The piece, if it can be written.
 #[inline(always)]
 fn where_writable(piece: Piece<'_>) -> Option<Writable<'_>>
     ensures { piece_where result ≡ where_writable (piece_of piece.entry) }
@@ -136,7 +136,7 @@ pub fn kept_tag<'t, A: Allocator>(
     kept_of_parts(policy, tag.kind, &tag.name.0, attributes)
 }
 
-// Writes a piece, where there is one: all of it or nothing.
+// Writes a piece, if there is one: all of it or nothing.
 fn write_where<A: Allocator + Copy>(
     page: &mut Writer<A>,
     piece: &Option<Writable<'_>>,

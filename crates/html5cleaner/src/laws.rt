@@ -142,12 +142,12 @@ pub fn cleaned_page_in_host()
     fits_in_host();
 }
 
-/// What the rule `tree` leaves out of what the same policy keeps without it, and what it adds (`Keeps`, of html5tree). All
-/// text is kept, and each start tag with its attributes, in one order. A start tag is left out only where it has no place
-/// (`has_place`): a part of a table outside one, or a form in another or straight in a table. End tags come and go. Start
-/// tags of `tbody`, `tr`, `colgroup`, `td`, `p` and `br` are added, without attributes. That is so where nowhere more elements
-/// would be open than the policy's depth, if any number could be, such as eight for each piece (`all`). Of any page a start
-/// tag may be left out, too, and of its text what is no white space (`some`).
+/// What the rule `tree` leaves out of what the same policy keeps without it, and what it adds (`Keeps`, of html5tree).
+/// All text is kept, and each start tag with its attributes, in one order. A start tag is left out only if it has no
+/// place (`has_place`): a part of a table outside one, or a form in another or straight in a table. End tags come and
+/// go. Start tags of `tbody`, `tr`, `colgroup`, `td`, `p` and `br` are added, without attributes. That is so where
+/// nowhere more elements would be open than the policy's depth, if any number could be, such as eight for each piece
+/// (`all`). Of any page a start tag may be left out, too, and of its text what is no white space (`some`).
 pub fn kept_in_tree()
     ensures all { (policy : PolicyOf) (references : List NamedReference) (text : List ℕ) (more : ℕ) → policy.tree ≡ true
         → policy.depth ≤ more → 8 * length (items_of (kept_of_page (without_tree policy) references text)) ≤ more

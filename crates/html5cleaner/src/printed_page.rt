@@ -25,7 +25,7 @@ pub fn prints_clean_pieces()
         → list_all (is_clean policy) (runs_handed clean_step (at_start policy) M).pieces ≡ true }
 {}
 
-// Reads a page, and prints the kept part of it, in the words of the handler.
+// Reads a page, and prints its kept part, in the words of the handler.
 fn read_printed<R: Source, W: Target, A: Allocator + Copy>(
     alloc: A,
     source: &mut R,
@@ -47,7 +47,7 @@ fn read_printed<R: Source, W: Target, A: Allocator + Copy>(
     read_tokens(alloc, source, cleaner.at_start(), references)
 }
 
-/// Reads a page, and prints as it arrives the kept part of it, after what was printed before.
+/// Reads a page, and prints its kept part as it arrives, after the earlier output.
 pub fn print_cleaned<R: Source, W: Target, A: Allocator + Copy>(
     alloc: A,
     source: &mut R,

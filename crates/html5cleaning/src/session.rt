@@ -50,7 +50,7 @@ fn done<A: Allocator>(
 }
 
 impl<A: Allocator> CleaningSession<A> {
-    /// Whether nothing more is read: a call failed, or the page has ended. What was kept can still be taken.
+    /// Whether nothing more is read: a call failed, or the page has ended. The kept bytes can still be taken.
     pub fn is_over(&self) -> bool
         ensures { result ≡ is_over self.now }
     {
@@ -96,7 +96,7 @@ impl<A: Allocator> CleaningSession<A> {
         self.session.encoding()
     }
 
-    // Takes the next bytes of what was kept.
+    // Takes the next bytes of the kept part.
     fn take_bytes(&mut self, into: &mut [u8]) -> usize
         ensures count { result ≡ min (length into.old) (length (waiting_in self.old)) }
         ensures copied { into.new ≡ take result (waiting_in self.old) ++ drop result into.old }
@@ -149,7 +149,7 @@ impl<A: Allocator + Copy> CleaningSession<A> {
     }
 
     /// A session at the start of another page, by the same policy, table and limit, whose bytes are decoded as those of
-    /// this one. What was kept and not taken is gone.
+    /// this one. Kept bytes that were not taken are gone.
     pub fn restart(self) -> CleaningSession<A>
         ensures { StartsPage (buffer_of self).policy self.references self.intake.limit (page_again self.intake) result }
     {

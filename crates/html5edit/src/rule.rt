@@ -12,7 +12,7 @@ use std::alloc::{AllocError, Global};
 pub struct AttributeRule {
     pub element: String,
     pub attribute: String,
-    /// What it is set to, or `None` where it is removed.
+    /// What it is set to, or `None` if it is removed.
     pub value: Option<String>,
 }
 
@@ -30,7 +30,7 @@ fn round_dot(place: &str) -> Option<(&str, &str)>
     place.split_once('.')
 }
 
-// A copy of a value, where there is one.
+// A copy of a value, if there is one.
 fn copied(alloc: Global, value: Option<&str>) -> Result<Option<String>, AllocError>
     ensures { IfOk result (λ copy. option_map string_bytes copy ≡ option_map (λ v. v.now) value.entry) }
 {

@@ -60,7 +60,7 @@ module _ {X S H : Type 0} (means : Means X S H) where
     linear = omega arith;
   }
 
-  -- what a feed after a further piece cost, also where it was refused
+  -- what a feed after a further piece cost, also if it was refused
   pub HasFed-linear : (first now : Tokenizing X) (old mid pushed new : TextQueue) (pieces later : List (List ℕ)) (piece : List ℕ) (held : ℕ)
       → HasFed first now old mid pieces later → Gains mid pushed (chars piece)
       → IsLinear (held_len now.position.opened) pushed held new → new.handed_in ≡ pushed.handed_in
@@ -128,7 +128,7 @@ module _ {X S H : Type 0} (means : Means X S H) where
       (subst (λ b. Stops means.step means.faulted e (means.state now.sink) (told_beyond means b K s (text ++ front) waiting) v) so_far.rules
       (stops K s (text ++ front) now_stands)))
 
-  -- where there is no room for the next piece, nothing more was sent
+  -- if there is no room for the next piece, nothing more was sent
   pub HasFed-no_room : (first now : Tokenizing X) (old mid : TextQueue) (pieces later : List (List ℕ)) → HasFed first now old mid pieces later
       → StopsReading means Memory first (old.text ++ text_of pieces) (means.state now.sink)
   HasFed-no_room first now old mid pieces later so_far =

@@ -1,4 +1,4 @@
--- A run by steps: what was taken so far, and what that gives at the end or where it is refused.
+-- A run by steps: what was taken so far, and what that gives at the end or if it is refused.
 use Rattle.std.proofs.Common.{◌≡◌, ℕ, true, false, List, [], ◌∷◌, ◌++◌, refl, ap, sym, ◌∙◌, subst, length, arith}
 use Rattle.std.specs.List.{concat}
 use Rattle.std.specs.Prelude.{map}

@@ -5,7 +5,7 @@ use Rattle.markup5ever.specs.BufferQueue.{TextQueue}
 use Rattle.html5ever.specs.Pieces.{text_of}
 use Rattle.html5ever.specs.Tokenizer.{Tokenizing, ReadsOn}
 
--- what is taken: all that waits and all pieces, or nothing where there is no piece
+-- what is taken: all that waits and all pieces, or nothing if there is no piece
 abbrev pub fed_text : List ℕ → List (List ℕ) → List ℕ
 fed_text waiting [] = []
 fed_text waiting (piece ∷ pieces) = waiting ++ text_of (piece ∷ pieces)

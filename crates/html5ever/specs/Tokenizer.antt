@@ -31,7 +31,7 @@ pub record Tokenizing (X : Type 0) : Type 0 where
 abbrev pub rules_of : OptionsOf → List NamedReference → Rules
 rules_of opts references = record { exact = opts.exact_errors; references = references }
 
--- what a feed does to the queue, also where it is refused: it puts nothing in, and takes from the front
+-- what a feed does to the queue, also if it is refused: it puts nothing in, and takes from the front
 pub record TakesFront {X : Type 0} (before after : Tokenizing X) (queue left : TextQueue) : Type 0 where
   -- what is left is a suffix of the text that waited
   pub end_of_queue : IsEndOf left.text queue.text

@@ -177,7 +177,7 @@ fn no_bases() -> Bases
     }
 }
 
-/// At the URL that a word is, or at none where there is no word.
+/// At the URL that a word is, or at none if there is no word.
 pub fn bases_at(alloc: Global, word: Option<&str>) -> Result<Bases, BaseError>
     ensures { IfOk result (λ bases. bases_by_word (option_map (λ word. word.now) word.entry) ≡ Some bases) }
 {

@@ -54,7 +54,7 @@ pub fn link_of<A: Allocator>(tag: &Tag<A>) -> Option<&String<A>>
     }
 }
 
-// Appends a byte, where it is no tab and no line break.
+// Appends a byte, unless it is a tab or a line break.
 fn push_kept<A: Allocator>(line: &mut Vec<u8, A>, byte: u8) -> Result<(), AllocError>
     ensures { OnOk result (line.new.items ≡ line.old.items ++ kept byte) }
 {

@@ -81,7 +81,7 @@ impl<W: Target, A: Allocator> PageText<W, A> {
         }
     }
 
-    /// The printer, with what was printed.
+    /// The printer, with its output.
     pub fn into_inner(self) -> Printer<W, A>
         ensures { result ≡ self.printer }
     {

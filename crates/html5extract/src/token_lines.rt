@@ -179,7 +179,7 @@ fn print_token<W: Target, A: Allocator + Copy>(
 }
 
 /// Prints what it is sent as `PrintSink` does, but to a printer, as it comes, with a name in front of each
-/// line where there is one. It replies as that does.
+/// line if there is one. It replies as that does.
 #[derive(Drop)]
 pub struct TokenLines<W, A: Allocator = Global> {
     alloc: A,
@@ -211,7 +211,7 @@ impl<W: Target, A: Allocator> TokenLines<W, A> {
         }
     }
 
-    /// The printer, with what was printed.
+    /// The printer, with its output.
     pub fn into_inner(self) -> Printer<W, A>
         ensures { result ≡ self.printer }
     {

@@ -78,7 +78,7 @@ after_name≢data : (held : List ℕ) (d : DoctypeOf) → after_doctype_name hel
 after_name≢data [] d = λ e. cc
 after_name≢data (c ∷ held) d = λ e. cc
 
--- no text of a section is held where there are no bytes of it
+-- no text of a section is held if there are no bytes of it
 section-filled : (held : List ℕ) → held ≢ [] → is_between state.CdataSection held ≡ false
 section-filled [] filled = absurd (filled refl)
 section-filled (c ∷ held) filled = refl

@@ -89,7 +89,7 @@ takes-quietly x rules K L old new bytes takes quiet none last input =
     by zero q e = inr (chars-nil, e refl)
     by (suc n) q e = inl (q (λ zero. cc))
 
--- and where it was refused
+-- and if it was refused
 pub stops-quietly : {T : Type 0} (rules : Rules) (K L : Start) (old new : TextQueue) (text : List ℕ) → Takes old new text → StopsAtCharacter rules K text
     → TakesQuietly {T = T} rules (Err Memory) K L old new
 stops-quietly rules K L old new text takes stops = record {

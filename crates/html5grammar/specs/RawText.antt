@@ -39,7 +39,7 @@ pub data RawItem : Type 0 where
   -- none, and such a character.
   Switch : List ℕ → ℕ → RawItem
 
--- raw text: its items, and the end tag that ends it, where there is one
+-- raw text: its items, and the end tag that ends it, if there is one
 pub record WrittenRaw : Type 0 where
   pub items : List RawItem
   pub end_tag : Option WrittenTag

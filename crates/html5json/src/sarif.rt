@@ -202,7 +202,7 @@ fn results_of(
     Ok(bytes)
 }
 
-// The end of the log, where there is a result or not.
+// The end of the log, by whether there is a result.
 fn log_ended(alloc: Global, has_found: bool) -> Result<Vec<u8>, AllocError>
     ensures { IfOk result (λ bytes. bytes.items ≡ log_ended has_found) }
 {

@@ -47,7 +47,7 @@ pub fn is_ended(name: &str) -> bool
     name.ends_with(';')
 }
 
-/// How many characters the semicolon of a number takes: none where it has no semicolon.
+/// How many characters the semicolon of a number takes: none if it has no semicolon.
 pub fn semicolon_len(next: Option<char>) -> usize
     ensures { result ≡ semicolon_len next }
 {

@@ -95,7 +95,7 @@ fn read_end<A: Allocator + Copy>(
 }
 
 impl<A: Allocator> PlacedSession<A> {
-    /// Whether nothing more is read: a call failed, or the page has ended. What was written can still be taken.
+    /// Whether nothing more is read: a call failed, or the page has ended. The records can still be taken.
     pub fn is_over(&self) -> bool
         ensures { result ≡ is_over self.now }
     {
@@ -164,7 +164,7 @@ impl<A: Allocator + Copy> PlacedSession<A> {
         }
     }
 
-    /// A session at the start of another page, by the same table and limit. What was written and not taken is gone.
+    /// A session at the start of another page, by the same table and limit. Records that were not taken are gone.
     pub fn restart(self, opts: TokenizerOpts<A>) -> PlacedSession<A>
         requires { CanStart opts.initial_state }
         ensures stands { StandsIn result (start_of (options_of opts)) [] }

@@ -53,7 +53,7 @@ fn push_name<A: Allocator + Copy>(
     Ok(())
 }
 
-// Appends a name where there is room for it.
+// Appends a name if there is room for it.
 fn push_within<A: Allocator>(names: &mut Vec<String<A>, A>, name: String<A>)
     requires { vec_len names.old < vec_capacity names.old }
     ensures items { names.new.items ≡ names.old.items ++ name ∷ [] }

@@ -6,7 +6,7 @@ use thiserror::Error;
 // How like a word a name is that is suggested, from 0 to 1 as Jaro measures it, is more than this.
 const LIKE: f64 = 0.8;
 
-/// That a word names nothing of a kind, as an option, with a name that is like it where there is one.
+/// That a word names nothing of a kind, as an option, with a name that is like it if there is one.
 #[derive(Clone, Copy, Debug, Error)]
 pub enum NoSuch<'n> {
     #[error("no such {kind}; did you mean {name}?")]

@@ -136,7 +136,7 @@ longest_name [] text = None
 longest_name (entry ∷ references) text =
     if starts_with nat_eq text entry.name then Some (longer entry (longest_name references text)) else longest_name references text
 
--- the second character of an entry, where it has one
+-- the second character of an entry, if it has one
 abbrev pub second_of : Option ℕ → List ℕ
 second_of None = []
 second_of (Some c) = c ∷ []

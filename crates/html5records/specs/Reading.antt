@@ -86,7 +86,7 @@ read_tag kind bytes = do
     rest,
   )
 
--- a text, where there is one
+-- a text, if there is one
 unfoldable pub read_optional : Bool → List ℕ → Option (Option (List ℕ) × List ℕ)
 read_optional false bytes = Some (None, bytes)
 read_optional true bytes = do
@@ -156,7 +156,7 @@ read_record (code ∷ bytes) = if code == 3 then read_text_record bytes else rea
 abbrev pub IsShort : List ℕ → Type 0
 IsShort text = length text < 2 ^ 64
 
--- such a text, where there is one
+-- such a text, if there is one
 abbrev pub IsShortIfAny : Option (List ℕ) → Type 0
 IsShortIfAny None = Unit {0}
 IsShortIfAny (Some text) = IsShort text

@@ -167,7 +167,7 @@ fn read_tag(kind: TagKind, bytes: &[u8]) -> Option<(TokenRecord<'_>, &[u8])>
     Some((TokenRecord::Tag(tag), rest))
 }
 
-// A text, where there is one, and the bytes after it.
+// A text, if there is one, and the bytes after it.
 #[tactic(auto, unfolding(crate::specs::Reading::read_optional))]
 fn read_optional(is_there: bool, bytes: &[u8]) -> Option<(Option<&[u8]>, &[u8])>
     ensures { option_map (λ read. (option_map (λ text. text.now) read.0, read.1.now)) result

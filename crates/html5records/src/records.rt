@@ -91,7 +91,7 @@ fn push_attribute<A: Allocator>(
     push_counted(written, attribute.value.as_bytes())
 }
 
-// The flag, where it is set.
+// The flag, if it is set.
 fn flag_where(is_set: bool, weight: u8) -> u8
     ensures { result ≡ flag is_set weight }
 {

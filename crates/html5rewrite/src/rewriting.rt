@@ -172,7 +172,7 @@ impl<H: Drop, O, A: Allocator + Copy> Rewriting<H, O, A> {
         }
     }
 
-    /// The output, with what was written.
+    /// The output, with all that was written.
     pub fn into_output(self) -> O
         ensures { result ≡ self.output }
     {

@@ -38,7 +38,7 @@ fn is_before_markup(piece: &Piece<'_>) -> bool
     }
 }
 
-// Writes a piece, where it can be written and markup is read after it.
+// Writes a piece, if it can be written and markup is read after it.
 fn write_plain<A: Allocator + Copy>(
     page: &mut Writer<A>,
     piece: &Piece<'_>,
@@ -51,7 +51,7 @@ fn write_plain<A: Allocator + Copy>(
     page.write(piece)
 }
 
-/// Writes a run of text, where there is one.
+/// Writes a run of text, if there is one.
 #[tactic(auto, unfolding(crate::specs::Plain::written_of_run))]
 pub fn write_run<A: Allocator + Copy>(page: &mut Writer<A>, run: &str) -> Result<(), WriteError>
     ensures { OnOk result (page.new ≡ page.old ++ written_of_run run.now) }

@@ -1,4 +1,4 @@
--- A token is refused exactly where it can't be written.
+-- A token is refused exactly if it can't be written.
 use Rattle.std.proofs.Common.{◌≡◌, ℕ, ◌+◌, Bool, true, false, List, [], ◌∷◌, Some, None, Option, refl, ap, ◌∙◌}
 use Rattle.std.specs.Prelude.{◌==◌, ◌&&◌, not, option_map, if◌then◌else◌}
 use Rattle.std.specs.List.{list_all}

@@ -36,7 +36,7 @@ fn push_identifier<A: Allocator>(
     Ok(())
 }
 
-// Appends the text after the name, where there is no public identifier.
+// Appends the text after the name, if there is no public identifier.
 fn push_system<A: Allocator>(
     out: &mut String<A>,
     quirks: bool,
@@ -55,7 +55,7 @@ fn push_system<A: Allocator>(
     push_identifier(out, !quirks, system)
 }
 
-// Appends the text after the name, where there is a public identifier.
+// Appends the text after the name, if there is a public identifier.
 fn push_public<A: Allocator>(
     out: &mut String<A>,
     quirks: bool,

@@ -113,7 +113,7 @@ pub fn standard_sinks<
     ensures scripting { AsksAsStandard true ⟦<ScriptingSink<S> as TokenSink<Token<A>>>⟧.means.reply }
 {}
 
-/// Raw text is refused for some reason exactly where it can't be written.
+/// Raw text is refused for some reason exactly if it can't be written.
 pub fn raw_refusals()
     ensures { (kind : RawKind) (name text : List ℕ) → is_none (raw_refusal kind name text) ≡ can_write_raw kind name text }
 {}
@@ -126,7 +126,7 @@ pub fn each_token<S: TokenSink<Token<A>>, A: Allocator>()
         → All (λ m. can_write m.token ≡ true) (all_messages S.means rules K s text) }
 {}
 
-/// A token is refused for some reason exactly where it can't be written.
+/// A token is refused for some reason exactly if it can't be written.
 pub fn refusals()
     ensures { (token : Told) → is_none (refusal_of token) ≡ can_write token }
 {}

@@ -178,7 +178,7 @@ fn push_at<A: Allocator>(
     }
 }
 
-// The place after a tag, where it is not plain text.
+// The place after a tag, if it is not plain text.
 fn place_after_tag<A: Allocator>(scripting: bool, tag: &Tag<A>) -> Place
     ensures { result ≡ place_of (reply_by scripting (tag_of tag.now)) }
 {

@@ -146,7 +146,7 @@ fn text_refusal(kind: RawKind, name: &[u8], text: &[u8]) -> Option<RawTextError>
     }
 }
 
-/// Why the text can't be written as raw text of this kind, in an element of this name, where it can't: of
+/// Why the text can't be written as raw text of this kind, in an element of this name, if it can't: of
 /// several reasons the first as they stand in `RawTextError`.
 #[tactic(auto, unfolding(crate::specs::RawRefusals::raw_refusal))]
 pub fn raw_text_refusal(kind: RawKind, name: &str, text: &str) -> Option<RawTextError>

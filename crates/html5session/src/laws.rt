@@ -32,7 +32,7 @@ pub fn readings_ignore_taking()
 {}
 
 /// A feed and an end of a session whose sink writes records take none of them, and write after what was written. So the
-/// next bytes that are taken go on where the last ones ended. That holds also where they are refused.
+/// next bytes that are taken go on where the last ones ended. That holds also if they are refused.
 pub fn records_wait_on()
     ensures feeds { (old new : RecordSessionOf) (piece : Piece) (reply : Reply PausedAt) → is_over old ≡ false
         → FeedsPiece recorded_means old new piece reply → WritesOn (recorded_by old) (recorded_by new) }

@@ -30,7 +30,7 @@ unfoldable pub after_first_charset_equals : List ℕ → Option (List ℕ)
 after_first_charset_equals [] = None
 after_first_charset_equals (byte ∷ bytes) = option_or (after_charset_equals (byte ∷ bytes)) (after_first_charset_equals bytes)
 
--- the bytes up to the first one that is this quote, where there is one
+-- the bytes up to the first one that is this quote, if there is one
 abbrev pub up_to_quote : ℕ → List ℕ → Option (List ℕ)
 up_to_quote quote bytes = option_map (λ n. take n bytes) (position (λ byte. byte == quote) bytes)
 

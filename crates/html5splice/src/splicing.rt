@@ -112,7 +112,7 @@ impl<H: Drop, O, A: Allocator + Copy> Splicing<H, O, A> {
         self.window.push(text)
     }
 
-    /// The output, with what was written.
+    /// The output, with all that was written.
     pub fn into_output(self) -> O
         ensures { result ≡ self.output }
     {

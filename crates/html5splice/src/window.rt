@@ -95,7 +95,7 @@ impl<A: Allocator + Copy> Window<A> {
         self.base = end;
     }
 
-    // Lets what is gone go, where that is more than half: so a byte is copied at most once for each that goes.
+    // Drops passed bytes once they are more than half: so a byte is copied at most once for each that goes.
     fn shrink(&mut self) -> Result<(), AllocError>
         ensures { self.new ≡ self.old }
     {

@@ -1,4 +1,4 @@
--- "The adoption agency algorithm", and "any other end tag", as which it acts where there is no formatting element of the name.
+-- "The adoption agency algorithm", and "any other end tag", as which it acts if there is no formatting element of the name.
 use Rattle.std.specs.Prelude.{ℕ, suc, zero, Bool, false, not, List, [], ◌∷◌, ◌++◌, ◌&&◌, ◌==◌, Option, Some, None, nat_lt, if◌then◌else◌}
 use Rattle.std.specs.Str.{bytes_eq}
 use Rattle.html5tree.specs.Names.{kind_of, named, is_special}

@@ -21,7 +21,7 @@ ghost use Rattle.html5tree.specs.Tree.{Path, empty_path, nested, nesting, whole}
 ///
 /// Texts may be empty, and stand side by side: they are read as the whole texts that they make. A newline
 /// straight after the start tag of a `pre` or a `listing` is ignored by tree construction. `nesting` supposes
-/// that there is none (`keeps_newlines`), and `without_newlines` says what is built where there is.
+/// that there is none (`keeps_newlines`), and `without_newlines` says what is built if there is.
 ///
 /// Items speak of the 94 elements of specs/Names alone. Elements of other names never fit: foreign content,
 /// scripts, raw text, templates, frames, `select`, and the elements of a head are among them.
@@ -120,7 +120,7 @@ pub fn normal_items()
 
 /// What the normaliser keeps of items, and what it adds (`Keeps`, specs/Keeping). It writes a part for each item, in
 /// their order. The part has all characters of a text, or the start tag with all its attributes; end tags come and go.
-/// A start tag is left out exactly where it has no place (`has_place`). That is a part of a table outside one, a form
+/// A start tag is left out exactly if it has no place (`has_place`). That is a part of a table outside one, a form
 /// in another, and a tag of other names than the 94. Added are start tags of `tbody`, `tr`, `colgroup`, `td`, `p` and
 /// `br` alone, without attributes. That is so where eight elements may be open for each item (`all`). By any limit a
 /// start tag may be left out, too, and of a text what is not white space (`some`). When no more elements would be open

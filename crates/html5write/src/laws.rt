@@ -100,7 +100,7 @@ pub fn read_back<S: TokenSink<Token<A>>, A: Allocator + Copy>(writer: &Writer<A>
     let _written = writer.as_str();
 }
 
-/// A piece is refused for some reason exactly where it can't be written.
+/// A piece is refused for some reason exactly if it can't be written.
 pub fn refusals()
     ensures { (piece : pieces.Piece) → is_none (refusal_of piece) ≡ can_write piece }
 {}

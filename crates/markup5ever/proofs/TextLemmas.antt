@@ -8,7 +8,7 @@ use Rattle.std.proofs.lemmas.Str.{chars-append, chars_past_char, encode_ascii, e
 
 -- ---- texts and their characters
 
--- the first byte is the first character, where it is ASCII
+-- the first byte is the first character, if it is ASCII
 pub begins_with_ascii : (bs : List ℕ) (b : ℕ) → 0 < length bs → b ≡ get_or bs 0 b → is_ascii b ≡ true → (rest : List ℕ) × (bs ≡ encode_utf8 b ++ rest)
 begins_with_ascii [] b filled first ascii = absurd (omega (arith, filled))
 begins_with_ascii (a ∷ bs) b filled first ascii = (bs, rw (first, encode_ascii a (rw first at (ltb-true b 128 ascii))) refl)

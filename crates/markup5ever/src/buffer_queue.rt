@@ -118,7 +118,7 @@ fn make_boundary<A: Allocator>(text: &mut String<A>, offset: usize, at: usize) -
     text.is_char_boundary(at)
 }
 
-// Writes a text over the end of what was taken, so that it waits in front of the rest. Answers `false` where there is
+// Writes a text over the end of what was taken, so that it waits in front of the rest. Answers `false` if there is
 // no room: then the queued text stays.
 fn write_in_front<A: Allocator>(text: &mut String<A>, offset: &mut usize, front: &str) -> bool
     requires { IsReadTo (string_bytes text.old) offset.old }
@@ -196,7 +196,7 @@ impl<A: Allocator> BufferQueue<A> {
         self.front_text().is_empty()
     }
 
-    /// Hands in a text, which comes back where there is no memory for it.
+    /// Hands in a text, which comes back if there is no memory for it.
     pub fn push_back(&mut self, text: String<A>) -> Result<(), String<A>>
         ensures ok { OnOk result (Gains self.old self.new (chars (string_bytes text))) }
         ensures err { OnErr result (self.new ≡ self.old) }
@@ -229,7 +229,7 @@ impl<A: Allocator> BufferQueue<A> {
         Ok(())
     }
 
-    /// Hands in a text in front of the queued text. It comes back where there is no memory for it.
+    /// Hands in a text in front of the queued text. It comes back if there is no memory for it.
     pub fn push_front(&mut self, text: String<A>) -> Result<(), String<A>>
         ensures ok { OnOk result (GainsFront self.old self.new (chars (string_bytes text))) }
         ensures err { OnErr result (self.new ≡ self.old) }
@@ -242,7 +242,7 @@ impl<A: Allocator> BufferQueue<A> {
         Ok(())
     }
 
-    /// Puts a text that was handed in before in front of the queued text. It comes back where there is no
+    /// Puts a text that was handed in before in front of the queued text. It comes back if there is no
     /// memory for it.
     pub fn give_back(&mut self, mut text: String<A>) -> Result<(), String<A>>
         ensures ok { OnOk result (TakesBack self.old self.new (chars (string_bytes text))) }

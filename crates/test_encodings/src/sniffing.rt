@@ -217,7 +217,7 @@ pub fn named(label: &str) -> Option<Encoding> {
     Encoding::for_label(label)
 }
 
-// What a page's first bytes tell of its encoding, or `None` where there was no memory for the table.
+// What a page's first bytes tell of its encoding, or `None` if there was no memory for the table.
 fn sniffed<A: Allocator + Copy>(
     alloc: A,
     page: &[u8],

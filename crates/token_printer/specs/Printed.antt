@@ -44,7 +44,7 @@ quoted_bytes text = flat_map quoted_byte text
 unfoldable pub quoted : List ℕ → List ℕ
 quoted text = codes "\"" ++ quoted_bytes text ++ codes "\""
 
--- a mark, where it is set
+-- a mark, if it is set
 unfoldable pub mark_where : Bool → List ℕ → List ℕ
 mark_where true mark = mark
 mark_where false mark = []

@@ -216,7 +216,7 @@ pub fn push_quoted<A: Allocator>(output: &mut Vec<u8, A>, text: &[u8]) -> Result
     output.extend_from_slice(b"\"")
 }
 
-/// Appends a mark, where it is set.
+/// Appends a mark, if it is set.
 #[tactic(auto, unfolding(crate::specs::Printed::mark_where))]
 pub fn push_mark<A: Allocator>(
     output: &mut Vec<u8, A>,

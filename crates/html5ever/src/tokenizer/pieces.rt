@@ -48,7 +48,7 @@ fn feed_each<S: TokenSink<Token<A>>, A: Allocator + Copy>(
 
 /// Hands in the pieces one after another, each at the back of the queue. After each it feeds until
 /// the queue is empty, past all pauses. It stops at the first refusal, and drops the pieces after
-/// that. Where there was no room for a piece the tokenizer has not failed, and can go on.
+/// that. If there was no room for a piece the tokenizer has not failed, and can go on.
 pub fn feed_pieces<S: TokenSink<Token<A>>, A: Allocator + Copy>(
     tokenizer: &mut Tokenizer<'_, S, A>,
     queue: &mut BufferQueue<A>,

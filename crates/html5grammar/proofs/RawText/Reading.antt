@@ -268,7 +268,7 @@ module _ {Q S H : Type 0} (means : Means Q S H) (rules : Rules) where
   trace-same s line last a b is_kind [] no_a no_b h same = absurd (false≢true h)
   trace-same s line last a b is_kind (c ∷ text) no_a no_b h same = rw (brought-step rules (means.foreign s) a c no_a, brought-step rules (means.foreign s) b c no_b, same c h) refl
 
-  -- the sink keeps on after the end tag, where there is one
+  -- the sink keeps on after the end tag, if there is one
   abbrev pub KeepsOn : Option WrittenTag → Type 0
   KeepsOn end_tag = (tag : WrittenTag) (t : S) (line : ℕ) → end_tag ≡ Some tag → means.reply t (Tag (tag_told rules tag)) line ≡ KeepOn
 

@@ -220,8 +220,8 @@ where
         compare_answer(self.stage.ample, answer, found)
     }
 
-    // Looks at what is left where pieces were fed: nothing, where there was a piece and all are taken.
-    // Where there was no room for a piece the tokenizer has not failed.
+    // Looks at what is left where pieces were fed: nothing, if there was a piece and all are taken.
+    // If there was no room for a piece the tokenizer has not failed.
     fn check_fed_pieces(&self, has_pieces: bool, found: &str) -> Result<(), Stop> {
         if has_pieces && !is_error(found) {
             compare(self.stage.ample, "", self.queue.front_text())?;
