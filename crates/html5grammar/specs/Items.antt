@@ -1,5 +1,5 @@
--- A text as a sequence of items as they are written, followed by at most one unfinished item. The standard's "Tokenization", by
--- what is written and not by states.
+-- A text as a sequence of items in source form, followed by at most one unfinished item. The standard's "Tokenization", by source
+-- form and not by states.
 use Rattle.std.specs.Prelude.{◌≡◌, ◌==◌, ◌&&◌, ◌||◌, not, nat_eq, ℕ, Bool, true, false, List, [], ◌∷◌, ◌++◌, length, codes, encode_utf8, flat_map, take, drop, Option, if◌then◌else◌}
 use Rattle.html5ever_interface.specs.Sink.{Means, Message, stepped, on_line}
 use Rattle.html5ever_interface.specs.Token.{Told}

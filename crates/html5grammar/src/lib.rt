@@ -1,4 +1,4 @@
-//! The grammar: items as they are written, and texts as sequences of them. The definitions are in specs/;
+//! The grammar: items in source form, and texts as sequences of them. The definitions are in specs/;
 //! here are its two laws, `sound` and `each_text`, and in `anywhere` those of single items.
 //!
 //! Internal to `html5ever`: it has no code that runs. Contracts of that crate cite its words.
