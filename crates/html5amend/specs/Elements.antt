@@ -79,7 +79,7 @@ with_appended content e = if e.has_content then record e { appended = e.appended
 abbrev pub filled_with : List ℕ → ElementOf → ElementOf
 filled_with content e = record e { drops_content = true; prepended = content; appended = [] }
 
--- where something can stand in it
+-- if it can have content
 abbrev pub with_content : List ℕ → ElementOf → ElementOf
 with_content content e = if e.has_content then filled_with content e else e
 

@@ -15,7 +15,7 @@ use std::mem;
 pub struct Opened<A: Allocator> {
     pub tags: OpenElements<A>,
     pub tree: Nesting<A>,
-    /// What will be open in the tree, once The output reached its place: completes the step.
+    /// The elements that will be open in the tree, once the output reached its place.
     pub next: Nesting<A>,
 }
 

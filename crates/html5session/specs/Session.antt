@@ -96,7 +96,7 @@ module _ {X S H : Type 0} (means : Means X S H) where
     pub items : FeedsItems means old new text left reply
     pub all : reply ≡ KeepOn → left ≡ []
     pub shorter : reply ≢ KeepOn → length left < length text
-    -- After a pause nothing is open: the rest is markup, unless the caller says otherwise
+    -- after a pause nothing is open: the rest is markup, unless the caller says otherwise
     pub paused : reply ≢ KeepOn → new.position.opened ≡ Between Data
     pub rules : new.rules ≡ old.rules
     pub not_failed : new.failed ≡ false
