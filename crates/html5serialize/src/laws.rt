@@ -39,8 +39,9 @@ pub fn read_back<S: TokenSink<Token<A>>, A: Allocator>()
         → HasTexts token → can_write token ≡ true → ReadsBack S.means rules K s token }
 {}
 
-/// Tokens that can be written, one after another, tell these tokens, wherever they stand, and nothing is open after
-/// them. The sink keeps on after each tag, at once or after a pause. Read alone they tell that and the end.
+/// Suppose that the sink keeps on after each tag, at once or after a pause. Then tokens that can be written, one
+/// after another, tell these tokens, wherever they stand, and nothing is open after them. Read alone they tell that
+/// and the end.
 pub fn tokens<S: TokenSink<Token<A>>, A: Allocator>()
     ensures tells { (rules : Rules) (K : Start) (s : S.State) (tokens : List Told) → IsTable rules.references → IsOpen K
         → HaveTexts tokens → list_all can_write tokens ≡ true → KeepsOnAfterAll {S = S.State} S.means.reply tokens
@@ -72,8 +73,8 @@ pub fn raw_text<S: TokenSink<Token<A>>, A: Allocator>()
 {}
 
 /// Parts of a page, each a token or a start tag with its raw text and its end tag, tell their tokens one after
-/// another, and nothing is open after them. The sink asks for that kind of raw text after the start tags with raw
-/// text, and keeps on after each other tag. Read alone they tell that and the end.
+/// another, and nothing is open after them. It is supposed that the sink asks for that kind of raw text after the
+/// start tags with raw text, and keeps on after each other tag. Read alone they tell that and the end.
 pub fn pages<S: TokenSink<Token<A>>, A: Allocator>()
     ensures tells { (rules : Rules) (K : Start) (s : S.State) (parts : List Part) → IsTable rules.references → IsOpen K
         → PartsHaveTexts parts → list_all can_write_part parts ≡ true → AsksForParts {S = S.State} S.means.reply parts
