@@ -15,7 +15,7 @@ ASCII_WORDS = (
 ).split()
 WORDS = ASCII_WORDS * 3 + "café naïve Größe señor Ελλάδα слово 日本語 한국어 עברית 🦊 𝄞".split()
 PLAIN_WORDS = WORDS + '"quoted" <p> </p> &amp; 1<2 back\\slash'.split()
-# What stands between the words of pages of entities.
+# The text between the words of pages of entities.
 REFERENCES = "&amp; &lt;b&gt; &nbsp; &copy;2024 caf&eacute; &#233; &#x1F98A; R&D".split()
 BLOCKS = [
     '<div class="card wide" id=card-{n}>\n',

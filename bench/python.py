@@ -6,7 +6,7 @@
 It takes the library that `bindings/build.sh` left in bindings/out, or the one in dist/, and the extension that is beside
 it; with FIRNUUBAL_PURE=1 in the environment the readers in Python. Beside it: the standard library's `html.parser`,
 html5lib's tokenizer, lxml's feed parser and bleach, where they are (Debian's python3-html5lib, python3-lxml and
-python3-bleach, for Debian's own Python). Those that take long read a beginning of the pages. Real pages are many that are
+python3-bleach, for Debian's own Python). Those that take long read a prefix of the pages. Real pages are many that are
 joined, of which lxml reads the first alone, so it is left out there. A time is the processor time of this process, the
 best of some runs. MB are 1,000,000 bytes.
 

@@ -77,7 +77,7 @@ def said(turn):
 
 
 def instructions(turn, folder):
-    """How many instructions a byte a program takes for a beginning of a corpus, in words."""
+    """How many instructions a byte a program takes for a prefix of a corpus, in words."""
     program, words, corpus = turn
     if not shutil.which("valgrind"):
         return ""

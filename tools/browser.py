@@ -90,7 +90,7 @@ setTimeout(say, 500)
 
 
 def cleaned(page):
-    """What the program prints of a page, which may hold bytes that are no UTF-8."""
+    """What the program prints of a page, which may hold bytes that are not UTF-8."""
     text = page.decode(errors="replace").encode()
     return subprocess.run([PROGRAM, "clean"], input=text, capture_output=True, check=True).stdout.decode()
 

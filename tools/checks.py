@@ -56,7 +56,7 @@ def page(dice):
 
 
 class Model:
-    """What is open and what was found, tag after tag."""
+    """The open elements and the findings, tag after tag."""
 
     def __init__(self, planted=""):
         self.planted, self.opened, self.ids, self.found = planted, [], set(), []

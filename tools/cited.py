@@ -4,14 +4,14 @@
     python3 tools/cited.py
 
 Prints a line for each citation that finds nothing, and ends with status 1 if there is one. It reads the pages at
-the top but for the changelog, those of docs/ and those of the crates. Checked are:
+the top except the changelog, those of docs/ and those of the crates. Checked are:
 
 - each path, and each link to a file;
 - each name in code type that can only be one of the code: a path with `::`, a name with `_`, a name in CamelCase;
 - in a table with a column "Contract", or with "Call" and "Clause", each name there: a clause is one of a function,
   or a field of a record, that the row names;
-- each line of Rust in a fenced example, but for comments: some one file of a crate has all of them (those of
-  docs/use are run instead, by bindings/check.sh, but for the page on Rattle).
+- each line of Rust in a fenced example, except comments: some one file of a crate has all of them (those of
+  docs/use are run instead, by bindings/check.sh, except the page on Rattle).
 """
 
 import pathlib
@@ -101,7 +101,7 @@ def words_of(text):
 
 
 def names_in(text):
-    """The names in code type, but for paths and for texts that are tokenized."""
+    """The names in code type, except paths and texts that are tokenized."""
     codes = [it for it in CODE.findall(text) if not it.endswith((*ENDINGS, "/")) and not re.match(r"<|\w+=", it)]
     return [name for code in codes for name in re.findall(NAME, re.sub(r'"[^"]*"', "", code))]
 

@@ -5,7 +5,7 @@ closed, full or measured.
     python3 tools/commands.py
 
 tools/commands.jsonl has a run a line: the words, the input, further files, and what has to be printed, said and ended
-with, written by hand. Bytes that are no UTF-8 stand there as surrogates. Each run is made again with the input in pieces
+with, written by hand. Bytes that are not UTF-8 stand there as surrogates. Each run is made again with the input in pieces
 of 1, 2 and 3 bytes, and where the line says `cuts` cut in two at each place. Where single bytes let more be printed
 before an error, the line says that as `apart`. The programs are those that `rt ci` proved and left in the crates' `out/`.
 Each run that differs is said, and then the status is 1.

@@ -21,8 +21,8 @@ import man
 FILES = pathlib.Path(__file__).resolve().parent.parent / "docs/completions"
 HEAD = "# What a shell completes after firnuubal. Made by tools/completions.py.\n"
 
-# What stands after an option, by the word that its help has for it: those of these words that its help names, or any text
-# where there are none. FILE is a file.
+# The words after an option, by the word that its help has for it: those of these words that its help names, or any text
+# if there are none. FILE is a file.
 WORDS = {"FORMAT": ["lines", "json", "sarif"], "NAME": ["jinja", "mustache", "erb"]}
 WORDS |= dict.fromkeys(("LABEL", "URL", "ELEMENT", "ELEMENT.ATTRIBUTE", "ELEMENT.ATTRIBUTE=VALUE"), [])
 
@@ -70,7 +70,7 @@ complete -o default -F _firnuubal firnuubal
 
 
 def options_of(text):
-    """The options of a text: the name of each, the word for what stands after it, if there is one, what it is, and the words
+    """The options of a text: the name of each, the word for its argument, if there is one, what it is, and the words
     that may stand after it: None where that is a file."""
     for option, lines in man.parts(text)[2]:
         name, _, word = option.rpartition(", ")[2].partition(" ")
@@ -162,7 +162,7 @@ def zsh():
 
 
 def zsh_words(known):
-    """What stands after an option, as zsh says it: one of these words, any text where there are none, or a file."""
+    """The argument of an option, as zsh says it: one of these words, any text if there are none, or a file."""
     return "_files" if known is None else f"({' '.join(known)})" if known else " "
 
 
@@ -183,7 +183,7 @@ def completed(words):
     return subprocess.run(given, capture_output=True, text=True, check=True).stdout.split()
 
 
-# What zsh is told, which has a terminal of its own: to print each word that it would add, and to end then.
+# The input of zsh, which has a terminal of its own: to print each word that it would add, and to end then.
 ZSH_ASKED = """\
 zmodload zsh/zpty
 zpty asked zsh -f -i

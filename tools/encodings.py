@@ -26,7 +26,7 @@ ADDED_LABELS = {
 }
 
 # The code points of the index gb18030 that the Standard has changed since, for GB18030-2022: the two
-# bytes, the code point for private use that stood there, and what stands there now.
+# bytes, the code point for private use that stood there, and the one there now.
 CHANGED_GB18030 = [
     (0xA6D9, 0xE78D, 0xFE10), (0xA6DA, 0xE78E, 0xFE12), (0xA6DB, 0xE78F, 0xFE11),
     (0xA6DC, 0xE790, 0xFE13), (0xA6DD, 0xE791, 0xFE14), (0xA6DE, 0xE792, 0xFE15),

@@ -1,6 +1,6 @@
 /* Makes one call of the system fail in a program that it is preloaded into, and counts calls, for tools/faults.py.
  *
- * FAULTS has these numbers, with commas between them; a call that is 0 is none:
+ * FAULTS has these numbers, with commas between them; for a call, 0 means none:
  *   which request for memory is refused, which read fails, which write to standard output, and which to standard error;
  *   how a read or a write fails: an error's number, or 0, with which it moves no byte;
  *   how many bytes a read gives at most, and how many a write takes; 0 says no bound.

@@ -8,7 +8,7 @@ left; by the standard's table, which asks for memory some two thousand times, ma
 compared what was printed, what was said and the status, with what was written by hand in tools/faults_rows.py: so a
 refusal that is swallowed shows, and a byte that is printed after a failure. Reads and writes of a byte each change
 nothing. The programs are those that `rt ci` proved and left in crates/firnuubal/out and crates/html5tok/out. The calls
-fail by tools/faults.c, which gcc builds; where there is none, that is said.
+fail by tools/faults.c, which gcc builds; without gcc, that is said.
 
 By --self-test the same is tried of a small program, tools/faults_planted.c, with a mistake in each run. Each must be
 found, and nothing where there is no mistake. Each run that differs is said, and then the status is 1.
@@ -101,7 +101,7 @@ def is_whole(row, ran):
 
 
 def is_end(end, ran):
-    """Whether a run ended so, with a beginning of what the end says is cut, and with what stands around it."""
+    """Whether a run ended so, with a prefix of what the end says is cut, and with the text around it."""
     rest = len(ran.printed) - len(end.after)
     cut = ran.printed[len(end.before) : rest]
     return (ran.said, ran.status) == (end.said, end.status) and (
@@ -200,7 +200,7 @@ def differing(bench):
 
 
 def not_found(bench):
-    """The planted mistakes that are not found, and what is found where there is none."""
+    """The planted mistakes that are not found, and what is found without one."""
     bench.programs = {"planted": bench.built("faults_planted.c", "planted")}
     for sweep in SWEEPS:
         yield from sweep(bench, faults_rows.planted("none"))

@@ -1,6 +1,6 @@
 /* Prints its input, for the self-test of tools/faults.py: with the mistake that its word names, or with none.
  *
- * It reads all, writes it, and says `note`. It ends with 1 where it could not, and says why, but for a reader that went
+ * It reads all, writes it, and says `note`. It ends with 1 where it could not, and says why, except a reader that went
  * away: then it ends with 0 and says nothing.
  */
 #include <errno.h>

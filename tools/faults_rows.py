@@ -25,7 +25,7 @@ FILES = {
 
 
 class End(NamedTuple):
-    """How a run ends where a request was refused: a beginning of `cut` is printed, with what stands around it."""
+    """How a run ends where a request was refused: a prefix of `cut` is printed, with the text around it."""
 
     said: str
     status: int
@@ -44,7 +44,7 @@ class Failing(NamedTuple):
 
 
 class Row(NamedTuple):
-    """A run where nothing fails, and what becomes of it where something does."""
+    """A run where nothing fails, and what happens to it if something does."""
 
     words: list
     given: bytes
@@ -68,7 +68,7 @@ def said(about, why="out of memory"):
     return f"firnuubal: {about}: {why}\n"
 
 
-# How firnuubal ends for want of memory: for its words, a table, or settings.
+# How firnuubal ends out of memory: for its words, a table, or settings.
 NO_WORDS = End(said("words"), 1)
 NO_TABLE = End(said("entities", "the list makes no table: out of memory"), 2)
 NO_OWN_TABLE = (End(said("own"), 2), End(said("own", "the list makes no table: out of memory"), 2))
@@ -77,12 +77,12 @@ UNPRINTED = said("output", "can't be printed")
 
 
 def of_page(whole):
-    """How it ends for want of memory for a page, or for what is printed of it."""
+    """How it ends out of memory for a page, or for what is printed of it."""
     return (End(said("-"), 1, whole), End(UNPRINTED, 1, whole))
 
 
 def of_policy(name, *lines):
-    """How it ends for want of memory for a file of a policy, or for the rules on these lines."""
+    """How it ends out of memory for a file of a policy, or for the rules on these lines."""
     return (End(said(name), 2), *(End(said(name, f"line {line}: out of memory"), 2) for line in lines))
 
 
@@ -190,7 +190,7 @@ def refused():
     yield from of_reference()
 
 
-# Pages for firnuubal, what is printed of each, and what of that after so many bytes. A text is told as it comes, and its
+# Pages for firnuubal, what is printed of each, and what of that after so many bytes. Text is printed as it comes, and its
 # line is closed by the next token; the last run of text ends at the end of the page; a tag brings the text in front of it.
 LINES = 'start 1 "p"\ntext "a'
 # A page whose encoding is to be found tells nothing where its first bytes can't be read: of these that is the whole page,

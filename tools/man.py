@@ -41,7 +41,7 @@ def text_of(written, macros, known):
 
 
 def arguments(written):
-    """What stands between the commas of a call, but for commas in quotes and brackets."""
+    """The text between the commas of a call, except commas in quotes and brackets."""
     parts, depth = [""], 0
     for token in re.findall(r'"(?:[^"\\]|\\.)*"|.', written, re.DOTALL):
         depth += {"[": 1, "]": -1}.get(token, 0)

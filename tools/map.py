@@ -6,7 +6,7 @@
     python3 tools/map.py --find WORD   # the files of all crates whose head has a word that begins so
     python3 tools/map.py --check       # that each file has a head, and docs/ARCHITECTURE.md names each crate
 
-A head is the comment at the top of a file, or where there is none that of its first documented item. Crates are in the
+A head is the comment at the top of a file, or if there is none that of its first documented item. Crates are in the
 order of crates.txt, in which each stands after those that it uses. Tests, and answers in the proof of one function, need
 no head.
 """
@@ -45,7 +45,7 @@ def root_of(crate):
 
 
 def files_of(crate):
-    """The files of a crate but for its root, its lists of files, and what belongs to the proof of one function."""
+    """The files of a crate except its root, its lists of files, and what belongs to the proof of one function."""
     for folder, ending in [("src", ".rt"), ("specs", ".antt"), ("proofs", ".antt")]:
         files = sorted((CRATES / crate / folder).rglob(f"*{ending}"))
         yield from (it for it in files if it != root_of(crate) and it.stem not in ("Lib", "Answers", "Invariants"))

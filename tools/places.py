@@ -75,7 +75,7 @@ def tokens_of(lines: str) -> list[Said]:
     return found
 
 
-# ---- what stands in a place
+# ---- the text at a place
 
 
 def is_written(token: Said, source: bytes) -> bool:
@@ -190,7 +190,7 @@ def moved(token: Said) -> list[Said]:
 
 
 def unseen(case: Case, ended: Ended) -> list[Said]:
-    """The moved places that are none, and are taken for some."""
+    """The moved places that are wrong, and pass for right."""
     tokens, source = tokens_of(ended.lines), case.text.encode()
     others = ((at, other) for at, token in enumerate(tokens) for other in moved(token))
     return [other for at, other in others if are_places([*tokens[:at], other, *tokens[at + 1 :]], source)]

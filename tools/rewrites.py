@@ -33,7 +33,7 @@ PLANTED = "quotes", "twice", "base", "nested", "order", "empty", "same", "word"
 
 
 def written_value(dice, value):
-    """A value as it is written."""
+    """A value in its source."""
     if value and not any(c in value for c in " '\"=<>`\r\n/") and dice.random() < 0.3:
         return value
     quote = dice.choice("'\"")
@@ -41,7 +41,7 @@ def written_value(dice, value):
 
 
 def start_tag(dice, name):
-    """A start tag as it is written, its name, its attributes and whether a `/` stands before its `>`."""
+    """The source of a start tag, its name, its attributes and whether a `/` stands before its `>`."""
     bare, attributes, written = False, [], "".join(dice.choice([c, c.upper()]) if c.isascii() else c for c in name)
     for _ in range(dice.choice([0, 0, 1, 1, 2, 3, 4])):
         attribute = "href" if name == "base" else dice.choice(ATTRIBUTES)
@@ -64,7 +64,7 @@ def start_tag(dice, name):
 
 
 def page(dice):
-    """Some tags, texts and scripts, each as it is written and what it means."""
+    """Some tags, texts and scripts, each as source and what it means."""
     parts = []
     for _ in range(dice.randint(1, 40)):
         kind = dice.random()

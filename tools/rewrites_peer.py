@@ -4,7 +4,7 @@
     python3 tools/rewrites_peer.py FOLDER [--pages N]
 
 Without options each page is printed to the byte. With `--set a.rel=nofollow --remove div.class` Python's `html.parser` and
-`firnuubal tokens` read what is printed as the page's own tags, texts, comments and doctypes, but for these attributes. The
+`firnuubal tokens` read what is printed as the page's own tags, texts, comments and doctypes, except these attributes. The
 pages are those of the folder and of the folders in it that are UTF-8, in a fixed random order. Each page that differs is
 said, and then the status is 1.
 """

@@ -11,7 +11,7 @@ Where html5lib goes otherwise:
 - It looks for the hint in the bytes (the Standard's "prescan"), and so finds it in scripts and titles, within a tag that
   the front cuts, and where the fallback is of UTF-16. Here a hint is a tag of the page's reading.
 - It reads no XML declaration, in ASCII or in UTF-16.
-- Where nothing is found it goes by windows-1252; here a page that is UTF-8 is read as that.
+- If nothing is found it goes by windows-1252; here a page that is UTF-8 is read as that.
 - It knows x-user-defined by that name, where the Standard says windows-1252.
 - It gives up at a "charset" without an equals sign, and takes `<meta/` for no tag.
 - It reads an unquoted label in `content` up to white space, and past a semicolon.
@@ -34,7 +34,7 @@ TOP = pathlib.Path(__file__).resolve().parent.parent
 PROGRAM = TOP / "crates/firnuubal/out/firnuubal"
 LABELS = ["utf-8", "latin1", "windows-1251", "koi8-r", "iso-8859-2", "shift_jis", "gbk", "big5", "utf-16", "utf-16be"]
 NO_LABELS = ["no-such", "", "utf-7", "x y"]
-# What each encoding reads otherwise, behind a tag that ends whatever is open.
+# What each encoding reads otherwise, after a tag that ends whatever is open.
 PROBE = b"\n</script></title>--><br>@@\xd0\xc0\xc9\xd2@@"
 MARKS = [b"", b"", b"", b"", b"", b"\xef\xbb\xbf", b"\xef\xbb"]
 

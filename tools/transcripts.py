@@ -1,5 +1,5 @@
 #!/usr/bin/env python3
-"""Runs the lines of the shell that documents show, and compares what each prints with what stands below it.
+"""Runs the lines of the shell that documents show, and compares what each prints with the lines below it.
 
     python3 tools/transcripts.py [PAGE..]
 

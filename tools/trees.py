@@ -12,7 +12,7 @@ Chromium (Debian's, headless) builds
                 source of a whole page
     in a HOST   the cleaned page in the source of a page, within other elements, where it fits above these
 
-Each tree that differs is told. Pages as they are differ now and then, since Chromium doesn't go by the standard in two
+Each tree that differs is printed. Pages as they are differ now and then, since Chromium doesn't go by the standard in two
 things: `search` is no special element there, and `</form>` closes an outer form, too, where a table has let a second one
 open. By --self-test pages are cleaned by `balance` in place of `tree`, and a difference has to be found. The program is
 the one that `rt ci` left in crates/firnuubal/out. Status 0: each cleaned page has the tree that it shows. 1: one has not.
@@ -34,7 +34,7 @@ from model import tree
 from model.tree import End, Start, Text
 
 BATCH = 2000
-SHOWN = 10  # differences that are told
+SHOWN = 10  # differences that are printed
 REFUSED = {"embed"}  # no policy allows it
 HOSTS = ["td", "li", "p", "a", "b", "dd", "h1", "button", "caption", "ruby"]
 AROUND = {"td": "table tbody tr", "li": "ul", "dd": "dl", "caption": "table"}

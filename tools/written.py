@@ -5,7 +5,7 @@
     python3 tools/written.py FOLDER [--pages N]
 
 The texts are random ones (tools/cases) after some in which each escape is needed, or the pages of a folder that are UTF-8. Each is written back by the program of
-crates/write_back. Its lines and those of the text are the same, but for errors, numbers of lines, where a text is cut, and the
+crates/write_back. Its lines and those of the text are the same, except errors, numbers of lines, where a text is cut, and the
 mark of an attribute that was left out. Each text that differs is said, and then the status is 1. That it can fail: --self-test
 changes what is written, as a writer would that has each of some faults, and the comparison must find it.
 
@@ -29,7 +29,7 @@ READER = CRATES / "html5tok/out/html5tok"
 # What becomes `noscript` in random texts that are read with scripting, and what is one name in their lines.
 NOEMBED, NOSCRIPT = re.compile(rb"(?i)noembed|noframes|style|xmp"), re.compile(rb"(?i)noscript|noembed")
 QUOTED = re.compile(rb'"((?:[^"\\]|\\.)*)"')
-# What a faulty writer would write in place of what stands there.
+# What a faulty writer would write in place of the text there.
 FAULTS = {
     "a script is escaped": (b"<script><", b"<script>&#60;"),
     "a noscript is escaped": (b"<noscript><", b"<noscript>&#60;"),

@@ -30,7 +30,7 @@ fn is_void(element: &LocalName) -> bool {
     is_one_of!(element, "br" "hr" "img" "wbr")
 }
 
-/// Whether an element is dropped with what stands in it.
+/// Whether an element is dropped with its content.
 fn is_hider(element: &LocalName) -> bool {
     is_one_of!(
         element,
@@ -83,13 +83,13 @@ fn is_kept(element: &LocalName, attribute: &Attribute) -> bool {
         && (!is_one_of!(name, "href" "src" "cite") || is_safe_address(&attribute.value))
 }
 
-/// Whether a tag begins an element that is dropped with what stands in it: `<svg/>` has nothing in it.
+/// Whether a tag begins an element that is dropped with its content: `<svg/>` has nothing in it.
 fn opens_hidden(tag: &Tag) -> bool {
     let is_empty = tag.self_closing && is_one_of!(&tag.name, "svg" "math");
     tag.kind == TagKind::StartTag && is_hider(&tag.name) && !is_empty
 }
 
-/// How many elements of one name are open that hide what stands in them.
+/// How many elements of one name are open that hide their content.
 struct Hidden {
     name: LocalName,
     depth: u64,

@@ -24,7 +24,7 @@ pub fn reply(tag: &Tag) -> TokenSinkResult<()> {
     }
 }
 
-/// How many bytes at the front are whole characters, or none where they are no UTF-8.
+/// How many bytes at the front are whole characters, or none if they are not UTF-8.
 fn decoded_len(bytes: &[u8]) -> Option<usize> {
     match std::str::from_utf8(bytes) {
         Ok(_) => Some(bytes.len()),
@@ -56,7 +56,7 @@ fn feed_input<S: TokenSink<Handle = ()>>(tokenizer: &mut Tokenizer<S>) -> io::Re
     }
 }
 
-/// Tells a sink what stands on standard input, as it arrives; answers the sink, where it was text.
+/// Sends a sink the tokens of standard input, as it arrives; answers the sink, where it was text.
 pub fn read_input<S: TokenSink<Handle = ()>>(sink: S) -> io::Result<Option<S>> {
     let mut tokenizer = Tokenizer::new(sink, TokenizerOpts::default());
     if !feed_input(&mut tokenizer)? {

@@ -3,7 +3,7 @@
  *
  *     libxml2 < PAGE
  *
- * It reads standard input as it arrives. An element's end is an event where no end tag is written, too.
+ * It reads standard input as it arrives. An element's end is an event without an end tag, too.
  */
 #include <libxml/HTMLparser.h>
 #include <stdio.h>

@@ -23,7 +23,7 @@ struct Page {
     // Whether lines could not be written.
     has_failed: bool,
     in_text: bool,
-    // Whether a duplicate attribute was told since the last tag: this version marks no tag.
+    // Whether a duplicate attribute was reported since the last tag: this version marks no tag.
     has_duplicates: bool,
 }
 
@@ -254,7 +254,7 @@ fn feed_pieces(tokenizer: &mut Tokenizer<Page>, text: &str, cut: usize) {
     }
 }
 
-/// Prints what is told of a text, and answers whether all of it could be written.
+/// Prints the tokens of a text, and answers whether all of it could be written.
 fn print(text: StrTendril, settings: Settings) -> bool {
     let mut tokenizer = Tokenizer::new(Page::default(), settings.opts);
     match settings.cut {

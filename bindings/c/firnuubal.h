@@ -63,18 +63,18 @@ static inline html5_handle *html5_next_page(html5_handle *handle) {
 /* What a call answers. */
 enum html5_status {
     HTML5_DONE = 0,       /* all of it was read */
-    HTML5_SCRIPT = 1,     /* a pause: a script ends here; what follows it waits */
-    HTML5_ENCODING = 2,   /* a pause: a meta tag names an encoding; what follows it waits */
+    HTML5_SCRIPT = 1,     /* a pause: a script ends here; the rest waits */
+    HTML5_ENCODING = 2,   /* a pause: a meta tag names an encoding; the rest waits */
     HTML5_NO_MEMORY = 3,  /* a request for memory was refused */
-    HTML5_NOT_UTF8 = 4,   /* bytes are no UTF-8, whatever follows them; all before them was read */
+    HTML5_NOT_UTF8 = 4,   /* bytes are not UTF-8, whatever follows them; all before them was read */
     HTML5_CUT = 5,        /* the input ends within a character */
     HTML5_WAITING = 6,    /* text waits after a pause: feed first, if only no bytes */
-    HTML5_OVER = 7,       /* the end was told, or an earlier call was refused for good */
+    HTML5_OVER = 7,       /* the page ended, or an earlier call was refused for good */
     HTML5_CLOSED = 8,     /* the handle is closed */
     HTML5_BAD_OPTION = 9, /* an option has no such value */
     HTML5_BAD_POLICY = 10,      /* no longer answered: the answer is the cause, one of those from HTML5_UNKNOWN_RULE on */
-    HTML5_POLICY_NOT_UTF8 = 11, /* the policy is no UTF-8 */
-    HTML5_TAG = 12,             /* a pause: a tag to which the caller replies; what follows it waits */
+    HTML5_POLICY_NOT_UTF8 = 11, /* the policy is not UTF-8 */
+    HTML5_TAG = 12,             /* a pause: a tag to which the caller replies; the rest waits */
     HTML5_ITEM_OPEN = 13,       /* a tag or another item is open, so no state can be set */
     HTML5_LIMIT = 14,           /* more bytes would be held than the limit: the piece was not taken */
     HTML5_BEGUN = 15,           /* bytes were fed already, so it can't be set in which encoding they are */
@@ -84,12 +84,12 @@ enum html5_status {
     HTML5_WORD_TOO_MANY = 18,      /* a name is given that the rule does not take */
     HTML5_ELEMENT_NAME = 19,       /* no tag is read with this name: it has capital letters or spaces, or is empty */
     HTML5_ATTRIBUTE_NAME = 20,     /* no attribute is read with this name */
-    HTML5_HIDES_CONTENT = 21,      /* what stands in this element is always dropped, as in script or style */
+    HTML5_HIDES_CONTENT = 21,      /* the content of this element is always dropped, as in script or style */
     HTML5_ACTS_ON_PAGE = 22,       /* this element acts on the whole page, as meta or base does */
     HTML5_ALLOWED_AND_HIDDEN = 23, /* an element is allowed and hidden */
     HTML5_NEVER_KEPT = 24,         /* this attribute runs scripts, or holds no single address, as onclick or srcset */
     HTML5_SCHEME_NAME = 25,        /* this is no scheme in small letters */
-    HTML5_RUNS_ADDRESS = 26,       /* addresses of this scheme run what stands in them, as javascript */
+    HTML5_RUNS_ADDRESS = 26,       /* addresses of this scheme run their content, as javascript */
     HTML5_NO_PLACE_IN_TREE = 27,   /* with HTML5_TREE: an element that has no place in the tree */
     HTML5_BAD_DEPTH = 28,          /* the depth is no number from 1 to 4096 */
     HTML5_REL_WORD = 29            /* a word of rel has another character than ASCII letters, digits and '-' */
@@ -193,9 +193,9 @@ static inline html5_status html5_restart_page(html5_handle *handle, const uint8_
 #define html5_restart(...) html5_restart_page(__VA_ARGS__)
 
 /*
- * Reads the next bytes, in pieces of any size. After a pause it goes on, with what waits and these bytes.
+ * Reads the next bytes, in pieces of any size. After a pause it goes on, with the waiting text and these bytes.
  *
- * Where bytes of them are no UTF-8, whatever follows, those before are read, and then it answers HTML5_NOT_UTF8. They are
+ * Where bytes of them are not UTF-8, whatever follows, those before are read, and then it answers HTML5_NOT_UTF8. They are
  * not taken, and none after them: the next feed goes on with what is to stand in their place. A pause before them comes
  * first. Then no feed takes any bytes, until all that waits was read and one answered HTML5_NOT_UTF8.
  */
@@ -203,24 +203,24 @@ html5_status html5_feed(html5_handle *handle, const uint8_t *bytes, size_t len);
 #define html5_feed(handle, bytes, len) html5_feed(handle, html5_bytes_or_none(bytes), len)
 
 /*
- * Puts a text in front of what waits, as document.write does. It is UTF-8 by itself, else nothing changes. Where nothing
- * more is read it answers HTML5_OVER, whatever the bytes.
+ * Puts a text in front of the waiting text, as document.write does. It is UTF-8 by itself, else nothing changes. When
+ * nothing more is read it answers HTML5_OVER, whatever the bytes.
  */
 html5_status html5_insert(html5_handle *handle, const uint8_t *text, size_t len);
 
 /*
- * Reads what follows in a state (one of enum html5_state), as a tree builder asks after a start tag. Raw text is read up to
- * the end tag of the last start tag. It changes nothing, and answers HTML5_OVER, where nothing more is read, whatever the
- * state; else HTML5_BAD_OPTION, where the state is none; else HTML5_ITEM_OPEN, within a tag or another item.
+ * Reads the rest in a state (one of enum html5_state), as a tree builder asks after a start tag. Raw text is read up to
+ * the end tag of the last start tag. It changes nothing, and answers HTML5_OVER, when nothing more is read, whatever the
+ * state; else HTML5_BAD_OPTION, for no such state; else HTML5_ITEM_OPEN, within a tag or another item.
  */
 html5_status html5_reply(html5_handle *handle, uint32_t state);
 
-/* Says whether the current node is outside the HTML namespace, so that <![CDATA[ opens a section in what follows. */
+/* Says whether the current node is outside the HTML namespace, so that <![CDATA[ opens a section from here on. */
 html5_status html5_set_foreign(html5_handle *handle, bool foreign);
 
 /*
- * Sets how many bytes the handle may hold, of a tokenizer or of a cleaner: what was fed since all was read and no tag or
- * other item was open, and what waits to be taken; of a cleaner also the text that no tag has ended yet. Before it is set
+ * Sets how many bytes the handle may hold, of a tokenizer or of a cleaner: the bytes fed since all was read and no tag or
+ * other item was open, and those that wait to be taken; of a cleaner also the text that no tag has ended yet. Before it is set
  * there is no limit. A piece that goes past it is not taken: a feed or an insert answers HTML5_LIMIT, just then, and
  * nothing changes. What else is held is some multiple of that and of what the last piece made. By a policy with the rule
  * `tree` or `balance` a cleaner also holds the names of the elements that are open, which are not counted.
@@ -230,14 +230,14 @@ html5_status html5_set_limit(html5_handle *handle, uint64_t limit);
 /*
  * Reads the page in the encoding that it is in, of a tokenizer or of a cleaner. It is called before the first bytes are fed,
  * else it answers HTML5_BEGUN. The label, one of the Encoding Standard, names the encoding that is said of the page, as by a
- * header of the transport; where no encoding has it the answer is HTML5_BAD_OPTION. After any status but HTML5_DONE nothing
+ * header of the transport; if no encoding has it the answer is HTML5_BAD_OPTION. After any status but HTML5_DONE nothing
  * changes. One of no bytes says nothing. The encoding is determined as by a browser: by a byte order mark; else by what is said;
  * else by a `<meta charset=..>` or an XML declaration in the first bytes; else it is UTF-8 if these are UTF-8, and else
  * windows-1252. So a page whose first 65,536 bytes are plain ASCII is read as UTF-8.
  *
- * Then no bytes are refused: those that are none of the encoding are read as U+FFFD. The first bytes are held
+ * Then no bytes are refused: those that are invalid in the encoding are read as U+FFFD. The first bytes are held
  * until they tell the encoding: fewer than 1,024, or up to 65,536 of plain ASCII that tells nothing. They count for the limit;
- * a byte of the page may be up to three of its text, by which what is held can go past the limit. Texts of `html5_insert` stay
+ * a byte of the page may be up to three of its text, by which the held bytes can go past the limit. Texts of `html5_insert` stay
  * UTF-8. `html5_restart` and `html5_cleaner_restart` keep what was said.
  */
 html5_status html5_set_encoding(html5_handle *handle, const uint8_t *label, size_t len);
@@ -262,13 +262,13 @@ html5_status html5_end(html5_handle *handle);
 size_t html5_take(html5_handle *handle, uint8_t *out, size_t len);
 
 /*
- * After HTML5_NOT_UTF8: the place of the first byte that is no UTF-8, counted from the first that was fed. All bytes
+ * After HTML5_NOT_UTF8: the place of the first byte that is not UTF-8, counted from the first that was fed. All bytes
  * before it were taken, and none from it on.
  */
 uint64_t html5_error_at(html5_handle *handle);
 
 /*
- * Whether nothing more is read: the end was told, or a call was refused for good. Then feeds, inserts and ends answer
+ * Whether nothing more is read: the page ended, or a call was refused for good. Then feeds, inserts and ends answer
  * HTML5_OVER; what was recorded can still be taken. After HTML5_NO_MEMORY it says whether the page can go on. Of a closed
  * handle it is false.
  */
@@ -298,11 +298,11 @@ enum html5_rule {
     HTML5_ATTRIBUTE = 1,  /* an element; the attribute is kept in it, where the element is kept */
     HTML5_EVERYWHERE = 2, /* an attribute that is kept in each element */
     HTML5_SCHEME = 3,     /* a scheme of addresses that are kept, in small letters, without its colon */
-    HTML5_HIDE = 4,       /* an element that is dropped with what stands in it */
+    HTML5_HIDE = 4,       /* an element that is dropped with its content */
     HTML5_REL = 5,        /* a word. Each `a` that is kept with an `href` gets a `rel` of all such words, and no other */
     HTML5_BALANCE = 6,    /* no name: each end tag closes what was opened inside its element */
     HTML5_TREE = 7,       /* no name: the page is made to fit, so that a browser builds it as its tags are nested */
-    HTML5_DEPTH = 8       /* how many elements may be open, in decimal digits: 1 to 4096. It is 256 where nothing is said */
+    HTML5_DEPTH = 8       /* how many elements may be open, in decimal digits: 1 to 4096. The default is 256 */
 };
 
 /*
@@ -343,7 +343,7 @@ static inline html5_status html5_cleaner_begin_page(html5_handle *handle) {
  * (crates/html5policy/README.md); one of no bytes is the standard policy, which has the rule `tree`. Where a rule is refused
  * the answer is why (`html5_is_rule_fault`), and `place` is the number of its line, from 1. After HTML5_POLICY_NOT_UTF8 `place`
  * is the place of the first such byte, and after any other status it is 0. To the calls of a tokenizer the handle is closed,
- * but for html5_free.
+ * except html5_free.
  */
 html5_status html5_cleaner_new(html5_handle *handle, const uint8_t *policy, size_t len, uint64_t *place);
 #define html5_cleaner_new(handle, policy, len, place) \
@@ -360,7 +360,7 @@ static inline html5_status html5_cleaner_restart_page(html5_handle *handle) {
 #define html5_cleaner_restart(handle) html5_cleaner_restart_page(handle)
 
 /*
- * Reads the next bytes of the page, in pieces of any size. Where bytes of them are no UTF-8, those before are read, and then
+ * Reads the next bytes of the page, in pieces of any size. Where bytes of them are not UTF-8, those before are read, and then
  * it answers HTML5_NOT_UTF8. `html5_set_limit` sets how many bytes may be held.
  */
 html5_status html5_cleaner_feed(html5_handle *handle, const uint8_t *bytes, size_t len);
@@ -369,10 +369,10 @@ html5_status html5_cleaner_feed(html5_handle *handle, const uint8_t *bytes, size
 /* Ends the page. All that is kept of it can be taken then. */
 html5_status html5_cleaner_end(html5_handle *handle);
 
-/* Moves the next bytes of what is kept to `out`, as many as wait and fit, and answers how many. */
+/* Moves the next bytes of the kept part to `out`, as many as wait and fit, and answers how many. */
 size_t html5_cleaner_take(html5_handle *handle, uint8_t *out, size_t len);
 
-/* After HTML5_NOT_UTF8: the place of the first byte that is no UTF-8, as `html5_error_at` says it. */
+/* After HTML5_NOT_UTF8: the place of the first byte that is not UTF-8, as `html5_error_at` says it. */
 uint64_t html5_cleaner_error_at(html5_handle *handle);
 
 /* Whether nothing more is read of the page: it has ended, or a call was refused for good. Of a closed one it is false. */
@@ -455,7 +455,7 @@ typedef struct {
     html5_text public_id, system_id;                           /* of a DOCTYPE */
     /*
      * With `places` where it stands, in bytes of the text that was read, and where the text before it begins; that ends
-     * where the token begins. A text has the place of its run, as it is written. HTML5_NO_PLACE without.
+     * where the token begins. A text has the place of its run in the source. HTML5_NO_PLACE without.
      */
     uint64_t text_begin, begin, end;
 } html5_token;

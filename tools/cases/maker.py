@@ -181,7 +181,7 @@ class Maker:
         return self.one_of(*tags, *declarations, self.raw_text, self.script, self.plain, self.plain, self.noise)
 
     def unfinished(self) -> str:
-        """A beginning of a part that has an end."""
+        """A prefix of a part that has an end."""
         doctypes = (self.doctype, self.doctype, self.doctype)
         part = self.one_of(self.tag, self.comment, self.comment, *doctypes, self.cdata, self.instruction, self.script)
         return self.beginning(part) if self.one_in(2) else part[: -self.pick((1, 1, 1, 2, 3))]

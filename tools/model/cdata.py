@@ -1,4 +1,4 @@
-"""CDATA sections: docs/GRAMMAR.md, "One CDATA section, as it is written" and "CDATA sections"."""
+"""CDATA sections: docs/GRAMMAR.md, "One CDATA section as source text" and "CDATA sections"."""
 
 from .messages import Null, Told, texts
 from .reading import DATA, Item, Mode, Reading

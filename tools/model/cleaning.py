@@ -113,7 +113,7 @@ def start_tag(name: str, attributes) -> str:
 
 @dataclass
 class Cleaner:
-    """A page that is cleaned: what was written, the elements that hide what stands in them, and those that are open."""
+    """A page that is cleaned: what was written, the elements that hide their content, and those that are open."""
 
     policy: Policy
     written: list[str] = field(default_factory=list)
@@ -151,7 +151,7 @@ class Cleaner:
             self.written.append(escaped(run))
 
     def count(self, tag: Tag):
-        """Counts the open elements that hide what stands in them."""
+        """Counts the open elements that hide their content."""
         has_content = tag.name not in VOID and not (tag.self_closing and tag.name in FOREIGN)
         opens = not tag.is_end and self.policy.hides(tag.name) and has_content
         if self.depth == 0:

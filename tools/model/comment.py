@@ -1,4 +1,4 @@
-"""Comments, and what else begins with `<!`: docs/GRAMMAR.md, "One comment, as it is written" and "Comments"."""
+"""Comments, and what else begins with `<!`: docs/GRAMMAR.md, "One comment as source text" and "Comments"."""
 
 from __future__ import annotations
 
@@ -73,7 +73,7 @@ def comment_state(before: str) -> str:
 
 
 def comment_errors(reading: Reading, start: int, stop: int) -> Told:
-    """The errors of a comment's characters, each by what stands before it in the comment."""
+    """The errors of a comment's characters, each by the text before it in the comment."""
     told: Told = []
     for at in range(start, stop):
         before = reading.text[start:at]

@@ -1,4 +1,4 @@
-"""Doctypes: docs/GRAMMAR.md, "One doctype, as it is written" and "Doctypes"."""
+"""Doctypes: docs/GRAMMAR.md, "One doctype as source text" and "Doctypes"."""
 
 from __future__ import annotations
 
@@ -22,7 +22,7 @@ def begins_keyword(held: str) -> bool:
 
 
 class WrittenDoctype:
-    """A doctype as it is written, read from after its word up to its `>`, or to the end, with what its places tell.
+    """A doctype, read from after its word up to its `>`, or to the end, with what its places tell.
     `wanted` is the state that the error of the end names, and nothing where a rest is skipped."""
 
     def __init__(self, reading: Reading, start: int):
@@ -69,7 +69,7 @@ class WrittenDoctype:
             self.skip(at, "AfterDoctypeName", quirks=True, decided=self.reading.after_longest(at, begins_keyword))
 
     def read_identifier(self, kind: str, start: int, states: tuple[str, str]):
-        """Reads what stands where an identifier can. After a keyword one has to."""
+        """Reads what comes at the place of an identifier. After a keyword one has to."""
         at = self.after_space(start)
         self.wanted = states[0] if at == start else states[1]
         if at == self.stop:
@@ -98,7 +98,7 @@ class WrittenDoctype:
             self.read_end(self.after_space(stop + 1))
 
     def read_end(self, at: int):
-        """Reads what stands after the identifier of the system and white space."""
+        """Reads what comes after the identifier of the system and white space."""
         self.wanted = "AfterDoctypeIdentifier(System)"
         if at < self.stop:
             self.skip(at, self.wanted, quirks=False)

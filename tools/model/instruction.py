@@ -1,4 +1,4 @@
-"""Processing instructions: docs/GRAMMAR.md, "One processing instruction, as it is written"."""
+"""Processing instructions: docs/GRAMMAR.md, "One processing instruction as source text"."""
 
 from .characters import in_value
 from .messages import Instruction

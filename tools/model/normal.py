@@ -20,7 +20,7 @@ ANCHORS = names("a nobr button")
 
 @dataclass(frozen=True)
 class Plan:
-    """What is done for an item: a beginning of a text is written, elements are closed, parents opened, the rest written."""
+    """What is done for an item: a prefix of a text is written, elements are closed, parents opened, the rest written."""
 
     stays: int = 0
     closes: int = 0

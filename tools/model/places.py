@@ -16,7 +16,7 @@ BYTE_ORDER_MARK = "\uFEFF"
 
 @dataclass(frozen=True)
 class Placed:
-    """A token that is no text, with its line, the run of text before it, and where that and the token stand."""
+    """A token other than a text, with its line, the run of text before it, and where that and the token stand."""
 
     run: str
     token: object

@@ -1,4 +1,4 @@
-"""Raw text: docs/GRAMMAR.md, "Raw text, as it is written" and "Raw text"."""
+"""Raw text: docs/GRAMMAR.md, "The source of raw text" and "Raw text"."""
 
 from __future__ import annotations
 

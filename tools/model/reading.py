@@ -36,7 +36,7 @@ ESCAPED_STATES = ("RawData(ScriptDataEscaped({}))", "ScriptDataEscapedDash({})",
 
 @dataclass(frozen=True)
 class Mode:
-    """How the next character is read where nothing is open. Raw text has the name whose end tag ends it, and in escaped
+    """How the next character is read when nothing is open. Raw text has the name whose end tag ends it, and in escaped
     script data the dashes directly before, up to two."""
 
     kind: str
@@ -108,7 +108,7 @@ class Reading:
     # ---- End of input
 
     def nothing_at_end(self, mode: Mode) -> Told:
-        """What the end tells where nothing is open."""
+        """What the end tells when nothing is open."""
         if mode.kind in ESCAPED_KINDS:
             return self.saw_end(mode.raw_state)
         return self.saw_end("CdataSection") if mode.kind == CDATA.kind else []
@@ -122,9 +122,9 @@ def normalised(text: str, keep_bom: bool) -> str:
 
 @dataclass(frozen=True)
 class Item:
-    """An item as it is written: where it ends, what its places tell, and in which mode the text after it is read. An
+    """An item in its source: where it ends, what its places tell, and in which mode the text after it is read. An
     unfinished item has no such mode: it reaches to the end, and the place of the end tells what the end tells of it.
-    Text that is told with the character after an item stands at that character's place."""
+    Text that is emitted with the character after an item stands at that character's place."""
 
     end: int
     told: Told

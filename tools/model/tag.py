@@ -1,4 +1,4 @@
-"""Tags: docs/GRAMMAR.md, "One tag, as it is written" and "Tags"."""
+"""Tags: docs/GRAMMAR.md, "One tag as source text" and "Tags"."""
 
 from __future__ import annotations
 
@@ -48,7 +48,7 @@ STATE_AT = {
 
 
 class WrittenTag:
-    """A tag as it is written, read part by part, with what its places tell."""
+    """A tag, read part by part, with what its places tell."""
 
     def __init__(self, reading: Reading, start: int):
         self.reading = reading
@@ -140,7 +140,7 @@ class WrittenTag:
         self.attributes[-1] = (self.attributes[-1][0], shown)
 
     def tell_reference(self, at: int, found: Found):
-        """The errors of a reference are told at its `&`, and where it is not decided at the end."""
+        """The errors of a reference are reported at its `&`, or if it is not decided, at the end."""
         if found.is_decided:
             self.told += [(at, Error(message, at + 1 + found.held)) for message in found.errors]
         else:

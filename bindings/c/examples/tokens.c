@@ -82,7 +82,7 @@ static html5_text charset_of(const html5_token *token) {
     return value;
 }
 
-/* Prints what waits, and after a pause its line. */
+/* Prints the waiting tokens, and after a pause its line. */
 static bool print_waiting(html5_reader *reader, html5_handle *handle, html5_status status) {
     html5_token token;
     if (!html5_fill(reader, handle)) return false;

@@ -7,7 +7,7 @@
  *     gcc -g -O1 -fsanitize=address,undefined -fno-sanitize-recover=all calls.c libfirnuubal.a -o fuzz-c
  *     ./fuzz-c [--seconds N] [--seed N] [FILE..]
  *
- * It runs each file, and then inputs of its own for so many seconds (none, where nothing is said). The input at which a check
+ * It runs each file, and then inputs of its own for so many seconds (by default none). The input at which a check
  * fails is left in the file fuzz-failed. Or by libFuzzer:
  *
  *     clang -g -O1 -DLIBFUZZER -fsanitize=fuzzer,address,undefined calls.c libfirnuubal.a -o fuzz-c && ./fuzz-c corpus

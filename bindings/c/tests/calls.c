@@ -88,7 +88,7 @@ static void pauses_and_lets_text_in(void) {
     html5_free(&handle);
 }
 
-/* What was put in front of what waits is read before it, tags too. */
+/* A text put in front of the waiting text is read before it, tags too. */
 static void reads_inserted_text_first(void) {
     html5_handle handle = {0};
     html5_reader reader = {0};
@@ -121,7 +121,7 @@ static void says_where_bytes_are_no_text(void) {
     html5_free(&handle);
 }
 
-/* A character that two feeds bring, and after it a byte that is none: the byte alone is refused. */
+/* A character that two feeds bring, and after it a byte that is not one: the byte alone is refused. */
 static void refuses_no_byte_before_the_place(void) {
     html5_handle handle = {0};
     html5_reader reader = {0};
@@ -250,7 +250,7 @@ static void counts_records_that_wait(void) {
     html5_free(&handle);
 }
 
-/* After a pause what was fed counts until all of it is read, and so does what is put in front. */
+/* After a pause the fed bytes count until all of them are read, and so does what is put in front. */
 static void counts_what_waits_after_a_pause(void) {
     html5_handle handle = {0};
     html5_options options = {.replies = HTML5_PAUSING_REPLIES};
@@ -442,7 +442,7 @@ static void pauses_at_the_end_of_what_was_held(void) {
     html5_free(&handle);
 }
 
-/* What is held of the first bytes counts. */
+/* The first bytes count while they are held. */
 static void counts_what_is_held(void) {
     html5_handle handle = {0};
     html5_options options = {0};
@@ -559,7 +559,7 @@ static void begins_another_page_with_places(void) {
     html5_free(&handle);
 }
 
-/* What is told of a page with places: each token but errors, and where it stands. */
+/* The tokens of a page with places: each token but errors, and where it stands. */
 static void adds_places(html5_reader *reader, html5_handle *handle, char *told, size_t room) {
     html5_token token;
     CHECK(html5_fill(reader, handle));

@@ -86,7 +86,7 @@ static void says_where_bytes_are_no_text(void) {
     html5_free(&cleaner);
 }
 
-/* A character that two feeds bring, and within a tag a byte that is none: the byte alone is refused. */
+/* A character that two feeds bring, and within a tag a byte that is not one: the byte alone is refused. */
 static void refuses_no_byte_before_the_place(void) {
     html5_handle cleaner = {0};
     uint64_t place;

@@ -38,7 +38,7 @@ static bool is_next(html5_reader *reader, enum html5_kind kind, const char *text
     return token.kind == kind && token.text.len == strlen(text) && memcmp(token.text.at, text, token.text.len) == 0;
 }
 
-/* Whether all that is told of another page is of it alone: `<b>second`, to its end. */
+/* Whether all records of another page are of it alone: `<b>second`, to its end. */
 static bool reads_the_second_alone(html5_reader *reader, html5_handle *handle) {
     html5_token token;
     return feed(handle, "<b>second") == HTML5_DONE && html5_end(handle) == HTML5_DONE && html5_fill(reader, handle) &&

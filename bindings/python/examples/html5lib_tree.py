@@ -108,7 +108,7 @@ class HTMLTokenizer:
             self._tokenizer.reply(state)
 
     def rewind(self):
-        """The page is read again from its start, where nothing is raw text."""
+        """The page is read again from its start, with no raw text."""
         self._tokenizer = None
         self._state = State.DATA
 

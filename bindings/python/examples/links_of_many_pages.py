@@ -39,7 +39,7 @@ def links_of_page(path):
 
 
 def text_of_page(path):
-    """What stands between the tags of a page, without scripts and styles."""
+    """The text between the tags of a page, without scripts and styles."""
     with open(path, "rb") as page:
         return tokenizer_module().text(page)
 

@@ -60,7 +60,7 @@ def line_of(token):
 
 
 def print_waiting(tokenizer, fed, out):
-    """Prints what waits, and after a pause its line."""
+    """Prints the waiting tokens, and after a pause its line."""
     last = None
     for last in tokenizer.tokens():
         out.write(line_of(last) + "\n")

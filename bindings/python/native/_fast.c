@@ -3,7 +3,7 @@
  *
  * A reader is handed bytes that were taken of a tokenizer, the next ones at each call. It reads them with what firnuubal.h
  * has for records, which checks each length, and calls nothing of the library. The classes of what it makes are handed in.
- * `Py_DecRef` takes null, as a reference that there is none of.
+ * `Py_DecRef` takes null, as no reference.
  */
 #define Py_LIMITED_API 0x03080000
 #include <Python.h>
@@ -12,7 +12,7 @@
 
 /* ---- a reader's parts */
 
-/* A name that was met: its str once that was asked for, and what the reader's table says of it, or null. */
+/* A name that was met: its str once a caller needed it, and what the reader's table says of it, or null. */
 typedef struct {
     bool is_met;
     PyObject *str;
@@ -46,7 +46,7 @@ struct reader {
     uint64_t line;     /* the line that was reached */
     uint64_t run_line; /* the line on which the text begins that is held */
     uint64_t places[3]; /* where the run and the token begin, and where the token ends */
-    PyObject *number;  /* a line as an int, the last that was asked for */
+    PyObject *number;  /* a line as an int, the last one requested */
     uint64_t numbered;
     char *held;        /* bytes of texts, kept from one call to the next */
     size_t held_len, held_room, held_whole;
@@ -79,7 +79,7 @@ static PyObject *str_of(html5_text text) {
     return PyErr_Occurred() ? NULL : PyUnicode_DecodeUTF8(text.at, (Py_ssize_t)text.len, NULL);
 }
 
-/* What is held, as a str. Then nothing is held. */
+/* The held text, as a str. Then nothing is held. */
 static PyObject *held_str(reader *self) {
     html5_text all = {self->held ? self->held : "", self->held_len};
     self->held_len = 0;
@@ -115,7 +115,7 @@ static bool learn(reader *self, name *known, html5_text text) {
     return true;
 }
 
-/* The name of these bytes, which stays until the next is asked for; or null, with an exception. */
+/* The name of these bytes, which stays until the next request; or null, with an exception. */
 static name *name_of(reader *self, html5_text text) {
     if (text.len > sizeof self->names->bytes) return learn(self, &self->names[NAMES], text) ? &self->names[NAMES] : NULL;
     size_t sum = text.len;
@@ -265,7 +265,7 @@ static bool append_doctype(reader *self, PyObject *found, const html5_token *doc
     return append_token(self, found, HTML5_DOCTYPE, members, 5);
 }
 
-/* A token that is no tag and no text. */
+/* A token other than a tag or a text. */
 static bool append_other(reader *self, PyObject *found, const html5_token *token) {
     switch (token->kind) {
     case HTML5_DOCTYPE:
@@ -384,7 +384,7 @@ static const uint8_t *text_read(reader *self, const uint8_t *at, const uint8_t *
     return stop ? stop + 1 : end;
 }
 
-/* The place after a record, or null with an exception where it is none. */
+/* The place after a record, or null with an exception if it is not one. */
 static const uint8_t *checked(const uint8_t *after) {
     if (!after) PyErr_SetString(PyExc_ValueError, "what was taken is no whole record");
     return after;

@@ -441,7 +441,7 @@ def outcome_of_call(reader, records):
 
 
 def growth_of_blocks(call):
-    """By how many bytes what is held grows at each call, or by how many references, where they are counted."""
+    """By how many bytes the held memory grows at each call, or by how many references, where they are counted."""
     count = getattr(sys, "gettotalrefcount", lambda: 0)
     tracemalloc.start()
     try:

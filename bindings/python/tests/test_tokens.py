@@ -262,7 +262,7 @@ class Tokens(unittest.TestCase):
             self.assertEqual(list(firnuubal.tokens(page, piece=piece, texts=False, tags={"a"})), [a, end, End(1)])
 
     def test_tokens_with_places(self):
-        """What stands in the places of a page's tokens, worked by hand: in characters of texts, in bytes of bytes."""
+        """The text at the places of a page's tokens, worked by hand: in characters of texts, in bytes of bytes."""
         page = "é<p CLASS = x>1 &lt; 2\r\n<!--x--></p >𝄞<title>&lt;</title>1 < 2"
         due = ["é", "<p CLASS = x>", "1 &lt; 2\r\n", "<!--x-->", "</p >", "𝄞", "<title>", "&lt;", "</title>", " ", "1 < 2", ""]
         found = list(firnuubal.placed_tokens(page))

@@ -41,7 +41,7 @@ def random_tag(choose):
 
 
 def random_page(choose):
-    """A text of tags, most of them whole, and of what stands between tags."""
+    """A text of tags, most of them whole, and of text between tags."""
     parts = (random_tag(choose) if choose.random() < 0.6 else choose.choice(TEXTS) for _ in range(choose.randrange(1, 24)))
     return "".join(parts)
 

@@ -68,7 +68,7 @@ fn print_token(out: &mut impl Write, token: &Token<'_>) -> io::Result<()> {
     }
 }
 
-/// Prints what waits, with places.
+/// Prints the waiting tokens, with places.
 fn print_placed(out: &mut impl Write, tokenizer: &mut Tokenizer) -> io::Result<()> {
     for (token, place) in tokenizer.placed_tokens() {
         write!(out, "{} {} ", place.start, place.end)?;
@@ -77,7 +77,7 @@ fn print_placed(out: &mut impl Write, tokenizer: &mut Tokenizer) -> io::Result<(
     Ok(())
 }
 
-/// Prints what waits, and after a pause its line.
+/// Prints the waiting tokens, and after a pause its line.
 fn print_waiting(out: &mut impl Write, tokenizer: &mut Tokenizer, fed: Fed) -> io::Result<()> {
     let mut charset = "";
     for token in tokenizer.tokens() {
@@ -94,7 +94,7 @@ fn print_waiting(out: &mut impl Write, tokenizer: &mut Tokenizer, fed: Fed) -> i
     }
 }
 
-/// Feeds a piece, past all pauses, and prints what is told.
+/// Feeds a piece, past all pauses, and prints the tokens.
 fn feed(out: &mut impl Write, tokenizer: &mut Tokenizer, piece: &[u8], places: bool) -> Result<(), Box<dyn Error>> {
     let mut fed = tokenizer.feed(piece)?;
     if places {

@@ -9,8 +9,9 @@ use std::sync::Arc;
 ///
 /// Each name is one name, as it stands: nothing in it is read as a rule. What no policy takes is [`Error::BadRule`].
 ///
-/// Unless it is told otherwise, a link that is kept gets `rel="noopener noreferrer"`, and what is kept of a page is made to fit,
-/// so that a browser builds it as its tags are nested: by `tree` where each element has a place in the tree, else by `balance`.
+/// By default, a link that is kept gets `rel="noopener noreferrer"`, and the kept part of a page is made to fit, so
+/// that a browser builds it with the nesting of its tags: by `tree` where each element has a place in the tree, else by
+/// `balance`.
 ///
 /// ```
 /// use firnuubal::PolicyBuilder;
@@ -84,14 +85,14 @@ impl PolicyBuilder {
         self
     }
 
-    /// Drops these elements with what stands in them.
+    /// Drops these elements with their content.
     pub fn clean_content_tags<'w>(&mut self, names: impl IntoIterator<Item = &'w str>) -> &mut PolicyBuilder {
         self.clean_content_tags.extend(strings(names));
         self
     }
 
     /// The `rel` that a link gets which is kept with an address, in place of the page's own: some words, as `nofollow ugc`. With
-    /// `None` it gets none. It is `noopener noreferrer` where nothing is said.
+    /// `None` it gets none. The default is `noopener noreferrer`.
     pub fn link_rel(&mut self, words: Option<&str>) -> &mut PolicyBuilder {
         self.link_rel = words.map(String::from);
         self
@@ -103,21 +104,21 @@ impl PolicyBuilder {
         self.link_rel(is_added.then_some("noopener"))
     }
 
-    /// Whether each end tag closes what was opened inside its element, and the page's end what is still open. Where nothing is
-    /// said, it is so where the rule `tree` can't be. With `false` the rule `tree` has to be, unless that is `false`, too.
+    /// Whether each end tag closes what was opened inside its element, and the page's end what is still open. The
+    /// default is `true` where the rule `tree` can't be. With `false` the rule `tree` has to be, unless that is `false`, too.
     pub fn balance(&mut self, balances: bool) -> &mut PolicyBuilder {
         self.balance = Some(balances);
         self
     }
 
-    /// Whether the page is made to fit, so that a browser builds it as its tags are nested. With `true` an element that has no
-    /// place in the tree is refused. Where nothing is said, it is so where each has one.
+    /// Whether the page is made to fit, so that a browser builds it with the nesting of its tags. With `true` an element
+    /// that has no place in the tree is refused. The default is `true` where each has one.
     pub fn tree(&mut self, is_made: bool) -> &mut PolicyBuilder {
         self.tree = Some(is_made);
         self
     }
 
-    /// How many elements may be open in such a page: 1 to 4096, in place of 256. Where no tree is made it is refused.
+    /// How many elements may be open in such a page: 1 to 4096, in place of 256. If no tree is made, it is refused.
     pub fn depth(&mut self, depth: u32) -> &mut PolicyBuilder {
         self.depth = Some(depth);
         self

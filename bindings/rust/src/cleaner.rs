@@ -37,7 +37,7 @@ impl Cleaner {
         self.handle
     }
 
-    /// Sets how many bytes may be held: what was fed since all was read and no item was open, the text that no tag has
+    /// Sets how many bytes may be held: those fed since all was read and no item was open, the text that no tag has
     /// ended yet, and what was not taken. A piece that goes past it is [`Error::Limit`].
     pub fn set_limit(&mut self, limit: u64) -> Result<(), Error> {
         let status = unsafe { raw::html5_set_limit(&mut self.handle, limit) };
@@ -56,12 +56,12 @@ impl Cleaner {
         Ok(())
     }
 
-    /// The name of the encoding in which the page is read, once it is known. There is none where none was set.
+    /// The name of the encoding in which the page is read, once it is known. There is none if none was set.
     pub fn encoding(&mut self) -> Option<String> {
         raw::encoding(&mut self.handle)
     }
 
-    /// Reads the next bytes, in pieces of any size. Where bytes are no UTF-8, all before them is read.
+    /// Reads the next bytes, in pieces of any size. Where bytes are not UTF-8, all before them is read.
     pub fn feed(&mut self, bytes: &[u8]) -> Result<(), Error> {
         let status = unsafe { raw::html5_cleaner_feed(&mut self.handle, bytes.as_ptr(), bytes.len()) };
         self.done_or_error(status)
@@ -73,7 +73,7 @@ impl Cleaner {
         self.done_or_error(status)
     }
 
-    /// What is kept of the page and was not taken yet.
+    /// The kept part of the page that was not taken yet.
     pub fn take(&mut self) -> String {
         String::from_utf8(raw::take_kept(&mut self.handle)).expect("pieces of a cleaned page are UTF-8")
     }

@@ -8,7 +8,7 @@ use std::{fmt, io};
 pub enum Error {
     /// A request for memory was refused.
     NoMemory,
-    /// The byte at this place, counted from the first that was fed, is no UTF-8. All before it was read.
+    /// The byte at this place, counted from the first that was fed, is not UTF-8. All before it was read.
     NotUtf8 {
         /// The place.
         at: u64,
@@ -36,9 +36,9 @@ pub enum Error {
         /// What is wrong with it.
         fault: PolicyFault,
     },
-    /// What a policy's builder was told is refused.
+    /// A policy's builder refused an argument.
     BadRule {
-        /// The method that it was told by, as `tag_attributes`.
+        /// The method that got it, as `tag_attributes`.
         method: &'static str,
         /// The name that is refused, as it was given.
         word: String,
@@ -61,7 +61,7 @@ pub enum PolicyFault {
     ElementName,
     /// No attribute is read with this name.
     AttributeName,
-    /// What stands in this element is always dropped, as in `script`.
+    /// The content of this element is always dropped, as in `script`.
     HidesContent,
     /// This element acts on the whole page, as `base` does.
     ActsOnPage,
@@ -71,7 +71,7 @@ pub enum PolicyFault {
     NeverKept,
     /// This is no scheme in small letters.
     SchemeName,
-    /// Addresses of this scheme run what stands in them, as `javascript`.
+    /// Addresses of this scheme run their content, as `javascript`.
     RunsAddress,
     /// A page with this element can't be made to fit: it has no place in the tree.
     NoPlaceInTree,
@@ -129,7 +129,7 @@ impl fmt::Display for PolicyFault {
 }
 
 impl Error {
-    // The error of a status that is none of success. A handle that lack of memory closed is over, too.
+    // The error of a status other than success. A handle that lack of memory closed is over, too.
     pub(crate) fn of_status(status: u32, at: impl FnOnce() -> u64) -> Error {
         match status {
             3 => Error::NoMemory,

@@ -78,11 +78,11 @@ pub enum Replies {
     Caller = 3,
 }
 
-/// In which encoding the bytes of a page are. Bytes that are none of it are read as U+FFFD, but where it is
+/// In which encoding the bytes of a page are. Bytes that are invalid in it are read as U+FFFD, but where it is
 /// [`Encoding::StrictUtf8`].
 ///
-/// What takes whole pages of bytes reads them by [`Encoding::Auto`], unless it is told otherwise. A [`Tokenizer`] and a
-/// [`Cleaner`] are strict, unless they are told otherwise. A `&str` is UTF-8, whatever it says of itself.
+/// Functions of whole pages of bytes read them by [`Encoding::Auto`] by default. A [`Tokenizer`] and a [`Cleaner`] are
+/// strict by default. A `&str` is UTF-8, whatever it says of itself.
 ///
 /// ```
 /// use firnuubal::{read_text, Encoding};
@@ -94,8 +94,8 @@ pub enum Replies {
 /// ```
 #[derive(Clone, Copy, Debug, Default, PartialEq, Eq)]
 pub enum Encoding<'e> {
-    /// The page tells, as to a browser: by a byte order mark; else by a `<meta charset=..>` in its first bytes; else it is UTF-8
-    /// where these are UTF-8, and windows-1252.
+    /// The page tells, as to a browser: by a byte order mark; else by a `<meta charset=..>` or an XML declaration in its first
+    /// bytes; else it is UTF-8 where these are UTF-8, and windows-1252.
     #[default]
     Auto,
     /// That of a label of the Encoding Standard, as `shift_jis`, said by a header of the transport. A byte order mark overrules
@@ -114,13 +114,13 @@ pub struct Options<'o> {
     pub replies: Replies,
     /// The name of the tag whose end tag ends raw text, where the reading starts in some.
     pub last_start_tag: &'o str,
-    /// Every bad character is told as a parse error. It is slower.
+    /// Every bad character is reported as a parse error. It is slower.
     pub exact_errors: bool,
     /// A byte order mark at the start is kept.
     pub keep_bom: bool,
     /// All content is foreign: `<![CDATA[` opens a section.
     pub foreign: bool,
-    /// How many bytes may be held: what was fed since all was read and no item was open, and the records of tokens that
+    /// How many bytes may be held: those fed since all was read and no item was open, and the records of tokens that
     /// were not read. A piece that goes past it is [`Error::Limit`].
     pub limit: Option<u64>,
     /// In which encoding the bytes are. Without one it is [`Encoding::StrictUtf8`] for a [`Tokenizer`], and [`Encoding::Auto`]
@@ -138,11 +138,11 @@ pub struct Options<'o> {
 pub enum Fed {
     /// All of it was read.
     Done,
-    /// It paused after the end of a script; what follows waits.
+    /// It paused after the end of a script; the rest waits.
     Script,
-    /// It paused after a `meta` tag that names an encoding; what follows waits.
+    /// It paused after a `meta` tag that names an encoding; the rest waits.
     Encoding,
-    /// It paused after a tag to which the caller replies; what follows waits.
+    /// It paused after a tag to which the caller replies; the rest waits.
     Tag,
 }
 
@@ -213,14 +213,14 @@ impl Tokenizer {
         Ok(tokenizer)
     }
 
-    /// The name of the encoding in which the page is read, once it is known. There is none of a page of strict UTF-8.
+    /// The name of the encoding in which the page is read, once it is known. A page of strict UTF-8 has none.
     pub fn encoding(&mut self) -> Option<String> {
         raw::encoding(&mut self.handle)
     }
 
-    /// Reads the next bytes, in pieces of any size. After a pause it goes on, with what waits and these bytes.
+    /// Reads the next bytes, in pieces of any size. After a pause it goes on, with the waiting text and these bytes.
     ///
-    /// Where bytes are no UTF-8, all before them is read, and then it is refused. A pause before them comes first: then no
+    /// Where bytes are not UTF-8, all before them is read, and then it is refused. A pause before them comes first: then no
     /// feed takes anything until that was said.
     pub fn feed(&mut self, bytes: &[u8]) -> Result<Fed, Error> {
         let status = unsafe { raw::html5_feed(&mut self.handle, bytes.as_ptr(), bytes.len()) };
@@ -236,13 +236,13 @@ impl Tokenizer {
         Ok(())
     }
 
-    /// Puts a text in front of what waits, as `document.write` does.
+    /// Puts a text in front of the waiting text, as `document.write` does.
     pub fn insert(&mut self, text: &str) -> Result<(), Error> {
         let status = unsafe { raw::html5_insert(&mut self.handle, text.as_ptr(), text.len()) };
         self.fed_or_error(status).map(|_| ())
     }
 
-    /// Reads what follows in a state, as a tree builder asks after a start tag. Raw text is read up to the end tag of the
+    /// Reads the rest in a state, as a tree builder asks after a start tag. Raw text is read up to the end tag of the
     /// last start tag. Within a tag or another item, which is never so after a pause, it is refused.
     pub fn reply(&mut self, state: State) -> Result<(), Error> {
         let status = unsafe { raw::html5_reply(&mut self.handle, state as u32) };
@@ -255,29 +255,29 @@ impl Tokenizer {
         self.fed_or_error(status).map(|_| ())
     }
 
-    /// Tells the end of the page. Where it is no strict UTF-8, what is held of it is read first, and may pause: then the
+    /// Tells the end of the page. Where it is not strict UTF-8, its held bytes are read first, and may pause: then the
     /// page has not ended, and this is called again.
     pub fn end(&mut self) -> Result<Fed, Error> {
         let status = unsafe { raw::html5_end(&mut self.handle) };
         self.fed_or_error(status)
     }
 
-    /// Whether nothing more is read: the end was told, or a call was refused for good. After `Error::NoMemory` it says
+    /// Whether nothing more is read: the page ended, or a call was refused for good. After `Error::NoMemory` it says
     /// whether the reading can go on.
     pub fn is_over(&mut self) -> bool {
         unsafe { raw::html5_is_over(&mut self.handle) }
     }
 
-    /// The tokens that were told and not read yet. A text is one token however it was fed, so the last one comes when its
+    /// The tokens that wait to be read. A text is one token however it was fed, so the last one comes when its
     /// end is known.
     pub fn tokens(&mut self) -> Tokens<'_> {
         self.take_all();
         Tokens::new(&self.taken, &mut self.read)
     }
 
-    /// The same tokens, each with its place: the bytes of the text that was fed which are it as it is written. So
-    /// `&page[place]` is a tag with all that stands in it. A text has the place of its run, with its references; an error that
-    /// of the character at which it is told, and the end an empty one.
+    /// The same tokens, each with its place: the bytes of the fed text that are its source. So
+    /// `&page[place]` is the whole source of a tag. A text has the place of its run, with its references; an error that
+    /// of the character at which it is reported, and the end an empty one.
     ///
     /// ```
     /// use firnuubal::{Options, Token, Tokenizer};

@@ -14,7 +14,7 @@ pub enum OwnedToken {
     Text(String),
     /// A comment.
     Comment { line: u64, text: String },
-    /// A processing instruction: what stands between `<?` and `>`.
+    /// A processing instruction: the text between `<?` and `>`.
     Instruction { line: u64, content: String },
     /// A document type.
     Doctype {

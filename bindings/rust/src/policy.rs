@@ -1,4 +1,4 @@
-//! What is kept of a page.
+//! What a policy keeps of a page.
 
 use crate::pages::read_piece;
 use crate::rules::Rules;
@@ -7,7 +7,7 @@ use crate::{Cleaner, Encoding, Error};
 use std::io::{self, Read, Write};
 use std::sync::Arc;
 
-/// What is kept of a page: rules, which were tried.
+/// What a policy keeps of a page: rules, which were tried.
 ///
 /// `Policy::parse` takes the text form (crates/html5policy/README.md), `PolicyBuilder` elements, attributes and schemes
 /// one by one. `Policy::default` is the standard policy, which has the rule `tree`.

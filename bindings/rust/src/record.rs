@@ -15,7 +15,7 @@ pub enum Token<'t> {
     Text(&'t str),
     /// A comment.
     Comment { line: u64, text: &'t str },
-    /// A processing instruction: what stands between `<?` and `>`.
+    /// A processing instruction: the text between `<?` and `>`.
     Instruction { line: u64, content: &'t str },
     /// A document type.
     Doctype(Doctype<'t>),
@@ -277,7 +277,7 @@ fn doctype(line: u64, bytes: &[u8]) -> Option<(Doctype<'_>, &[u8])> {
     Some((Doctype { line, name, public_id, system_id, force_quirks: flags & 8 != 0 }, rest))
 }
 
-// A token of this kind that is no text, from what comes after its line.
+// A token of this kind that is not a text, from what comes after its line.
 fn token(kind: u8, line: u64, bytes: &[u8]) -> Option<(Token<'_>, &[u8])> {
     match kind {
         1 => tag(line, bytes).map(|(tag, rest)| (Token::StartTag(tag), rest)),

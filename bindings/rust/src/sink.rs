@@ -33,15 +33,15 @@ pub enum TokenSinkResult<Handle> {
 pub enum TokenizerResult<Handle> {
     /// All of it was read.
     Done,
-    /// The sink asked to pause for a script. What follows waits.
+    /// The sink asked to pause for a script. The rest waits.
     Script(Handle),
-    /// The sink asked to pause at an encoding. What follows waits.
+    /// The sink asked to pause at an encoding. The rest waits.
     EncodingIndicator(String),
 }
 
 /// What is sent the tokens of a page, with the names of html5ever's trait.
 pub trait TokenSink {
-    /// What stands for a script.
+    /// What a script is in the sink.
     type Handle;
 
     /// Takes a token, with the line that was reached; of a text, that is the one on which it begins. A text is sent when
@@ -51,7 +51,7 @@ pub trait TokenSink {
     /// Takes the end of the page, after the token of the end.
     fn end(&mut self) {}
 
-    /// Whether `<![CDATA[` opens a section. It is asked after each tag.
+    /// Whether `<![CDATA[` opens a section. The tokenizer asks after each tag.
     fn adjusted_current_node_present_but_not_in_html_namespace(&self) -> bool {
         false
     }
@@ -102,7 +102,7 @@ impl<S: TokenSink> SinkTokenizer<S> {
         Ok(SinkTokenizer { sink, tokenizer: Tokenizer::new(&options)?, line: 1, foreign })
     }
 
-    /// Reads the next bytes, up to a tag at which the sink asks to pause. After that it goes on, with what waits and these
+    /// Reads the next bytes, up to a tag at which the sink asks to pause. After that it goes on, with the waiting text and these
     /// bytes.
     pub fn feed(&mut self, bytes: &[u8]) -> Result<TokenizerResult<S::Handle>, Error> {
         let fed = self.tokenizer.feed(bytes);
@@ -132,12 +132,12 @@ impl<S: TokenSink> SinkTokenizer<S> {
         }
     }
 
-    /// Puts a text in front of what waits, as `document.write` does.
+    /// Puts a text in front of the waiting text, as `document.write` does.
     pub fn insert(&mut self, text: &str) -> Result<(), Error> {
         self.tokenizer.insert(text)
     }
 
-    /// Ends the page. Where the options have an encoding, what is held of it is read first, up to a tag at which the sink asks to
+    /// Ends the page. Where the options have an encoding, its held bytes are read first, up to a tag at which the sink asks to
     /// pause: then the page has not ended, and this is called again.
     pub fn end(&mut self) -> Result<TokenizerResult<S::Handle>, Error> {
         let fed = self.tokenizer.end();
@@ -148,7 +148,7 @@ impl<S: TokenSink> SinkTokenizer<S> {
         Ok(read)
     }
 
-    // Sends the tokens that were told. It answers what the sink asks for after the last one.
+    // Sends the tokens that were read. It answers what the sink asks for after the last one.
     fn send_tokens(&mut self) -> TokenSinkResult<S::Handle> {
         let mut asked = TokenSinkResult::Continue;
         for token in self.tokenizer.tokens() {

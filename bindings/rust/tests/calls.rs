@@ -158,7 +158,7 @@ fn raw_text_from_the_start_in_another_thread() -> Result<(), Error> {
     Ok(())
 }
 
-// What stands in the places of a page's tokens, by hand.
+// The text at the places of a page's tokens, by hand.
 const PLACED: (&str, &[&str]) = (
     "é<p CLASS = x>1 &lt; 2\r\n<!--x--></p >&amp",
     &["é", "<p CLASS = x>", "1 &lt; 2\r\n", "<!--x-->", "</p >", "&amp", ""],

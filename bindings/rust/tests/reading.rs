@@ -1,4 +1,4 @@
-//! Pages from readers: that are interrupted, that hold bytes which are none of UTF-8, that are many pieces.
+//! Pages from readers: that are interrupted, that hold bytes which are not UTF-8, that are many pieces.
 
 use firnuubal::{
     links, read_links, read_text, read_tokens, text, Cleaner, Encoding, Error, Options, OwnedToken, Policy, Tokenizer,

@@ -1,4 +1,4 @@
-//! Counts the tokens of standard input as they are sent to a sink that does nothing else: what the tokenizer takes alone.
+//! Counts the tokens of standard input as they are sent to a sink that does nothing else, to time the tokenizer alone.
 //! bench/readers.py times it beside what reads records.
 #![tactic(auto)]
 

@@ -13,7 +13,7 @@ use Rattle.decoded_source.specs.declared.source.ErrorMode.{ErrorMode}
 use Rattle.decoded_source.specs.declared.source.ErrorMode.TheVariants.{Replacement, Fatal, Failed}
 use Rattle.decoded_source.proofs.Fatal.{text-failed_piece, text-whole_piece}
 
--- the text of a piece, and then that of what follows
+-- the text of a piece, and then of the bytes after it
 pub text_of-piece : (now : State) (front rest : List ℕ)
     → text_of Replacement (Some now) (front ++ rest) ≡ encode_utf8_all (given now front) ++ text_of Replacement (Some (state_after now front)) rest
 text_of-piece now front rest =

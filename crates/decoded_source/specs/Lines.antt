@@ -10,7 +10,7 @@ abbrev pub line_ends : Bool → List ℕ → ℕ
 line_ends after_cr [] = 0
 line_ends after_cr (byte ∷ bytes) = (if ends_line after_cr byte then 1 else 0) + line_ends (byte == 0x0D) bytes
 
--- whether what follows these bytes stands after a CR
+-- whether the text after these bytes follows a CR
 abbrev pub ends_in_cr : Bool → List ℕ → Bool
 ends_in_cr after_cr [] = after_cr
 ends_in_cr after_cr (byte ∷ bytes) = ends_in_cr (byte == 0x0D) bytes

@@ -5,7 +5,7 @@ use Rattle.html5encodings.specs.Decoding.{at_end, given, handled, is_whole, retu
 use Rattle.decoded_source.specs.declared.source.ErrorMode.{ErrorMode}
 use Rattle.decoded_source.specs.declared.source.ErrorMode.TheVariants.{Replacement, Fatal, Failed}
 
--- A source; what becomes of errors; the decoder of its bytes, none once the end was decoded; the bytes that were read of it and wait
+-- A source; what happens to errors; the decoder of its bytes, none once the end was decoded; the bytes that were read of it and wait
 -- to be decoded; the text that waits to be read; and how many reads failed that the source knows nothing of.
 pub record Reading (S : Type 0) : Type 0 where
   pub inner : S
@@ -15,11 +15,11 @@ pub record Reading (S : Type 0) : Type 0 where
   pub waiting : List ℕ
   pub own_failures : ℕ
 
--- What stands for an error in the text of a source whose reads fail there: a byte that no text has. It is never given.
+-- The mark of an error in the text of a source whose reads fail there: a byte that no text has. It is never given.
 abbrev pub refusal : List ℕ
 refusal = 0xFF ∷ []
 
--- the text of bytes up to the first error, and the refusal where there is one
+-- the text of bytes up to the first error, and the refusal if there is one
 abbrev pub text_up_to_error : State → List ℕ → List ℕ
 text_up_to_error now [] = if is_whole now then [] else refusal
 text_up_to_error now (byte ∷ bytes) =

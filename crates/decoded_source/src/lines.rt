@@ -2,7 +2,7 @@
 ghost use Rattle.std.specs.Prelude.{◌≡◌, ◌≤◌, length};
 ghost use Rattle.decoded_source.specs.Lines.{ends_in_cr, ends_line, line_ends};
 
-/// How many lines end in bytes, and whether what follows them stands after a CR.
+/// How many lines end in bytes, and whether the text after them follows a CR.
 #[derive(Clone, Copy, Debug, PartialEq, Eq)]
 pub struct LineEnds {
     pub count: usize,

@@ -4,8 +4,8 @@ ghost use Rattle.decoded_source.specs.Lines.{ends_in_cr, line_ends};
 
 use crate::lines::line_ends;
 
-/// How many bytes were decoded, how many of them the whole characters are of, how many lines end in their text, and
-/// whether that ends in CR. A number past `u64::MAX` is said to be `u64::MAX`.
+/// How many bytes were decoded, how many of them the whole characters take, how many lines end in their text, and
+/// whether that ends in CR. A number past `u64::MAX` counts as `u64::MAX`.
 #[derive(Clone, Copy, Debug, PartialEq, Eq)]
 pub struct Place {
     pub decoded: u64,
@@ -27,8 +27,8 @@ impl Place {
         }
     }
 
-    /// The same after a piece, of which this many bytes were decoded to this text, and after so many of them the last
-    /// whole character ends, if one ends in it.
+    /// The same after a piece, of which this many bytes were decoded to this text, and after that many of them the
+    /// last whole character ends, if one ends in it.
     pub fn after(self, len: usize, whole: Option<usize>, text: &[u8]) -> Place
         ensures decoded { result.decoded ≡ min (self.decoded + len) (2 ^ 64 - 1) }
         ensures whole { IfSome whole (λ whole. result.whole ≡ min (self.decoded + whole) (2 ^ 64 - 1)) }

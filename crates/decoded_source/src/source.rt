@@ -15,7 +15,7 @@ use std::io;
 use std::io::ErrorKind;
 use std::marker::Model;
 
-/// What becomes of errors, which are bytes that are none of the encoding: the error modes of the Standard.
+/// What happens to errors, bytes that are invalid in the encoding: the error modes of the Standard.
 #[derive(Clone, Copy, Debug, PartialEq, Eq)]
 pub enum ErrorMode {
     /// They give U+FFFD.
@@ -26,7 +26,7 @@ pub enum ErrorMode {
     Failed,
 }
 
-/// A source of bytes in an encoding, as a source of text in UTF-8. Bytes that are none of the encoding give U+FFFD,
+/// A source of bytes in an encoding, as a source of text in UTF-8. Bytes that are invalid in the encoding give U+FFFD,
 /// or reads fail at the first of them.
 #[derive(Drop)]
 pub struct DecodedSource<S, A: Allocator = Global> {
@@ -57,7 +57,7 @@ impl<S, A: Allocator> Model for DecodedSource<S, A> {
     } };
 }
 
-// What becomes of errors after bytes of which so many stand before the first.
+// The error mode after bytes of which this many stand before the first error.
 fn mode_after(len: usize, all: usize) -> ErrorMode
     ensures failed { len < all → result ≡ ErrorMode.Failed }
     ensures fatal { all ≤ len → result ≡ ErrorMode.Fatal }
@@ -80,7 +80,7 @@ impl<S: Source, A: Allocator + Copy> DecodedSource<S, A> {
         DecodedSource::with_mode(alloc, source, encoding, ErrorMode::Replacement)
     }
 
-    /// The same, where reads fail at the first bytes that are none of the encoding. The text before them is given.
+    /// The same, where reads fail at the first bytes that are invalid in the encoding. The text before them is given.
     pub fn fatal(alloc: A, source: S, encoding: Encoding) -> DecodedSource<S, A>
         ensures inner { result.inner ≡ source }
         ensures text { IfSome (S.remaining source) (λ bytes.
@@ -121,13 +121,13 @@ impl<S: Source, A: Allocator + Copy> DecodedSource<S, A> {
         self.inner
     }
 
-    /// Why the last read failed that the source knows nothing of: no memory, or bytes that are none of the encoding.
+    /// Why the last read failed that the source knows nothing of: no memory, or bytes that are invalid in the encoding.
     pub fn fault(&self) -> Option<io::Error> {
         self.fault
     }
 
-    /// Where errors are fatal, how many bytes the whole characters before the error are of: the place of the first byte
-    /// that is none of the encoding.
+    /// If errors are fatal, how many bytes the whole characters before the error take: the place of the first byte
+    /// that is invalid in the encoding.
     pub fn place(&self) -> u64 {
         self.place.whole
     }

@@ -51,7 +51,7 @@ impl Undecoded {
         self.count = 0;
     }
 
-    /// Reads, where nothing waits, and answers how many bytes came: none only at the end.
+    /// Reads when nothing waits, and answers how many bytes came: 0 only at the end.
     pub fn read<S: Source>(&mut self, source: &mut S) -> io::Result<usize>
         ensures ok { OnOk result (Consumes (S.remaining source.old) (S.remaining source.new) self.new) }
         ensures end { IfOk result (λ n. n ≡ 0 → (self.new ≡ []) × IsAtEnd (S.remaining source.new)) }

@@ -57,7 +57,7 @@ impl<A: Allocator> Waiting<A> {
         }
     }
 
-    /// Takes bytes at the front, and answers how many: none only where none wait, or there is no room.
+    /// Takes bytes at the front, and answers how many: 0 only if none wait, or there is no room.
     pub fn take(&mut self, into: &mut [u8]) -> usize
         ensures bound { result ≤ length into.new }
         ensures taken { self.old ≡ take result into.new ++ self.new }

@@ -37,10 +37,10 @@ abbrev pub reported_failures : {T : Type 0} → Result T Fault → ℕ
 reported_failures (Ok x) = 0
 reported_failures (Err e) = device_failures e
 
--- known bytes lose some beginning
+-- known bytes lose some prefix
 abbrev pub ConsumesBeginning : Option (List ℕ) → Option (List ℕ) → Type 0
 ConsumesBeginning old new = (bs : List ℕ) × Consumes old new bs
 
--- known bytes grow by a beginning of bs that is not the whole
+-- known bytes grow by a prefix of bs that is not the whole
 abbrev pub AppendsBeginning : Option (List ℕ) → Option (List ℕ) → List ℕ → Type 0
 AppendsBeginning old new bs = (n : ℕ) × (n < length bs) × Appends old new (take n bs)

@@ -63,7 +63,7 @@ impl<W: Target, A: Allocator> Printer<W, A> {
         written
     }
 
-    /// Prints bytes. Where there is no memory for it nothing was printed; where a full buffer can't be
+    /// Prints bytes. If there is no memory for it nothing was printed; where a full buffer can't be
     /// written the printer has failed, and prints nothing more.
     pub fn print(&mut self, bytes: &[u8]) -> Result<(), Fault>
         ensures ok { OnOk result (self.new.printed ≡ self.old.printed ++ bytes.now) }
@@ -85,7 +85,7 @@ impl<W: Target, A: Allocator> Printer<W, A> {
         Ok(())
     }
 
-    /// Writes what waits, and gives the target back: what it took is what was printed.
+    /// Writes the waiting bytes, and gives the target back: it took what was printed.
     pub fn finish(mut self) -> (Logged<W>, Result<(), Fault>)
         ensures ok { OnOk result.1 (result.0.taken ≡ self.printed) }
         ensures fault { IfErr result.1 (λ fault. fault ≡ Fault.Device) }

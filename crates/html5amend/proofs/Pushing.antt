@@ -1,4 +1,4 @@
--- One more element that waits, where there is room, and where its start tag stands.
+-- One more element that waits, if there is room, and where its start tag stands.
 use Rattle.std.proofs.Common.{◌≡◌, ℕ, ◌<◌, ◌≤◌, Bool, true, false, List, ◌∷◌, length, map, None, Some, Option, refl, ap, sym, subst, ◌∙◌, arith, deque_capacity}
 use Rattle.std.specs.Prelude.{Result, IsOk, is_ok, nat_lt, unwrap_or, if◌then◌else◌}
 use Rattle.std.specs.declared.collections.VecDeque.{VecDeque}
@@ -17,7 +17,7 @@ ok-then r x y ok = ap (λ b. if b then x else y) ok
 
 module _ {Z : Type 0} (o : Open Z) (w : Waiting) (items : List (Open Z)) (places count : ℕ)
     (is : record { elements = map open_by items; places = places } ≡ w) (counts : count ≡ length items) where
-  -- whether there is room is told by how many wait
+  -- how many wait decides whether there is room
   room-by : (limit : ℕ) (b : Bool) → nat_lt count limit ≡ b → nat_lt (length (map open_by items)) limit ≡ b
   room-by limit b fits = ap (λ n. nat_lt n limit) (length-map items open_by ∙ sym counts) ∙ fits
 
@@ -35,7 +35,7 @@ module _ {Z : Type 0} (o : Open Z) (w : Waiting) (items : List (Open Z)) (places
       (room-by places false (le-ltb count places full)))
       ∙ ap (with_open o None) is
 
-  -- room that is made where there was none
+  -- room that is made if there was none
   pub room-made : (capacity : ℕ) → places ≤ count → capacity ≡ grown count
       → (if nat_lt (length w.elements) capacity then record { elements = open_by o ∷ w.elements; places = capacity } else w)
       ≡ record { elements = open_by o ∷ w.elements; places = places_for (length w.elements) w.places }
@@ -66,12 +66,12 @@ module _ {Z : Type 0} (o : Open Z) (w : Waiting) (items : List (Open Z)) (places
 
 -- ---- a start tag
 
--- what holds where there is none
+-- what holds if there is none
 abbrev at_none : Type 0 → Option OpenOf → Type 0
 at_none P None = P
 at_none P (Some o) = Unit {0}
 
--- and where there is one
+-- and if there is one
 abbrev at_some : Type 0 → Option OpenOf → Type 0
 at_some P None = Unit {0}
 at_some P (Some o) = P

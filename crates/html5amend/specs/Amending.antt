@@ -24,7 +24,7 @@ abbrev pub end_edit : EditOf → Option PartOf → List ℕ → EditOf
 end_edit otherwise None source = otherwise
 end_edit otherwise (Some ending) source = edit_of_part ending source
 
--- where what stands here is dropped: the end tag of the element that drops it is none of that
+-- when the content here is dropped: the end tag of the element that drops it is not part of it
 abbrev pub dropped_tag : List OpenOf → TagKind → TagOf → List ℕ → EditOf
 dropped_tag waiting StartTag tag source = Replace []
 dropped_tag waiting EndTag tag source = end_edit (Replace []) (closed_by tag.name waiting) source
@@ -71,7 +71,7 @@ moved (Opens o) waiting = o ∷ waiting
 abbrev pub opening_move : TagOf → ElementOf → Move
 opening_move tag e = if waits e then Opens (opened e) else Counts tag
 
--- where what stands here is dropped
+-- when the content here is dropped
 abbrev pub dropped_move : Told → Move
 dropped_move (Tag tag) = Counts tag
 dropped_move other = Stays

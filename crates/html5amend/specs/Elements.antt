@@ -13,7 +13,7 @@ use Rattle.html5amend.specs.Parts.{PartOf, is_as_it_is}
 pub record ElementOf : Type 0 where
   -- its start tag, with the name and the attributes that it is given
   pub tag : TagOf
-  -- the name that it has in the page, where it is given another
+  -- the name that it has in the page, if it is given another
   pub page_name : Option (List ℕ)
   -- whether something can stand in it
   pub has_content : Bool
@@ -59,15 +59,15 @@ without_value attribute e =
 abbrev pub with_name : List ℕ → ElementOf → ElementOf
 with_name name e = record e { tag = record e.tag { name = name }; page_name = Some (name_in_page e); is_new = true }
 
--- after what was put there before it
+-- after the earlier content there
 abbrev pub with_before : List ℕ → ElementOf → ElementOf
 with_before content e = record e { before = e.before ++ content }
 
--- before what was put there before it
+-- before the earlier content there
 abbrev pub with_after : List ℕ → ElementOf → ElementOf
 with_after content e = record e { after = content ++ e.after }
 
--- as the first of what stands in it, where something can
+-- at the front of its content, if it can have any
 abbrev pub with_prepended : List ℕ → ElementOf → ElementOf
 with_prepended content e = if e.has_content then record e { prepended = content ++ e.prepended } else e
 
@@ -75,11 +75,11 @@ with_prepended content e = if e.has_content then record e { prepended = content 
 abbrev pub with_appended : List ℕ → ElementOf → ElementOf
 with_appended content e = if e.has_content then record e { appended = e.appended ++ content } else e
 
--- in place of what stands in it, and of what was put there
+-- in place of its content, and of the content put there
 abbrev pub filled_with : List ℕ → ElementOf → ElementOf
 filled_with content e = record e { drops_content = true; prepended = content; appended = [] }
 
--- where something can stand in it
+-- if it can have content
 abbrev pub with_content : List ℕ → ElementOf → ElementOf
 with_content content e = if e.has_content then filled_with content e else e
 
@@ -104,7 +104,7 @@ end_itself e =
     else if is_some e.page_name then Replace (end_text e.tag.name)
     else Keep
 
--- at its start tag. Where nothing can stand in it, that is all of it.
+-- at its start tag. If it can't have content, that is all of it.
 abbrev pub start_part : ElementOf → PartOf
 start_part e = record {
   before = e.before;
@@ -116,6 +116,6 @@ start_part e = record {
 abbrev pub end_part : ElementOf → PartOf
 end_part e = record { before = e.appended; itself = end_itself e; after = e.after }
 
--- whether something is done after its start tag: what stands in it is dropped, or its end tag doesn't stay as it is
+-- whether something is done after its start tag: its content is dropped, or its end tag doesn't stay as it is
 abbrev pub waits : ElementOf → Bool
 waits e = e.has_content && (e.drops_content || not (is_as_it_is (end_part e)))

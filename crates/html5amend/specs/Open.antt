@@ -10,16 +10,16 @@ pub record OpenOf : Type 0 where
   pub name : List ℕ
   -- how many elements of that name are open: itself, and those in it
   pub depth : ℕ
-  -- what becomes of its end tag
+  -- what happens to its end tag
   pub ending : PartOf
-  -- whether what stands in it is dropped
+  -- whether its content is dropped
   pub drops : Bool
 
 -- an element, after its start tag
 abbrev pub opened : ElementOf → OpenOf
 opened e = record { name = name_in_page e; depth = 1; ending = end_part e; drops = e.drops_content }
 
--- whether what stands here is dropped
+-- whether the content here is dropped
 abbrev pub is_dropping : List OpenOf → Bool
 is_dropping [] = false
 is_dropping (o ∷ waiting) = o.drops
@@ -29,8 +29,8 @@ pub record Found : Type 0 where
   pub place : ℕ
   pub element : OpenOf
 
--- The innermost of those that have a name, where the first one here has `place` others within it. What stands round an element whose
--- content is dropped is not reached from within.
+-- The innermost of those that have a name, where the first one here has `place` others within it. Elements round one whose content
+-- is dropped are not reached from within.
 unfoldable pub found_from : ℕ → List ℕ → List OpenOf → Option Found
 found_from place name [] = None
 found_from place name (o ∷ waiting) =
@@ -45,7 +45,7 @@ found name waiting = found_from 0 name waiting
 abbrev pub depth_after : TagOf → ℕ → ℕ
 depth_after tag depth = depth_by_kind tag.kind (has_content tag) depth
 
--- so many are, of the one at this place: where none is, it waits no more
+-- this many are open of the one at this place: at 0 it waits no more
 unfoldable pub counted_at : ℕ → ℕ → List OpenOf → List OpenOf
 counted_at place depth [] = []
 counted_at zero depth (o ∷ waiting) = if depth == 0 then waiting else (record o { depth = depth } ∷ waiting)
@@ -63,6 +63,6 @@ abbrev pub closed_found : Option Found → Option PartOf
 closed_found None = None
 closed_found (Some f) = if f.element.depth - 1 == 0 then Some f.element.ending else None
 
--- what becomes of an end tag of this name, where it closes one that waits
+-- what happens to an end tag of this name, if it closes an element that waits
 abbrev pub closed_by : List ℕ → List OpenOf → Option PartOf
 closed_by name waiting = closed_found (found name waiting)

@@ -5,7 +5,7 @@ use Rattle.html5splice.specs.Edits.EditOf.{Keep, Replace}
 
 pub record PartOf : Type 0 where
   pub before : List ℕ
-  -- what becomes of the token
+  -- what happens to the token
   pub itself : EditOf
   pub after : List ℕ
 
@@ -25,7 +25,7 @@ abbrev pub is_kept : EditOf → Bool
 is_kept Keep = true
 is_kept (Replace text) = false
 
--- whether that is the token as it is written
+-- whether that leaves the token unchanged
 abbrev pub is_as_it_is : PartOf → Bool
 is_as_it_is part = is_kept part.itself && (is_nothing part.before && is_nothing part.after)
 

@@ -28,7 +28,7 @@ abbrev pub with_count : Option Count → Waiting → Waiting
 with_count None w = w
 with_count (Some count) w = record w { elements = counted_at count.place count.depth w.elements }
 
--- where there is room, which may come with the change
+-- if there is room, which may come with the change
 abbrev pub with_open : {Z : Type 0} → Open Z → Option (VecDeque (Open Z) Z) → Waiting → Waiting
 with_open o None w = if nat_lt (length w.elements) w.places then record w { elements = open_by o ∷ w.elements } else w
 with_open o (Some room) w =

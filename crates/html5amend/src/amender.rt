@@ -26,8 +26,9 @@ impl<A: Allocator> SaysOther for Other<A> {
     ghost other = { λ o. o };
 }
 
-/// Says what becomes of elements and of other tokens: `impl<A: Allocator + Copy> Amender<Element<A>, Other<A>> for MyAmender`. What it
-/// says goes by the element, or the token, and by the handler alone. Of what stands in an element whose content is dropped nothing is asked.
+/// Says what happens to elements and other tokens: `impl<A: Allocator + Copy> Amender<Element<A>, Other<A>> for
+/// MyAmender`. Its answer depends on the element or the token, and on the handler alone. It isn't called within an
+/// element whose content is dropped.
 pub trait Amender<E: SaysElement, O: SaysOther>: Drop {
     ghost use Rattle.std.specs.Prelude.{◌≡◌, OnOk};
     ghost use Rattle.html5amend.specs.Amending.{Amends};

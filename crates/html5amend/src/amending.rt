@@ -105,7 +105,7 @@ impl<M, A: Allocator + Copy> Amending<M, A> {
         })
     }
 
-    // Says of a tag what takes its place, where what stands here is dropped.
+    // Says what replaces a tag, when the content here is dropped.
     fn dropped_tag(&self, source: &str, tag: &Tag<A>) -> Result<Said<A>, AmendError>
         ensures edit { IfOk result (λ said. edit_by said.edit ≡ dropped_tag self.now.waiting.elements tag.now.kind (tag_of tag.now) source.now) }
         ensures change { IfOk result (λ said. waiting_with said.change self.now.waiting ≡ waiting_after (Counts (tag_of tag.now)) self.now.waiting) }
@@ -116,7 +116,7 @@ impl<M, A: Allocator + Copy> Amending<M, A> {
         }
     }
 
-    // Says of a token what takes its place, where what stands here is dropped.
+    // Says what replaces a token, when the content here is dropped.
     fn dropped_token(&self, source: &str, token: &Token<A>) -> Result<Said<A>, AmendError>
         ensures edit { IfOk result (λ said. edit_by said.edit ≡ dropped_token self.now.waiting.elements (told_by token.now) source.now) }
         ensures change { IfOk result (λ said. waiting_with said.change self.now.waiting ≡ waiting_after (dropped_move (told_by token.now)) self.now.waiting) }

@@ -25,12 +25,12 @@ use std::alloc::{AllocError, Allocator, Global};
 use std::marker::Model;
 use std::mem::replace;
 
-/// An element at its start tag. A handler is shown it there, and says what becomes of it.
+/// An element at its start tag. A handler is shown it there, and says what happens to it.
 #[derive(Drop)]
 pub struct Element<A: Allocator = Global> {
     alloc: A,
     tag: Tag<A>,
-    // The name that it has in the page, where it is given another.
+    // The name that it has in the page, if it is given another.
     page_name: Option<String<A>>,
     has_content: bool,
     is_new: bool,
@@ -63,7 +63,7 @@ impl<A: Allocator> Model for Element<A> {
     } };
 }
 
-// What becomes of an element: of its start tag, and after that where it waits for its end tag.
+// What happens to an element: to its start tag, and after that if it waits for its end tag.
 #[derive(Drop)]
 pub struct Amended<A: Allocator> {
     pub start: Part<A>,
@@ -118,7 +118,7 @@ impl<A: Allocator + Copy> Element<A> {
         &self.tag.name.0
     }
 
-    /// The value of an attribute, where there is one.
+    /// The value of an attribute, if there is one.
     pub fn value(&self, attribute: &str) -> Option<&str>
         ensures { option_map (λ value. value.now) result ≡ value_of attribute.now self.now.tag.attributes }
     {
@@ -150,7 +150,7 @@ impl<A: Allocator + Copy> Element<A> {
         Ok(())
     }
 
-    /// Removes an attribute, where there is one.
+    /// Removes an attribute, if there is one.
     pub fn remove_attribute(&mut self, attribute: &str)
         ensures { self.new ≡ without_value attribute.now self.old }
     {
@@ -178,14 +178,14 @@ impl<A: Allocator + Copy> Element<A> {
         Ok(())
     }
 
-    /// Puts a content before its start tag, after what was put there before.
+    /// Puts a content before its start tag, after the earlier content there.
     pub fn before(&mut self, content: Content<'_>) -> Result<(), AllocError>
         ensures { OnOk result (self.new ≡ with_before (content_bytes content.entry) self.old) }
     {
         push_content(&mut self.before, content)
     }
 
-    /// Puts a content after its end tag, before what was put there before.
+    /// Puts a content after its end tag, before the earlier content there.
     pub fn after(&mut self, content: Content<'_>) -> Result<(), AllocError>
         ensures { OnOk result (self.new ≡ with_after (content_bytes content.entry) self.old) }
     {
@@ -193,7 +193,8 @@ impl<A: Allocator + Copy> Element<A> {
         Ok(())
     }
 
-    /// Puts a content after its start tag, before what was put there before. Where nothing can stand in it, nothing is put there.
+    /// Puts a content after its start tag, before the earlier content there. If it can't have content, nothing is put
+    /// there.
     pub fn prepend(&mut self, content: Content<'_>) -> Result<(), AllocError>
         ensures { OnOk result (self.new ≡ with_prepended (content_bytes content.entry) self.old) }
     {
@@ -203,7 +204,8 @@ impl<A: Allocator + Copy> Element<A> {
         Ok(())
     }
 
-    /// Puts a content before its end tag, after what was put there before. Where nothing can stand in it, nothing is put there.
+    /// Puts a content before its end tag, after the earlier content there. If it can't have content, nothing is put
+    /// there.
     pub fn append(&mut self, content: Content<'_>) -> Result<(), AllocError>
         ensures { OnOk result (self.new ≡ with_appended (content_bytes content.entry) self.old) }
     {
@@ -213,7 +215,7 @@ impl<A: Allocator + Copy> Element<A> {
         Ok(())
     }
 
-    // Puts a content in place of what stands in it, and of what was put there.
+    // Replaces its content, and the content put there, by another.
     fn fill(&mut self, content: Content<'_>) -> Result<(), AllocError>
         ensures { OnOk result (self.new ≡ filled_with (content_bytes content.entry) self.old) }
     {
@@ -223,7 +225,7 @@ impl<A: Allocator + Copy> Element<A> {
         Ok(())
     }
 
-    /// Puts a content in place of what stands in it, and of what was put there. Where nothing can stand in it, nothing changes.
+    /// Replaces its content, and the content put there, by another. If it can't have content, nothing changes.
     pub fn set_inner_content(&mut self, content: Content<'_>) -> Result<(), AllocError>
         ensures { OnOk result (self.new ≡ with_content (content_bytes content.entry) self.old) }
     {
@@ -252,14 +254,14 @@ impl<A: Allocator + Copy> Element<A> {
         self.drops_tags = true;
     }
 
-    /// Removes its tags, and keeps what stands in it.
+    /// Removes its tags, and keeps its content.
     pub fn remove_and_keep_content(&mut self)
         ensures { self.new ≡ without_tags self.old }
     {
         self.drops_tags = true;
     }
 
-    // What becomes of its start tag.
+    // What happens to its start tag.
     fn start_itself(&self) -> Result<Edit<A>, AllocError>
         ensures { IfOk result (λ edit. edit_by edit ≡ start_itself self.now) }
     {
@@ -274,7 +276,7 @@ impl<A: Allocator + Copy> Element<A> {
         Ok(Edit::Replace(text))
     }
 
-    // What becomes of its end tag.
+    // What happens to its end tag.
     fn end_itself(&self) -> Result<Edit<A>, AllocError>
         ensures { IfOk result (λ edit. edit_by edit ≡ end_itself self.now) }
     {
@@ -287,7 +289,7 @@ impl<A: Allocator + Copy> Element<A> {
         Ok(Edit::Replace(end_tag(self.alloc, &self.tag.name.0)?))
     }
 
-    // What becomes of it: of its start tag, and after that.
+    // What happens to it: to its start tag, and after that.
     pub fn finish(self) -> Result<Amended<A>, AllocError>
         ensures start { IfOk result (λ amended. part_by amended.start ≡ start_part self) }
         ensures waiting { IfOk result (λ amended. option_map open_by amended.waiting ≡ (if waits self then Some (opened self) else None)) }
@@ -339,7 +341,7 @@ impl<A: Allocator + Copy> Element<A> {
         }
     }
 
-    // Where nothing can stand in it.
+    // For an element that can't have content.
     fn without_end(self, start: Edit<A>) -> Result<Amended<A>, AllocError>
         requires content { self.has_content ≡ false }
         requires start { edit_by start ≡ start_itself self }

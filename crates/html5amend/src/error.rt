@@ -5,8 +5,8 @@ use thiserror::Error;
 /// Why an element is not amended.
 #[derive(Clone, Copy, Debug, PartialEq, Eq, Error)]
 pub enum AmendError {
-    /// No tag is read with this name: it doesn't begin with a small ASCII letter, or a character stands in it that would end it or come
-    /// back as another.
+    /// No tag is read with this name. It doesn't begin with a small ASCII letter, or has a character that would end it
+    /// or come back as another.
     #[error("a name that no tag is read with")]
     TagName,
     /// No attribute is read with this name: it is empty, or a character stands in it that would end it or come back as another.

@@ -1,4 +1,5 @@
-//! Pages that are amended: a handler sees each element at its start tag, and says what changes. The rest stays as it is written, to the byte.
+//! Pages that are amended: a handler sees each element at its start tag, and says what changes. The rest stays
+//! unchanged, to the byte.
 #![tactic(auto)]
 
 mod amender;

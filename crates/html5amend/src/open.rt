@@ -18,9 +18,9 @@ pub struct Open<A: Allocator> {
     pub name: String<A>,
     // How many elements of that name are open: itself, and those in it.
     pub depth: u64,
-    // What becomes of its end tag.
+    // What happens to its end tag.
     pub ending: Part<A>,
-    // Whether what stands in it is dropped.
+    // Whether its content is dropped.
     pub drops: bool,
 }
 
@@ -81,7 +81,7 @@ pub fn count_of<A: Allocator>(
     }
 }
 
-// What becomes of an end tag that closes it.
+// What happens to an end tag that closes it.
 pub fn closed_by<'s, A: Allocator>(found: &Option<Found<'s, A>>) -> Option<&'s Part<A>>
     ensures { option_map (λ part. part_by part.now) result ≡ closed_found (option_map found_by found.now) }
 {

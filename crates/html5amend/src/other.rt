@@ -1,4 +1,4 @@
-//! A token that is no tag, as a handler amends it.
+//! A token other than a tag, as a handler amends it.
 ghost use Rattle.std.specs.Prelude.{◌≡◌, [], IfOk, OnOk};
 ghost use Rattle.html5amend.specs.Contents.{content_bytes};
 ghost use Rattle.html5amend.specs.Others.{other_in_page, put_after, put_before, put_instead};
@@ -13,7 +13,8 @@ use html5splice::Edit;
 use std::alloc::{AllocError, Allocator, Global};
 use std::marker::Model;
 
-/// A comment, a doctype, a processing instruction, or a NUL in text. A handler is shown it, and says what becomes of it.
+/// A comment, a doctype, a processing instruction, or a NUL in text. A handler is shown it, and says what happens to
+/// it.
 #[derive(Drop)]
 pub struct Other<A: Allocator = Global> {
     alloc: A,
@@ -50,14 +51,14 @@ impl<A: Allocator + Copy> Other<A> {
         &self.token
     }
 
-    /// Puts a content before it, after what was put there before.
+    /// Puts a content before it, after the earlier content there.
     pub fn before(&mut self, content: Content<'_>) -> Result<(), AllocError>
         ensures { OnOk result (self.new ≡ put_before (content_bytes content.entry) self.old) }
     {
         push_content(&mut self.part.before, content)
     }
 
-    /// Puts a content after it, before what was put there before.
+    /// Puts a content after it, before the earlier content there.
     pub fn after(&mut self, content: Content<'_>) -> Result<(), AllocError>
         ensures { OnOk result (self.new ≡ put_after (content_bytes content.entry) self.old) }
     {
@@ -81,7 +82,7 @@ impl<A: Allocator + Copy> Other<A> {
         self.part.itself = Edit::Replace(String::new(self.alloc));
     }
 
-    // What becomes of it.
+    // What happens to it.
     pub fn edit(&self, source: &str) -> Result<Edit<A>, AllocError>
         ensures { IfOk result (λ edit. edit_by edit ≡ edit_of_part self.now.part source.now) }
     {

@@ -17,8 +17,8 @@ use html5stream::StreamError;
 use markup5ever::data::NamedReferences;
 use std::alloc::Allocator;
 
-/// Reads a page as it arrives, and writes it as the handler amends it, after what was written before: the whole page, or after an error a
-/// beginning of it. What is not amended is written as it came, to the byte.
+/// Reads a page as it arrives, and writes it as the handler amends it, after the earlier output. It writes the
+/// whole page, or after an error a prefix of it. What is not amended is written as it came, to the byte.
 ///
 /// It holds what came since the last token, and the elements that wait for their end tag.
 pub fn amend_page<R: Source, M: Amender<Element<A>, Other<A>>, O: Output, A: Allocator + Copy>(

@@ -11,7 +11,7 @@ use std::alloc::{AllocError, Allocator};
 #[derive(Drop)]
 pub struct Part<A: Allocator> {
     pub before: String<A>,
-    // What becomes of the token.
+    // What happens to the token.
     pub itself: Edit<A>,
     pub after: String<A>,
 }

@@ -13,7 +13,8 @@ use std::marker::Model;
 // Room for more elements than before, where one more would find none.
 pub type Room<A> = Option<VecDeque<Open<A>, A>>;
 
-// Those that wait. What is to change is said before it is written, and changes after: so the room for one more is found before.
+// Those that wait. A change is decided before it is written, and takes place after: so the room for one more is found
+// before.
 #[derive(Drop)]
 pub struct Waiting<A: Allocator> {
     alloc: A,
@@ -54,7 +55,7 @@ impl<A: Allocator + Copy> Waiting<A> {
         }
     }
 
-    // Whether what stands here is dropped.
+    // Whether the content here is dropped.
     pub fn is_dropping(&self) -> bool
         ensures { result ≡ is_dropping self.now.elements }
     {
@@ -80,7 +81,7 @@ impl<A: Allocator + Copy> Waiting<A> {
         None
     }
 
-    // Room for one more, where there is none.
+    // Room for one more, if there is none.
     pub fn room(&self) -> Result<Room<A>, AllocError>
         ensures { IfOk result (λ room. (o : Open A) → with_open o room self.now
             ≡ record { elements = open_by o ∷ self.now.elements; places = places_for (length self.now.elements) self.now.places }) }
@@ -94,7 +95,7 @@ impl<A: Allocator + Copy> Waiting<A> {
         Ok(Some(VecDeque::with_capacity(self.alloc, places)?))
     }
 
-    // So many elements of its name are open, of one at this place.
+    // This many elements of its name are open, of one at this place.
     fn count_at(&mut self, place: usize, depth: u64)
         ensures { self.new ≡ record self.old { elements = counted_at place depth self.old.elements } }
     {
@@ -107,7 +108,7 @@ impl<A: Allocator + Copy> Waiting<A> {
         }
     }
 
-    // The same, where there is one.
+    // The same, if there is one.
     pub fn count(&mut self, count: Option<Count>)
         ensures { self.new ≡ with_count count self.old }
     {
@@ -116,7 +117,7 @@ impl<A: Allocator + Copy> Waiting<A> {
         }
     }
 
-    // One more, where there is room.
+    // One more, if there is room.
     fn push_within(&mut self, element: Open<A>)
         ensures { self.new ≡ with_open element None self.old }
     {
@@ -125,7 +126,7 @@ impl<A: Allocator + Copy> Waiting<A> {
         }
     }
 
-    // One more, and all of them go where there is room for more of them.
+    // One more, and all of them go if there is room for more of them.
     fn push_into(&mut self, element: Open<A>, mut room: VecDeque<Open<A>, A>)
         ensures { self.new ≡ with_open element (Some room) self.old }
     {

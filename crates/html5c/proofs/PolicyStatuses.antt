@@ -1,4 +1,4 @@
--- What is left where no rule is said.
+-- What is left if no rule is given.
 use Rattle.std.proofs.Common.{◌≡◌, ℕ, List, Result, Err, refl, ap, sym, ◌∙◌, arith}
 use Rattle.html5c.proofs.Statuses.{either}
 use Rattle.html5c.specs.PolicyCalls.{IsRefusal, SaidAdded, added_by, rule_said, with_said}

@@ -115,7 +115,7 @@ feed_says-answer old new bytes (EncodingIndicator text) going room feeds =
       only = inr (inr (inl refl));
     }
 
--- where nothing more is read
+-- when nothing more is read
 pub feed_says-over : (old new : RecordSessionOf) (bytes : List ℕ) → is_over old ≡ true → new ≡ old → FeedSays old new bytes 7
 feed_says-over old new bytes was same =
     let records = subst (λ (s : RecordSessionOf). WritesOn (recorded_by old) (recorded_by s)) (sym same) (writes_on-none (recorded_by old)) in

@@ -51,7 +51,7 @@ error_status Over = 7
 
 -- ---- a new session
 
--- it stands at the start of a page, by these options, and reads references by the table. It may hold so many bytes, and a page that is
+-- it stands at the start of a page, by these options, and reads references by the table. It may hold this many bytes, and a page that is
 -- decoded is decoded so
 pub record StartsBy (names : List NamedReference) (limit : ℕ) (page : Option PageDecoding) (s : RecordSessionOf) (name : List ℕ) (o : Options) : Type 0 where
   pub replies : Replies
@@ -122,7 +122,7 @@ pub record PageRestartSays (old new : RecordSessionOf) (name : List ℕ) (o : Op
 
 -- ---- what a status of each call says of a handle that has a session
 
--- so many bytes more are within the limit
+-- this many bytes more are within the limit
 abbrev pub fits_in : RecordSessionOf → ℕ → Bool
 fits_in s more = has_room s.intake (length (waiting (recorded_by s))) more
 
@@ -153,7 +153,7 @@ pub record EndSays (old new : RecordSessionOf) (status : ℕ) : Type 0 where
   pub done : status ≡ 0 → EndsSession recorded_means old new
   pub no_memory : status ≡ 3 → LosesEnd recorded_means old new
   pub waiting : (status ≡ 6) ↔ ((is_over old ≡ false) × (old.intake.text ≢ []))
-  -- a fault that was still to be said
+  -- a fault that was still to be reported
   pub not_utf8 : (status ≡ 4) ↔ ((is_over old ≡ false) × (old.intake.text ≡ []) × (old.intake.fault ≡ true))
   pub place : status ≡ 4 → (place : ℕ) × EndSaysFault old new place
   pub cut : (status ≡ 5) ↔ ((is_over old ≡ false) × (old.intake.text ≡ []) × (old.intake.fault ≡ false) × ¬ (IsComplete old.intake))
@@ -182,7 +182,7 @@ abbrev pub EndSaysBy : Bool → RecordSessionOf → RecordSessionOf → ℕ → 
 EndSaysBy false old new status = EndSays old new status
 EndSaysBy true old new status = EndDecodedSays old new status
 
--- a reply of the caller: what follows is read in the state that the number names
+-- a reply of the caller: the rest is read in the state that the number names
 pub record ReplySays (old new : RecordSessionOf) (number status : ℕ) : Type 0 where
   pub done : status ≡ 0 → (state : State) × (state_said number ≡ Some state) × SetsState recorded_means old new state
   pub refused : status ≢ 0 → new ≡ old
@@ -191,12 +191,12 @@ pub record ReplySays (old new : RecordSessionOf) (number status : ℕ) : Type 0 
   pub item_open : (status ≡ 13) ↔ ((is_over old ≡ false) × (is_some (state_said number) ≡ true) × (nothing_open_in old ≡ false))
   pub only : (status ≡ 0) ⊎ (status ≡ 7) ⊎ (status ≡ 9) ⊎ (status ≡ 13)
 
--- the answer about foreign content was set, and what follows is read by it
+-- the answer about foreign content was set, and the rest is read by it
 pub record ForeignSays (old new : RecordSessionOf) (foreign : Bool) (status : ℕ) : Type 0 where
   pub done : status ≡ 0
   pub sets : SetsForeign old new foreign
 
--- the next bytes of the records that wait were copied, as many as there was room for, and let go; nothing else changed
+-- the next bytes of the records that wait were copied, as many as there was room for, and dropped; nothing else changed
 pub record TakeSays (old new : RecordSessionOf) (room out : List ℕ) (n : ℕ) : Type 0 where
   pub count : n ≡ min (length room) (length (waiting (recorded_by old)))
   pub copied : out ≡ take n (waiting (recorded_by old)) ++ drop n room

@@ -23,7 +23,7 @@ use Rattle.markup5ever.specs.NamedReferences.{table_of}
 
 -- ---- a new page
 
--- the policy of a text: the standard one where it has no bytes
+-- the policy of a text: the standard one if it has no bytes
 abbrev pub PolicyGiven : List ℕ → PolicyOf → Type 0
 PolicyGiven [] policy = policy ≡ standard_policy
 PolicyGiven (b ∷ bytes) policy = policy_said (b ∷ bytes) ≡ Ok policy
@@ -103,12 +103,12 @@ pub record CleanerEndSays (old new : CleaningOf) (status : ℕ) : Type 0 where
   pub unchanged : (status ≡ 5) ⊎ (status ≡ 7) → new ≡ old
   pub only : (status ≡ 0) ⊎ (status ≡ 3) ⊎ (status ≡ 5) ⊎ (status ≡ 7)
 
--- the next bytes of what was kept were copied, as many as wait and as there was room for, and let go; nothing else changed
+-- the next bytes of what was kept were copied, as many as wait and as there was room for, and dropped; nothing else changed
 pub record CleanerTakeSays (old new : CleaningOf) (room out : List ℕ) (n : ℕ) : Type 0 where
   pub count : n ≡ min (length room) (length (waiting_in old))
   pub copied : out ≡ take n (waiting_in old) ++ drop n room
   pub taken : new ≡ after_session_takes old n
-  -- and what was fed is what was fed before
+  -- and the fed bytes are those fed before
   pub fed : StaysFed old new
 
 -- ---- the same, of a handle that has a page or none

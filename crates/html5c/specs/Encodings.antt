@@ -1,4 +1,4 @@
--- The encoding of a page, as C says it and is told it, of a handle of either kind.
+-- The encoding of a page, as C sets it and reads it, of a handle of either kind.
 use Rattle.std.specs.Prelude.{◌≡◌, ◌≢◌, ◌↔◌, ◌⊎◌, ℕ, true, false, List, [], ◌∷◌, Option, None, Some, option_map}
 use Rattle.html5c.specs.Names.{CopiesName}
 use Rattle.html5c.specs.Slots.{WhereOpen}
@@ -11,12 +11,12 @@ use Rattle.html5session.specs.Intake.{IsUnbegun, encoding_known}
 use Rattle.html5session.specs.Session.{SessionOf, is_over}
 use Rattle.html5sniffing.specs.PageDecoding.{page_start}
 
--- what a label says of a page, if it says something: nothing, where it has no bytes, or its encoding
+-- what a label says of a page, if it says something: nothing, if it has no bytes, or its encoding
 abbrev pub said_by : List ℕ → Option (Option Encoding)
 said_by [] = Some None
 said_by (b ∷ bytes) = option_map (λ encoding. Some encoding) (encoding_of (b ∷ bytes))
 
--- a session that takes the bytes of a page by the encoding that it is in, where this one is said of it
+-- a session that takes the bytes of a page by the encoding that it is in, where this one is declared for it
 abbrev pub decoding : {X : Type 0} → SessionOf X → Option Encoding → SessionOf X
 decoding s said = record s { intake = record s.intake { page = Some (page_start said None) } }
 
@@ -48,6 +48,6 @@ abbrev pub name_in : Option Encoding → List ℕ
 name_in None = []
 name_in (Some encoding) = name_of encoding
 
--- its name is told
+-- its name is copied
 abbrev pub NamesEncoding : Option Encoding → List ℕ → List ℕ → ℕ → Type 0
 NamesEncoding encoding room out n = CopiesName (name_in encoding) room out n

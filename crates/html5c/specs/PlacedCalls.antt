@@ -13,7 +13,7 @@ use Rattle.html5session.specs.declared.error.SessionError.TheVariants.{Memory}
 use Rattle.html5table.specs.Listed.{entries_in}
 use Rattle.markup5ever.specs.NamedReferences.{NamedReference, table_of}
 
--- it stands at the start of a page, by these options, reads references by this table, and may hold so many bytes
+-- it stands at the start of a page, by these options, reads references by this table, and may hold this many bytes
 pub record StartsPlacedBy (references : List NamedReference) (most : ℕ) (s : PlacedSessionOf) (name : List ℕ) (o : Options) : Type 0 where
   pub stands : StandsIn s (start_of (options_said o name)) []
   pub rules : (reading_in s).rules ≡ rules_of (options_said o name) references
@@ -72,7 +72,7 @@ pub record PlacedEndSays (old new : PlacedSessionOf) (status : ℕ) : Type 0 whe
   pub records : WritesOn old.records new.records
   pub only : (status ≡ 0) ⊎ (status ≡ 3) ⊎ (status ≡ 5) ⊎ (status ≡ 7)
 
--- the next bytes of the records that wait were copied, as many as there was room for, and let go; nothing else changed
+-- the next bytes of the records that wait were copied, as many as there was room for, and dropped; nothing else changed
 pub record PlacedTakeSays (old new : PlacedSessionOf) (room out : List ℕ) (n : ℕ) : Type 0 where
   pub count : n ≡ min (length room) (length (waiting old.records))
   pub copied : out ≡ take n (waiting old.records) ++ drop n room
@@ -92,6 +92,6 @@ PlacedEnds old new status = WhereOpen (λ s t. PlacedEndSays s t status) (Unit {
 abbrev pub PlacedTakes : Option PlacedSessionOf → Option PlacedSessionOf → List ℕ → List ℕ → ℕ → Type 0
 PlacedTakes old new room out n = WhereOpen (λ s t. PlacedTakeSays s t room out n) (Unit {0}) old new
 
--- a page that may hold so many bytes
+-- a page that may hold this many bytes
 abbrev pub placed_limited : ℕ → PlacedSessionOf → PlacedSessionOf
 placed_limited limit s = record s { limit = limit }

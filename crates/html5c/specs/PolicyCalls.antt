@@ -67,7 +67,7 @@ rule_said rule name attribute =
     else if rule == 8 then depth_said name attribute
     else Err 9
 
--- the statuses by which no rule is said: no rule has the number, there is a name too many, or there is no number
+-- the statuses for what says no rule: no rule has the number, there is a name too many, or there is no number
 abbrev pub IsRefusal : ℕ → Type 0
 IsRefusal status = (status ≡ 9) ⊎ (status ≡ 18) ⊎ (status ≡ 28)
 
@@ -91,7 +91,7 @@ pub record SaidAdded (old new : PolicyOf) (rule : ℕ) (name attribute : List �
   pub done : status ≡ 0 → with_said old rule name attribute ≡ Ok new
   pub unchanged : status ≢ 0 → new ≡ old
   pub cause : status ≢ 0 → status ≢ 3 → with_said old rule name attribute ≡ Err status
-  -- what is wrong with it is said, whatever memory there is
+  -- its fault is reported, whatever memory there is
   pub refused : (wrong : ℕ) → with_said old rule name attribute ≡ Err wrong → status ≡ wrong
   pub text : status ≢ 4
 

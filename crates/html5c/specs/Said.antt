@@ -44,7 +44,7 @@ are_recorded o = are_named o && not o.places
 abbrev pub are_placed : Options → Bool
 are_placed o = are_named o && o.places
 
--- the name of the last start tag: none where it has no bytes
+-- the name of the last start tag: none if it has no bytes
 abbrev pub name_said : List ℕ → Option (List ℕ)
 name_said [] = None
 name_said (b ∷ bytes) = Some (b ∷ bytes)

@@ -45,7 +45,7 @@ abbrev pub policy_of : Option PageSlot → Option PolicyOf
 policy_of None = None
 policy_of (Some slot) = policy_in slot
 
--- what a call says where there is one before it and after it, and what it says where there is none
+-- what a call says if there is one before it and after it, and what it says if there is none
 abbrev pub WhereOpen : {S : Type 0} → (S → S → Type 0) → Type 0 → Option S → Option S → Type 0
 WhereOpen says closed (Some old) (Some new) = says old new
 WhereOpen says closed None None = closed
@@ -62,10 +62,10 @@ place_in (Some place) = place
 abbrev pub is_past : Bool → Bool → Bool
 is_past over fits = not over && not fits
 
--- a session that may hold so many bytes
+-- a session that may hold this many bytes
 abbrev pub limited : {X : Type 0} → ℕ → SessionOf X → SessionOf X
 limited limit s = record s { intake = record s.intake { limit = limit } }
 
--- what a call answers that can be made on each: that the handle is closed, where there is none
+-- what a call answers that can be made on each: that the handle is closed, if there is none
 abbrev pub status_where_open : {S C P : Type 0} → Option S → Option C → Option P → ℕ
 status_where_open session cleaner placed = if is_some session || (is_some cleaner || is_some placed) then 0 else 8

@@ -32,10 +32,10 @@ pub extern "C" fn html5_new(
     }
 }
 
-/// Begins another page in a handle that is open, by these options and after a start tag of a name, as `html5_new` does, and by
-/// the table of named references, the limit and the encoding that the handle has. So the table is not made anew. What was
-/// recorded and not taken is gone. Where it is refused nothing changes. A page with places goes on with places: options that ask
-/// for the other kind are refused.
+/// Begins another page in an open handle, by these options and after a start tag of a name, as `html5_new` does. It
+/// keeps the handle's table of named references, limit and encoding, so the table is not made anew. Records that were
+/// not taken are gone. A refusal changes nothing. A page with places goes on with places: options that ask for the
+/// other kind are refused.
 #[unsafe(no_mangle)]
 pub extern "C" fn html5_restart(
     alloc: Global,
@@ -59,8 +59,9 @@ pub extern "C" fn html5_restart(
 }
 
 /// Takes a piece of the page, cut anywhere, and reads on, up to a pause. What is left of it is kept:
-/// the next feed goes on with it, also one of no bytes. Where bytes of it are no UTF-8, those before them are taken and
-/// read, and then the answer is `NOT_UTF8`. A pause comes before that: then no feed takes anything until it was answered.
+/// the next feed goes on with it, also one of no bytes. Where bytes of it are not UTF-8, those before them are taken
+/// and read, and then the answer is `NOT_UTF8`. A pause comes before that: then no feed takes anything until it was
+/// answered.
 #[unsafe(no_mangle)]
 pub extern "C" fn html5_feed(alloc: Global, h: &mut Handle, bytes: &[u8]) -> u32
     ensures feeds { placed_of h.old.owned.value ≡ None
@@ -77,7 +78,7 @@ pub extern "C" fn html5_feed(alloc: Global, h: &mut Handle, bytes: &[u8]) -> u32
     status
 }
 
-/// Puts a text in front of what waits. It is read at the next feed. Where nothing more is read it answers `OVER`,
+/// Puts a text in front of the waiting text. It is read at the next feed. When nothing more is read, it answers `OVER`,
 /// whatever the bytes.
 #[unsafe(no_mangle)]
 pub extern "C" fn html5_insert(alloc: Global, h: &mut Handle, text: &[u8]) -> u32
@@ -94,9 +95,9 @@ pub extern "C" fn html5_insert(alloc: Global, h: &mut Handle, text: &[u8]) -> u3
     status
 }
 
-/// Reads what follows in the state that the number names, as a tree builder asks after a start tag at which it paused: 0 data,
-/// 1 plain text, 2 RCDATA, 3 RAWTEXT, 4 script data, 5 a CDATA section. Where nothing more is read it answers `OVER`,
-/// whatever the number, and within a tag or another item `ITEM_OPEN`.
+/// Reads the rest in the state that the number names, as a tree builder asks after a start tag at which it paused: 0
+/// data, 1 plain text, 2 RCDATA, 3 RAWTEXT, 4 script data, 5 a CDATA section. When nothing more is read, it answers
+/// `OVER`, whatever the number, and within a tag or another item `ITEM_OPEN`.
 #[unsafe(no_mangle)]
 pub extern "C" fn html5_reply(alloc: Global, h: &mut Handle, state: u32) -> u32
     ensures replies { RepliesTo (session_of h.old.owned.value) (session_of h.new.owned.value) state result }
@@ -112,7 +113,7 @@ pub extern "C" fn html5_reply(alloc: Global, h: &mut Handle, state: u32) -> u32
     status
 }
 
-/// Sets whether the current node is outside the HTML namespace, so that `<![CDATA[` begins a section in what follows.
+/// Sets whether the current node is outside the HTML namespace, so that `<![CDATA[` begins a section from here on.
 #[unsafe(no_mangle)]
 pub extern "C" fn html5_set_foreign(alloc: Global, h: &mut Handle, foreign: bool) -> u32
     ensures sets { TellsForeign (session_of h.old.owned.value) (session_of h.new.owned.value) foreign result }
@@ -128,8 +129,8 @@ pub extern "C" fn html5_set_foreign(alloc: Global, h: &mut Handle, foreign: bool
     status
 }
 
-/// Sets how many bytes a handle of either kind may hold: what was fed since all was read and nothing was open, and what
-/// waits to be taken. A piece that would go past that is answered `LIMIT`, and not taken.
+/// Sets how many bytes a handle of either kind may hold. The bytes fed since all was read and nothing was open count,
+/// and those that wait to be taken. A piece that would go past that is answered `LIMIT`, and not taken.
 #[unsafe(no_mangle)]
 pub extern "C" fn html5_set_limit(alloc: Global, h: &mut Handle, limit: u64) -> u32
     ensures session { session_of h.new.owned.value ≡ option_map (limited limit) (session_of h.old.owned.value) }
@@ -147,11 +148,11 @@ pub extern "C" fn html5_set_limit(alloc: Global, h: &mut Handle, limit: u64) -> 
     status
 }
 
-/// Reads the page in the encoding that it is in, from the first byte on, where the encoding that a label names is said of it,
-/// as by a header of the transport; a label of no bytes says nothing. It is determined as by a browser: by a byte order mark;
-/// else by what is said; else by a `<meta charset=..>` in the first bytes; else UTF-8 where these are UTF-8, or
-/// windows-1252. Then no bytes are `NOT_UTF8`: those that are none of the encoding give U+FFFD. After bytes were fed it
-/// answers `BEGUN`, and where no encoding has the label `BAD_OPTION`.
+/// Reads the page in the encoding that it is in, from the first byte on. The label names the encoding that is declared
+/// for it, as by a header of the transport; a label of no bytes declares none. It is determined as by a browser: by a
+/// byte order mark; else by the declared one; else by a `<meta charset=..>` or an XML declaration in the first bytes.
+/// Else it is UTF-8 where these are UTF-8, or windows-1252. Then no bytes are `NOT_UTF8`: those that are invalid in the
+/// encoding give U+FFFD. After bytes were fed it answers `BEGUN`, and `BAD_OPTION` if no encoding has the label.
 #[unsafe(no_mangle)]
 pub extern "C" fn html5_set_encoding(alloc: Global, h: &mut Handle, label: &[u8]) -> u32
     ensures session { SetsEncoding (session_of h.old.owned.value) (session_of h.new.owned.value) label.now result }
@@ -168,9 +169,9 @@ pub extern "C" fn html5_set_encoding(alloc: Global, h: &mut Handle, label: &[u8]
     status
 }
 
-/// The name of the encoding in which a page is read by `html5_set_encoding`, once it is known: the first bytes of the page tell,
-/// or its end. It copies as much of the name as there is room for, and answers how many bytes that is: 0 where it isn't
-/// known.
+/// The name of the encoding in which a page is read by `html5_set_encoding`, once it is known: the first bytes of the
+/// page tell, or its end. It copies as much of the name as there is room for, and answers how many bytes that is: 0 if
+/// it isn't known.
 #[unsafe(no_mangle)]
 pub extern "C" fn html5_encoding(alloc: Global, h: &mut Handle, out: &mut [u8]) -> usize
     ensures name { NamesEncoding (encoding_in h.old.owned.value) out.old out.new result }
@@ -202,8 +203,8 @@ pub extern "C" fn html5_end(alloc: Global, h: &mut Handle) -> u32
     status
 }
 
-/// Takes the next bytes of the records, as many as wait and as there is room for, and says how many: 0
-/// where none wait. A record may be cut in two: what is left of it comes first at the next call.
+/// Takes the next bytes of the records, as many as wait and as there is room for, and says how many: 0 if none wait. A
+/// record may be cut in two: what is left of it comes first at the next call.
 #[unsafe(no_mangle)]
 pub extern "C" fn html5_take(alloc: Global, h: &mut Handle, out: &mut [u8]) -> usize
     ensures takes { placed_of h.old.owned.value ≡ None
@@ -220,7 +221,7 @@ pub extern "C" fn html5_take(alloc: Global, h: &mut Handle, out: &mut [u8]) -> u
     count
 }
 
-/// The place of the first byte that is no UTF-8, after `NOT_UTF8` was answered, counted from the first byte that was
+/// The place of the first byte that is not UTF-8, after `NOT_UTF8` was answered, counted from the first byte that was
 /// fed. All bytes before it were taken, and none from it on.
 #[unsafe(no_mangle)]
 pub extern "C" fn html5_error_at(alloc: Global, h: &mut Handle) -> u64

@@ -9,9 +9,9 @@ use crate::handle::Handle;
 use crate::status;
 use std::alloc::Global;
 
-/// Opens a handle at the start of a page, which is cleaned by the policy of a text or, where it has no bytes, by the
-/// standard one. What the handle held before is freed. `place` is then where the policy has a fault: its line, or the byte
-/// that is no UTF-8.
+/// Opens a handle at the start of a page, which is cleaned by the policy of a text or, if it has no bytes, by the
+/// standard one. What the handle held before is freed. `place` is then where the policy has a fault: its line, or the
+/// byte that is not UTF-8.
 #[unsafe(no_mangle)]
 pub extern "C" fn html5_cleaner_new(
     alloc: Global,
@@ -35,7 +35,7 @@ pub extern "C" fn html5_cleaner_new(
     }
 }
 
-/// Begins another page, by the same policy. What was kept and not taken is gone.
+/// Begins another page, by the same policy. Kept bytes that were not taken are gone.
 #[unsafe(no_mangle)]
 pub extern "C" fn html5_cleaner_restart(alloc: Global, h: &mut Handle) -> u32
     ensures restarts { Restarts (cleaner_of h.old.owned.value) (cleaner_of h.new.owned.value) result }
@@ -67,7 +67,7 @@ pub extern "C" fn html5_cleaner_feed(alloc: Global, h: &mut Handle, bytes: &[u8]
     status
 }
 
-/// Ends the page. The rest of what is kept of it can then be taken.
+/// Ends the page. The rest of its kept part can then be taken.
 #[unsafe(no_mangle)]
 pub extern "C" fn html5_cleaner_end(alloc: Global, h: &mut Handle) -> u32
     ensures ends { CleanerEnds (cleaner_of h.old.owned.value) (cleaner_of h.new.owned.value) result }
@@ -83,8 +83,8 @@ pub extern "C" fn html5_cleaner_end(alloc: Global, h: &mut Handle) -> u32
     status
 }
 
-/// Takes the next bytes of what was kept, as many as wait and as there is room for, and says how many: 0 where none wait. A
-/// character may be cut in two: what is left of it comes first at the next call.
+/// Takes the next bytes of the kept part, as many as wait and as there is room for, and says how many: 0 if none wait.
+/// A character may be cut in two: what is left of it comes first at the next call.
 #[unsafe(no_mangle)]
 pub extern "C" fn html5_cleaner_take(alloc: Global, h: &mut Handle, out: &mut [u8]) -> usize
     ensures takes { CleanerTakes (cleaner_of h.old.owned.value) (cleaner_of h.new.owned.value) out.old out.new result }
@@ -100,7 +100,8 @@ pub extern "C" fn html5_cleaner_take(alloc: Global, h: &mut Handle, out: &mut [u
     count
 }
 
-/// The place of the first byte that is no UTF-8, after a feed answered `NOT_UTF8`, counted from the first byte of the page.
+/// The place of the first byte that is not UTF-8, after a feed answered `NOT_UTF8`, counted from the first byte of the
+/// page.
 #[unsafe(no_mangle)]
 pub extern "C" fn html5_cleaner_error_at(alloc: Global, h: &mut Handle) -> u64
     ensures place { result ≡ cleaner_error_place (cleaner_of h.old.owned.value) }
@@ -115,7 +116,8 @@ pub extern "C" fn html5_cleaner_error_at(alloc: Global, h: &mut Handle) -> u64
 }
 
 /// Whether nothing more is read: the page has ended, or a call failed for good. Then `html5_cleaner_feed` and
-/// `html5_cleaner_end` answer `OVER`, and what was kept can still be taken. It is false where the handle is of no page.
+/// `html5_cleaner_end` answer `OVER`, and the kept bytes can still be taken. It is false where the handle is of no
+/// page.
 #[unsafe(no_mangle)]
 pub extern "C" fn html5_cleaner_is_over(alloc: Global, h: &mut Handle) -> bool
     ensures over { result ≡ cleaner_over_in (cleaner_of h.old.owned.value) }

@@ -25,7 +25,7 @@ pub enum PolicyFault {
 }
 
 impl PolicyFault {
-    /// What C is told.
+    /// The status that C receives.
     pub fn status(self) -> u32
         ensures { result ≡ fault_status self }
     {
@@ -48,7 +48,7 @@ impl PolicyFault {
     }
 }
 
-// The policy of a text, or the standard one where it has no bytes.
+// The policy of a text, or the standard one if it has no bytes.
 fn policy_of(alloc: Global, rules: &[u8]) -> Result<Policy<Global>, PolicyFault>
     ensures given { IfOk result (λ policy. PolicyGiven rules.now policy) }
     ensures utf8 { OnOk result (IsUtf8 rules.now) }

@@ -11,7 +11,7 @@ use html5cleaning::CleaningSession;
 use std::alloc::Global;
 use std::mem;
 
-// Whether more is read, and so many bytes more would go past the limit.
+// Whether more is read, and this many bytes more would go past the limit.
 fn goes_past_limit(session: &CleaningSession<Global>, more: usize) -> bool
     ensures { result ≡ is_past (is_over session.now) (fits_in session.now more) }
 {
@@ -87,7 +87,7 @@ impl PageSlot {
         }
     }
 
-    /// Takes the next bytes of what was kept.
+    /// Takes the next bytes of the kept part.
     pub fn take_cleaned(&mut self, out: &mut [u8]) -> usize
         ensures takes { CleanerTakes (cleaner_in self.old) (cleaner_in self.new) out.old out.new result }
         ensures other { session_in self.new ≡ session_in self.old }

@@ -1,4 +1,4 @@
-//! The encoding of a page, as C says it and is told it.
+//! The encoding of a page, as C sets it and reads it.
 ghost use Rattle.std.specs.Prelude.{◌≡◌, None};
 ghost use Rattle.html5c.specs.Encodings.{EncodingSays, NamesEncoding, SetsEncoding, encoding_in_slot, said_by};
 ghost use Rattle.html5c.specs.Slots.{cleaner_in, placed_in, policy_in, session_in};
@@ -12,7 +12,7 @@ use html5session::RecordSession;
 use html5sniffing::{PageDecoder, encoding_of};
 use std::alloc::Global;
 
-// What a label says of a page, if it says something: nothing, where it has no bytes, or its encoding.
+// What a label says of a page, if it says something: nothing, if it has no bytes, or its encoding.
 fn said_by(label: &[u8]) -> Option<Option<Encoding>>
     ensures { result ≡ said_by label.now }
 {

@@ -83,7 +83,7 @@ impl Handle {
         }
     }
 
-    /// Holds a slot. One that it held before would be lost, so there is none.
+    /// Holds a slot. It must hold none before: that one would be lost.
     pub fn put(&mut self, held: Box<PageSlot, Global>)
         requires { self.old.owned.value ≡ None }
         ensures { self.new.owned.value ≡ Some held.value }

@@ -15,8 +15,9 @@ pub fn copy_name(name: &[u8], out: &mut [u8]) -> usize
     count
 }
 
-/// The code that the standard has for a parse error with this message, where errors are not exact. It copies as much of the
-/// code as there is room for, and answers how many bytes that is: 0 where it has none. There is always room in 64 bytes.
+/// The code that the standard has for a parse error with this message, where errors are not exact. It copies as much of
+/// the code as there is room for, and answers how many bytes that is: 0 if it has none. There is always room in 64
+/// bytes.
 #[unsafe(no_mangle)]
 pub extern "C" fn html5_error_code(message: &[u8], out: &mut [u8]) -> usize
     ensures code { IsUtf8 message.now → CopiesName (code_told message.now) out.old out.new result }

@@ -32,7 +32,7 @@ pub enum OpenError {
 }
 
 impl OpenError {
-    /// What C is told.
+    /// The status that C receives.
     pub fn status(self) -> u32
         ensures { result ≡ open_status self }
     {
@@ -137,7 +137,7 @@ fn session_after(
     next
 }
 
-/// Begins another page, by these options. Where it is refused, the page before it stays as it was.
+/// Begins another page, by these options. If it is refused, the page before it stays as it was.
 pub fn restart_session(
     alloc: Global,
     session: RecordSession<Global>,
@@ -200,7 +200,7 @@ fn placed_at_start(
     Ok(PlacedSession::new(alloc, references, opts))
 }
 
-/// Begins another page that is read with places. Where it is refused, the page before it stays as it was.
+/// Begins another page that is read with places. If it is refused, the page before it stays as it was.
 pub fn restart_placed(
     alloc: Global,
     session: PlacedSession<Global>,

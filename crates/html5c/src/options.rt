@@ -16,12 +16,12 @@ pub struct Options {
     /// The state to start in: 0 data, 1 plain text, 2 RCDATA, 3 RAWTEXT, 4 script data, 5 a CDATA
     /// section.
     pub state: u32,
-    /// What is replied to tags: 0 what the standard asks for, 1 nothing, 2 what the standard asks for,
-    /// with pauses, 3 what the caller asks for by `html5_reply`, with a pause after each tag.
+    /// The replies to tags. 0: what the standard asks for. 1: nothing. 2: what the standard asks for, with pauses. 3:
+    /// what the caller asks for by `html5_reply`, with a pause after each tag.
     pub replies: u32,
     /// Report every bad character, and name no state in error messages.
     pub exact_errors: bool,
-    /// Keep U+FEFF where it is the first character.
+    /// Keep U+FEFF if it is the first character.
     pub keep_bom: bool,
     /// Whether the current node is outside the HTML namespace, so that `<![CDATA[` begins a section.
     pub foreign: bool,

@@ -25,9 +25,9 @@ pub extern "C" fn html5_policy_new(alloc: Global, h: &mut Handle) -> u32
     }
 }
 
-/// Adds a rule to a policy: 0 an element that is kept, 1 an attribute that is kept in an element, 2 an attribute that is kept in
-/// each element, 3 a scheme of addresses, 4 an element that is dropped with what stands in it, 5 a word of `rel`, 6 `balance`,
-/// 7 `tree`, 8 `depth`, by decimal digits. Each name is one name, whatever stands in it.
+/// Adds a rule to a policy. 0: an element that is kept. 1: an attribute that is kept in an element. 2: an attribute
+/// that is kept in each element. 3: a scheme of addresses. 4: an element that is dropped with its content. 5: a word
+/// of `rel`. 6: `balance`. 7: `tree`. 8: `depth`, by decimal digits. Each name is one name, whatever its characters.
 #[unsafe(no_mangle)]
 pub extern "C" fn html5_policy_add(
     alloc: Global,

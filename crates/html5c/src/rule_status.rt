@@ -1,4 +1,4 @@
-//! Why a rule of a policy is refused, as C is told it.
+//! Why a rule of a policy is refused, as a status for C.
 ghost use Rattle.std.specs.Prelude.{◌≡◌};
 ghost use Rattle.html5c.specs.PolicyCalls.{rule_status};
 

@@ -60,14 +60,14 @@ pub(crate) fn status_of_error(error: SessionError) -> u32
     }
 }
 
-// Whether more is read, and so many bytes more would go past the limit.
+// Whether more is read, and this many bytes more would go past the limit.
 fn goes_past_limit(session: &RecordSession<Global>, more: usize) -> bool
     ensures { result ≡ is_past (is_over session.now) (fits_in session.now more) }
 {
     !session.is_over() && !fits_in(session, more)
 }
 
-// Whether so many bytes more are within the limit of a session.
+// Whether this many bytes more are within the limit of a session.
 fn fits_in(session: &RecordSession<Global>, more: usize) -> bool
     ensures { result ≡ fits_in session.now more }
 {
@@ -162,7 +162,7 @@ impl PageSlot {
         status
     }
 
-    /// Puts a text in front of what waits.
+    /// Puts a text in front of the waiting text.
     pub fn insert(&mut self, text: &[u8]) -> u32
         ensures inserts { Inserts (session_in self.old) (session_in self.new) text.now result }
         ensures other { cleaner_in self.new ≡ cleaner_in self.old }
@@ -187,7 +187,7 @@ impl PageSlot {
         }
     }
 
-    /// Reads what follows in the state that the number names.
+    /// Reads the rest in the state that the number names.
     pub fn reply(&mut self, state: u32) -> u32
         ensures replies { RepliesTo (session_in self.old) (session_in self.new) state result }
         ensures other { cleaner_in self.new ≡ cleaner_in self.old }

@@ -3,16 +3,16 @@
 /// It was done: of a feed, all that was handed in was read.
 pub const DONE: u32 = 0;
 
-/// The tokenizer pauses after `</script>`: what follows waits.
+/// The tokenizer pauses after `</script>`: the rest waits.
 pub const SCRIPT: u32 = 1;
 
-/// The tokenizer pauses after `<meta charset=..>`: what follows waits.
+/// The tokenizer pauses after `<meta charset=..>`: the rest waits.
 pub const ENCODING: u32 = 2;
 
 /// A growth was refused.
 pub const NO_MEMORY: u32 = 3;
 
-/// The bytes are no UTF-8.
+/// The bytes are not UTF-8.
 pub const NOT_UTF8: u32 = 4;
 
 /// The page ends within a character.
@@ -30,10 +30,10 @@ pub const CLOSED: u32 = 8;
 /// A number in the options names nothing.
 pub const BAD_OPTION: u32 = 9;
 
-/// The bytes of the policy are no UTF-8.
+/// The bytes of the policy are not UTF-8.
 pub const POLICY_NOT_UTF8: u32 = 11;
 
-/// The tokenizer pauses after a tag to which the caller replies: what follows waits.
+/// The tokenizer pauses after a tag to which the caller replies: the rest waits.
 pub const TAG: u32 = 12;
 
 /// A tag or another item is open, so no state can be set.
@@ -60,7 +60,7 @@ pub const ELEMENT_NAME: u32 = 19;
 /// No attribute is read with this name.
 pub const ATTRIBUTE_NAME: u32 = 20;
 
-/// What stands in such an element is always dropped.
+/// The content of such an element is always dropped.
 pub const HIDES_CONTENT: u32 = 21;
 
 /// Such an element acts on the page around it.
@@ -75,7 +75,7 @@ pub const NEVER_KEPT: u32 = 24;
 /// It is no scheme in small letters.
 pub const SCHEME_NAME: u32 = 25;
 
-/// An address of such a scheme runs what stands in it.
+/// An address of such a scheme runs its content.
 pub const RUNS_ADDRESS: u32 = 26;
 
 /// The policy makes a tree, and the element has no place in it.

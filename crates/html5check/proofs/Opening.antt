@@ -8,13 +8,13 @@ use Rattle.html5check.specs.Elements.{ends_before, has_optional_end}
 use Rattle.html5check.specs.Opened.{Open, and_this, depth, ended_before, open_by, opened_by, reached}
 use Rattle.html5check.specs.declared.open_elements.OpenElement.{OpenElement}
 
--- how many are ended, where so many were passed, of which this many are, and of what is left `more` are
+-- how many are ended, where that many were passed, of which this many are, and of what is left `more` are
 abbrev pub counted : ℕ → ℕ → ℕ → ℕ
 counted passed count more = if more == 0 then count else passed + more
 
 -- ---- a list from its end
 
--- without so many at the end
+-- without this many at the end
 pub dropped-reversed : {X : Type 0} (xs : List X) (k count : ℕ) → length (drop k xs) ≡ count → drop count (reverse xs) ≡ reverse (take k xs)
 dropped-reversed xs k count long =
     ap (λ ys. drop count (reverse ys)) (sym (take-append-drop k xs))

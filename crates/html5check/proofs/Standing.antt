@@ -71,7 +71,7 @@ module _ (tokens : List Seen) where
       (before : List Seen) × (seen : Seen) × (after : List Seen) × (tag : TagOf) × (tokens ≡ before ++ seen ∷ after)
       × (e.begin ≡ seen.begin) × (e.end ≡ seen.end) × (seen.token ≡ Tag tag) × (tag.kind ≡ StartTag) × (e.name ≡ tag.name)
 
-  -- what was found, what is open, and the ids that elements have
+  -- the findings, the open elements, and the ids that elements have
   abbrev Holds : List Seen → Checking → Type 0
   Holds known s = All AtFinding s.found × All AtOpen s.opened × All (IsKnown known) s.ids
 

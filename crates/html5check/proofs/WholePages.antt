@@ -22,13 +22,13 @@ pub grown-text : (before piece after held more bytes : List ℕ) → after ≡ b
 grown-text before piece after held more bytes grown decoded =
     ap (λ l. l ++ more) grown ∙ append_assoc before piece more ∙ ap (λ l. before ++ l) (sym decoded) ∙ sym (append_assoc before held bytes)
 
--- so many bytes more were read, after those before
+-- this many bytes more were read, after those before
 pub reads-more : (unread between left : Option (List ℕ)) (before after : List ℕ) (count : ℕ) → Consumes unread between before
     → Grows between left before after count → Consumes unread left after
 reads-more unread between left before after count consumed grows =
     subst (Consumes unread left) (sym grows.grown) (Consumes-append unread between left before grows.bytes consumed grows.consumed)
 
--- where nothing is held, the text is all
+-- when nothing is held, the text is all
 pub all-consumed : (text held : List ℕ) → held ≡ [] → text ++ held ≡ text
 all-consumed text held none = ap (λ l. text ++ l) none ∙ append-nil text
 

@@ -15,7 +15,7 @@ use Rattle.html5ever_interface.specs.Token.Told.{End, Error, Tag}
 use Rattle.html5ever_interface.specs.declared.interface.token.TagKind.{TagKind}
 use Rattle.html5ever_interface.specs.declared.interface.token.TagKind.TheVariants.{EndTag, StartTag}
 
--- what is open, the ids that elements have, and what was found
+-- the open elements, the ids that elements have, and the findings
 pub record Checking : Type 0 where
   pub opened : List Open
   pub ids : List (List ℕ)
@@ -32,7 +32,7 @@ unclosed inner =
     if has_optional_end inner.name then []
     else record { begin = inner.begin; end = inner.end; fault = UnclosedElement; subject = inner.name; meant = None } ∷ []
 
--- so many of the innermost are left open
+-- this many of the innermost are left open
 abbrev pub left_open : ℕ → Checking → Checking
 left_open count s = record s { opened = drop count s.opened; found = s.found ++ flat_map unclosed (take count s.opened) }
 
@@ -77,7 +77,7 @@ at_start_tag s seen tag = opened_at (at_id s seen tag) seen tag
 abbrev pub stray_fault : List ℕ → Fault
 stray_fault name = if is_void name then EndTagOfVoidElement else EndTagWithoutStart
 
--- an end tag that ends so many of the innermost: of those within its element some are left open
+-- an end tag that ends this many of the innermost: of those within its element some are left open
 abbrev pub closed_at : Checking → Seen → List ℕ → ℕ → Checking
 closed_at s seen name count =
     if count == 0 then record s { found = s.found ++ plain_finding seen (stray_fault name) name ∷ [] }
@@ -92,7 +92,7 @@ abbrev pub at_tag : TagKind → Checking → Seen → TagOf → Checking
 at_tag StartTag s seen tag = at_start_tag s seen tag
 at_tag EndTag s seen tag = at_end_tag s seen tag.name
 
--- a parse error is found as it is; the end leaves open what is open
+-- a parse error is found as it is; the end leaves the open elements open
 abbrev pub checked_told : Told → Checking → Seen → Checking
 checked_told (Error message) s seen = record s { found = s.found ++ error_finding seen message ∷ [] }
 checked_told (Tag tag) s seen = at_tag tag.kind s seen tag

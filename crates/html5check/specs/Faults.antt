@@ -42,7 +42,7 @@ finding_by f = record { begin = f.begin; end = f.end; fault = f.fault; subject =
 abbrev pub plain_finding : Seen → Fault → List ℕ → Finding
 plain_finding seen fault subject = record { begin = seen.begin; end = seen.end; fault = fault; subject = subject; meant = None }
 
--- a parse error: its code, or where it has none its message
+-- a parse error: its code, or if it has none its message
 abbrev pub coded_finding : Seen → List ℕ → Option ErrorCode → Finding
 coded_finding seen message None = plain_finding seen Uncoded message
 coded_finding seen message (Some code) = plain_finding seen (Parse code) []

@@ -13,7 +13,7 @@ unfoldable pub shown_bytes : List ℕ → List ℕ
 shown_bytes [] = []
 shown_bytes (byte ∷ bytes) = shown_byte byte ∷ shown_bytes bytes
 
--- a colon and the subject, where there is one
+-- a colon and the subject, if there is one
 abbrev pub subject_shown : List ℕ → List ℕ
 subject_shown [] = []
 subject_shown (byte ∷ bytes) = codes ": " ++ shown_bytes (byte ∷ bytes)

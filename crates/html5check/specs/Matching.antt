@@ -17,7 +17,8 @@ use Rattle.html5ever_interface.specs.declared.interface.token.TagKind.TheVariant
 abbrev pub may_stay_open : List Open → Bool
 may_stay_open opened = list_all (λ element. has_optional_end element.name) opened
 
--- An end tag ends an open element, and what is open within that may stay open. `html`, `head` and `body` are not looked for.
+-- An end tag ends an open element, and the elements open within that may stay open. `html`, `head` and `body` are not looked
+-- for.
 abbrev pub ends_one : Checking → List ℕ → Bool
 ends_one s name = is_document_part name || (not (closed_by s.opened name == 0) && may_stay_open (take (closed_by s.opened name - 1) s.opened))
 
@@ -25,7 +26,7 @@ abbrev pub tag_matches : TagKind → Checking → TagOf → Bool
 tag_matches StartTag s tag = true
 tag_matches EndTag s tag = ends_one s tag.name
 
--- at the end what is open may stay open
+-- at the end the open elements may stay open
 abbrev pub matches : Told → Checking → Bool
 matches (Tag tag) s = tag_matches tag.kind s tag
 matches End s = may_stay_open s.opened

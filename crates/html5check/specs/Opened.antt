@@ -4,7 +4,7 @@ use Rattle.std.specs.Str.{bytes_eq}
 use Rattle.html5check.specs.Elements.{ends_before, has_optional_end}
 use Rattle.html5check.specs.declared.open_elements.OpenElement.{OpenElement}
 
--- an element that is open: its name, where its start tag stands, and whether what stands in it is of another namespace
+-- an element that is open: its name, where its start tag stands, and whether its content is of another namespace
 pub record Open : Type 0 where
   pub name : List ℕ
   pub begin : ℕ
@@ -18,7 +18,7 @@ open_by e = record { name = e.name.now; begin = e.begin; end = e.end; holds_fore
 abbrev pub opened_by : List OpenElement → List Open
 opened_by elements = reverse (map open_by elements)
 
--- whether what stands in the innermost is of another namespace
+-- whether the content of the innermost is of another namespace
 abbrev pub holds_foreign : List Open → Bool
 holds_foreign [] = false
 holds_foreign (inner ∷ outer) = inner.holds_foreign
@@ -33,11 +33,11 @@ ended_before [] name = 0
 ended_before (inner ∷ outer) name =
     if has_optional_end inner.name then and_this (ends_before name inner.name) (ended_before outer name) else 0
 
--- so many of the innermost an end tag is compared with. Browsers keep no more open.
+-- with how many of the innermost an end tag is compared. Browsers keep no more open.
 abbrev pub depth : ℕ
 depth = 512
 
--- how many there are down to the innermost of this name, with that one, or none where none has the name
+-- how many there are down to the innermost of this name, with that one, or 0 if none has the name
 unfoldable pub reached : List Open → List ℕ → ℕ
 reached [] name = 0
 reached (inner ∷ outer) name = if bytes_eq inner.name name then 1 else (if reached outer name == 0 then 0 else reached outer name + 1)

@@ -72,7 +72,7 @@ settled_where (Some construct) constructs mask text = closed_where construct mas
 abbrev pub settled : List Construct → Mask → List ℕ → Mask
 settled constructs mask text = settled_where mask.construct constructs mask text
 
--- what stands for a byte: a letter in a value, and else a space
+-- the replacement of a byte: a letter in a value, and else a space
 abbrev pub letter_of : ℕ → ℕ
 letter_of byte = 0x61 + byte % 26
 

@@ -9,7 +9,7 @@ pub record IsWhole (unread left : Option (List ℕ)) (text : List ℕ) : Type 0 
   pub at_end : IsAtEnd left
   pub utf8 : IsUtf8 text
 
--- a source gave so many bytes, which came after those before
+-- a source gave this many bytes, which came after those before
 pub record Grows (unread left : Option (List ℕ)) (before after : List ℕ) (count : ℕ) : Type 0 where
   pub bytes : List ℕ
   pub consumed : Consumes unread left bytes

@@ -103,7 +103,7 @@ fn read_masked(
     }
 }
 
-// The same answer, where no sink refuses a token.
+// The same answer, for a sink that refuses no token.
 fn seen_or_none(seen: Result<Vec<SeenToken>, TokenizerError>) -> Result<Vec<SeenToken>, AllocError>
     ensures { IfOk result (λ tokens. seen ≡ Ok tokens) }
 {
@@ -114,7 +114,7 @@ fn seen_or_none(seen: Result<Vec<SeenToken>, TokenizerError>) -> Result<Vec<Seen
 }
 
 impl<W: Target, P: Report> Check<W, P> {
-    // Prints what was found in a page.
+    // Prints the findings in a page.
     fn print_found(&mut self, alloc: Global, found: &[Located<'_>]) -> Result<(), StreamError>
         ensures ok { OnOk result (checks_of self.new ≡ checks_after P.printed (checks_of self.old) (map located_by found.now)) }
         ensures err { OnErr result (checks_of self.new ≡ checks_of self.old) }

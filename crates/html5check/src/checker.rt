@@ -16,7 +16,7 @@ use html5ever_interface::interface::token::{Tag, TagKind, Token};
 use std::alloc::{AllocError, Global};
 use std::marker::Model;
 
-/// What is open and what was found, after some tokens of a text.
+/// The open elements and the findings, after some tokens of a text.
 #[derive(Drop)]
 pub struct Checker<'t> {
     opened: OpenElements<'t>,
@@ -46,7 +46,7 @@ impl<'t> Checker<'t> {
         }
     }
 
-    /// What was found, in the order of the tokens that showed it.
+    /// The findings, in the order of their tokens.
     pub fn into_found(self) -> Vec<Finding<'t>>
         ensures { map finding_by result.items ≡ self.entry.found }
     {
@@ -153,7 +153,7 @@ impl<'t> Checker<'t> {
         Ok(())
     }
 
-    // Takes so many of the open elements away, that are left open.
+    // Takes this many of the open elements away, that are left open.
     fn leave_open(&mut self, count: usize) -> Result<(), AllocError>
         ensures { OnOk result (self.new ≡ left_open count self.old) }
     {

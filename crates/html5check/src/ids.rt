@@ -73,7 +73,7 @@ fn id_in(attributes: &[Attribute]) -> Option<&str>
     None
 }
 
-/// The id of a tag, where it has one that may be one.
+/// The id of a tag, if it has one that may be one.
 pub fn id_of(tag: &Tag) -> Option<&str>
     ensures { option_map (λ id. id.now) result ≡ id_of (tag_of tag.now) }
 {

@@ -8,9 +8,9 @@ ghost use Rattle.html5check.specs.Places.{StandsAtToken, StandsInText};
 ghost use Rattle.html5check.specs.Seen.{Seen, seen_in};
 ghost use Rattle.markup5ever.specs.NamedReferences.{NamedReference};
 
-/// What is found stands at a token that has its fault: it begins and ends where that does. An error has its code, an end
-/// tag may be stray or of a void element, and what else is wrong is so of a start tag; of an id, another start tag before
-/// has it.
+/// A finding stands at a token that has its fault: it begins and ends where that does. An error has its code, and an
+/// end tag may be stray or of a void element. Any other fault is a start tag's; a repeated id is that of another start
+/// tag before.
 ///
 /// In a text that is read from its first byte its places are in order and lie between characters.
 pub fn findings_stand_at_tokens()
@@ -19,8 +19,9 @@ pub fn findings_stand_at_tokens()
         → All (StandsInText (chars text)) (findings_in (seen_in references text)) }
 {}
 
-/// A tag without its other is found exactly where tags don't match (`all_match`): where an end tag ends no open element, or
-/// an element is still open whose end tag may not be left out, at the end tag of one around it or at the end.
+/// A tag without its other is found exactly where tags don't match (`all_match`). Tags don't match if an end tag ends
+/// no open element. Nor do they if an element whose end tag may not be left out is still open at the end tag of one
+/// around it, or at the end.
 pub fn unmatched_tags_are_found()
     ensures { (tokens : List Seen) → list_all has_other (found_by tokens) ≡ all_match nothing_checked tokens }
 {}

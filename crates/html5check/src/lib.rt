@@ -1,8 +1,9 @@
 //! What is wrong in pages, and where: `firnuubal check`.
 //!
-//! `read_seen` reads a text into its tokens with their places, and `findings_in` finds what is wrong by them, in order of
-//! places: parse errors by the standard's codes, end tags without a start tag, elements that are left open, ids that stand
-//! twice, and misspelled names. What is found is a definition (specs/Checking). `Check` is the filter that prints it.
+//! `read_seen` reads a text into its tokens with their places, and `findings_in` finds by them what is wrong, in order
+//! of places. It finds parse errors by the standard's codes, end tags without a start tag, elements that are left open,
+//! repeated ids, and misspelled names. The findings are a definition (specs/Checking). `Check` is the filter that
+//! prints it.
 #![tactic(auto)]
 
 mod check;

@@ -1,4 +1,4 @@
-//! The lines that say what was found.
+//! The lines of findings.
 ghost use Rattle.std.specs.Prelude.{◌≡◌, ◌++◌, IfOk, OnOk, map, option_map};
 ghost use Rattle.html5check.specs.Faults.{finding_by};
 ghost use Rattle.html5check.specs.Lines.{finding_shown, line_of, lines_of, meant_bytes, meant_shown, place_shown, shown_bytes, subject_shown};
@@ -22,7 +22,7 @@ fn push_shown(line: &mut Vec<u8>, bytes: &[u8]) -> Result<(), AllocError>
     Ok(())
 }
 
-// Appends a colon and the subject, where there is one.
+// Appends a colon and the subject, if there is one.
 fn push_subject(line: &mut Vec<u8>, subject: &str) -> Result<(), AllocError>
     ensures { OnOk result (line.new.items ≡ line.old.items ++ subject_shown subject.now) }
 {
@@ -65,7 +65,7 @@ fn push_place(line: &mut Vec<u8>, file: &str, position: Position) -> Result<(), 
     Ok(())
 }
 
-// Appends what was found.
+// Appends the findings.
 fn push_finding(line: &mut Vec<u8>, finding: &Finding<'_>) -> Result<(), AllocError>
     ensures { OnOk result (line.new.items ≡ line.old.items ++ finding_shown (finding_by finding.now)) }
 {
@@ -85,8 +85,9 @@ fn push_line(lines: &mut Vec<u8>, file: &str, located: &Located<'_>) -> Result<(
     Ok(())
 }
 
-/// The lines of what was found in a file of this name: `FILE:LINE:COLUMN: error: CODE`, then a colon and what it is about,
-/// and what a misspelled name was meant for. Control characters of ASCII are shown as `?`, but for those of the file's name.
+/// The lines of the findings in a file of this name: `FILE:LINE:COLUMN: error: CODE`, then a colon and what it is
+/// about, and what a misspelled name was meant for. Control characters of ASCII are shown as `?`, except for those of
+/// the file's name.
 #[tactic(auto, unfolding(crate::specs::Lines::lines_of))]
 pub fn lines_of(alloc: Global, file: &str, found: &[Located<'_>]) -> Result<Vec<u8>, AllocError>
     ensures { IfOk result (λ lines. lines.items ≡ lines_of file.now (map located_by found.now)) }

@@ -6,7 +6,7 @@ use crate::elements::{ends_before, has_optional_end};
 use std::alloc::{AllocError, Global};
 use std::marker::Model;
 
-/// So many of the innermost elements an end tag is compared with. Browsers keep no more open.
+/// With how many of the innermost elements an end tag is compared. Browsers keep no more open.
 const DEPTH: usize = 512;
 
 /// An element that is open: its name, where its start tag stands, and whether its content is of another namespace.
@@ -34,7 +34,7 @@ impl<'t> Model for OpenElements<'t> {
     ghost view = { λ o. opened_by o.elements.items };
 }
 
-// How many of these the end tag of this name ends, or 0 where none of the innermost has the name.
+// How many of these the end tag of this name ends, or 0 if none of the innermost has the name.
 fn closed_by(elements: &[OpenElement<'_>], name: &str) -> usize
     ensures { result ≡ closed_by (opened_by elements.now) name.now }
 {
@@ -82,7 +82,7 @@ impl<'t> OpenElements<'t> {
         self.elements.len()
     }
 
-    /// Whether what stands in the innermost one is of another namespace.
+    /// Whether the content of the innermost one is of another namespace.
     pub fn holds_foreign(&self) -> bool
         ensures { result ≡ holds_foreign self.now }
     {
@@ -99,7 +99,7 @@ impl<'t> OpenElements<'t> {
         ended_before(&self.elements, name)
     }
 
-    /// How many an end tag of this name ends: those in the innermost of its name, and that one; none where there is no
+    /// How many an end tag of this name ends: those in the innermost of its name, and that one; none if there is no
     /// such.
     pub fn closed_by(&self, name: &str) -> usize
         ensures { result ≡ closed_by self.now name.now }
@@ -126,7 +126,7 @@ impl<'t> OpenElements<'t> {
         self.elements.pop()
     }
 
-    /// Closes so many, or all where there are fewer.
+    /// Closes this many, or all if there are fewer.
     pub fn close(&mut self, count: usize)
         ensures { self.new ≡ drop count self.old }
     {

@@ -10,7 +10,7 @@ pub struct CheckSettings {
     pub template: Option<Template>,
 }
 
-/// A name that is no template language's.
+/// A name of no template language.
 #[derive(Clone, Copy, Debug, Error)]
 #[error("no such template language: jinja, mustache or erb")]
 pub struct UnknownTemplate;

@@ -7,12 +7,12 @@ use std::alloc::{AllocError, Global};
 /// A template language.
 #[derive(Clone, Copy, Debug, PartialEq, Eq)]
 pub enum Template {
-    /// `{{ }}` is a value, `{% %}` and `{# #}` are none: Jinja, Django, Twig, Liquid.
+    /// `{{ }}` is a value, `{% %}` and `{# #}` are not: Jinja, Django, Twig, Liquid.
     Jinja,
-    /// `{{ }}` and `{{{ }}}` are values, but `{{# }}`, `{{^ }}`, `{{/ }}`, `{{! }}`, `{{> }}` are none: Mustache,
+    /// `{{ }}` and `{{{ }}}` are values, but `{{# }}`, `{{^ }}`, `{{/ }}`, `{{! }}`, `{{> }}` are not: Mustache,
     /// Handlebars.
     Mustache,
-    /// `<%= %>` and `<%- %>` are values, other `<% %>` are none: ERB, EJS.
+    /// `<%= %>` and `<%- %>` are values, other `<% %>` are not: ERB, EJS.
     Erb,
 }
 
@@ -175,7 +175,7 @@ impl Mask {
         }
     }
 
-    // What stands for a byte.
+    // The replacement of a byte.
     fn masked_byte(self, byte: u8) -> u8
         ensures { result ≡ masked_byte (mask_by self) byte }
     {

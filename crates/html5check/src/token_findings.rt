@@ -29,7 +29,7 @@ pub fn at_token<'t>(seen: &SeenToken, fault: Fault, subject: &'t str) -> Finding
     }
 }
 
-/// A parse error: its code, or where it has none its message.
+/// A parse error: its code, or its message if it has none.
 pub fn of_error<'t>(seen: &SeenToken, message: &'t ErrorMessage) -> Finding<'t>
     ensures { finding_by result ≡ error_finding (seen_by seen.now) (message_bytes message.now) }
 {

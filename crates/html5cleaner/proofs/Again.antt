@@ -1,4 +1,4 @@
--- What is kept of a page is kept again.
+-- The kept part of a page is kept again.
 use Rattle.std.proofs.Common.{◌≡◌, ℕ, Bool, true, false, List, [], ◌∷◌, ◌++◌, map, chars, refl, ap, sym, ◌∙◌, subst, append_assoc}
 use Rattle.std.specs.Prelude.{◌==◌, ◌&&◌, not, encode_utf8, encode_utf8_all, if◌then◌else◌}
 use Rattle.std.proofs.Math.Bool.{and-false}

@@ -1,4 +1,4 @@
--- What a buffer keeps of a page is what is kept of it, and no message takes any of it.
+-- A buffer keeps exactly the kept part of a page, and no message takes any of it.
 use Rattle.std.proofs.Common.{◌≡◌, ℕ, List, [], ◌++◌, refl, ap, sym, ◌∙◌, append_assoc}
 use Rattle.std.proofs.lemmas.List.{append-nil}
 use Rattle.html5ever_interface.specs.Sink.{Message, stepped}
@@ -16,7 +16,7 @@ use Rattle.html5cleaner.proofs.Printing.{page_bytes-append}
 use Rattle.html5cleaner.proofs.SameReadings.{page-same}
 use Rattle.markup5ever.specs.NamedReferences.{NamedReference}
 
--- where these pieces were kept, and so many bytes were taken
+-- where these pieces were kept, and this many bytes were taken
 abbrev buffered_after : ℕ → Cleaned → Buffered
 buffered_after taken c = record { policy = c.policy; out = record { bytes = page_bytes c.pieces; taken = taken }; hidden = c.hidden; opened = c.opened }
 

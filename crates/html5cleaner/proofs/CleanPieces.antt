@@ -1,4 +1,4 @@
--- What is kept is clean.
+-- Kept pieces are clean.
 use Rattle.std.proofs.Common.{◌≡◌, ℕ, Bool, true, false, List, [], ◌∷◌, ◌++◌, filter, map, chars, refl, ap, ◌∙◌}
 use Rattle.std.specs.Prelude.{◌==◌, ◌||◌, ◌&&◌, codes, encode_utf8_all, not, if◌then◌else◌}
 use Rattle.std.specs.List.{list_all, list_any}
@@ -123,7 +123,7 @@ clean-token policy End = refl
 clean-kept : (policy : PolicyOf) (run : List ℕ) (told : Told) → list_all (is_clean policy) (kept policy run told) ≡ true
 clean-kept policy run told = list_all-append (is_clean policy) (kept_of_run run) (kept_of_token policy told) ∙ rw (clean-run policy run, clean-token policy told) refl
 
--- what is kept is clean, wherever it is hidden
+-- kept pieces are clean at any depth of hidden elements
 pub clean-where_shown : (policy : PolicyOf) (depth : ℕ) (run : List ℕ) (told : Told) → list_all (is_clean policy) (kept_where policy depth run told) ≡ true
 clean-where_shown policy depth run told = by-test (depth == 0)
   where

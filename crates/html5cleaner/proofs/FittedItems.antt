@@ -141,7 +141,7 @@ module _ (P : Item → Type 0) (closed : IsClosed P) where
   of-moved : (closes : ℕ) (opens stack : List (List ℕ)) → OfNames stack → OfParents opens → OfNames (opened opens (drop closes stack))
   of-moved closes opens stack s o = of-opened opens (drop closes stack) o (all-left (λ name. P (EndTag name)) closes stack s)
 
-  -- what is written of an item, and what is open then
+  -- the output for an item, and the elements open after it
   abbrev Writes : List (List ℕ) → Item → Plan → Type 0
   Writes stack item plan = AllOf P (written plan stack item) × OfNames (stack_after plan stack item)
 

@@ -244,7 +244,7 @@ module _ (policy : PolicyOf) (sound : IsSound policy) (tree : policy.tree ≡ tr
   good-steady [] good = tt
   good-steady (item ∷ items) good = (good.0.steady, good-steady items good.1)
 
-  -- what is written of pieces that are kept, and what is open then
+  -- the output for kept pieces, and the elements open after them
   abbrev pub IsKeptWell : List Piece → List (List ℕ) → Type 0
   IsKeptWell pieces opened = AllClean policy pieces × (AreSteady policy pieces × CanClose policy opened)
 
@@ -302,7 +302,7 @@ are_clean-step s run told line sound are =
     clean-shaped s.policy s.policy.tree refl sound (is_end told) s.pieces s.opened (kept_where s.policy s.hidden.depth run told) are (clean-where_shown s.policy s.hidden.depth run told)
     (λ all. steady-shown s.policy all s.hidden.depth run told)
 
--- the same, where what was written and what is open have names of their own
+-- the same, with names of their own for the output and the open elements
 pub are_clean-now : (policy : PolicyOf) (depth : ℕ) (run : List ℕ) (told : Told) (before after : List Piece) (opened elements : List (List ℕ)) → IsSound policy
     → after ≡ before ++ written_by (shape_of policy) (is_end told) opened (kept_where policy depth run told)
     → elements ≡ open_by (shape_of policy) (is_end told) opened (kept_where policy depth run told)
@@ -314,7 +314,7 @@ are_clean-now policy depth run told before after opened elements sound is now ar
 
 -- ---- what stays
 
--- what is written is kept again as it is, and so are the end tags of what is open
+-- what is written is kept again as it is, and so are the end tags of the open elements
 steady-shaped : (policy : PolicyOf) (tree : Bool) → policy.tree ≡ tree → IsSound policy → (ends : Bool) (opened : List (List ℕ)) (pieces : List Piece) → CanClose policy opened
     → AllClean policy pieces → AreSteady policy pieces
     → AreSteady policy (written_by (if tree then Tree policy.depth else shape_by_balance policy.balance) ends opened pieces)

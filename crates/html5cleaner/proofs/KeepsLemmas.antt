@@ -1,4 +1,4 @@
--- What calls that write what is kept answer.
+-- The answers of calls that write kept pieces.
 use Rattle.std.proofs.Common.{◌≡◌, ℕ, Bool, true, false, List, [], ◌∷◌, ◌++◌, Result, Ok, Err, length, drop, take, refl, ap, sym, ◌∙◌, subst, arith}
 use Rattle.std.specs.Prelude.{◌==◌, encode_utf8_all, IfOk, OnErr, OnOk, if◌then◌else◌}
 use Rattle.std.proofs.lemmas.Bool.{false≢true}
@@ -124,12 +124,12 @@ unfolding kept_of_run
 shown-run policy depth run shown true is here = ap (λ l. kept_of_run l ++ []) here ∙ ap (λ b. if b then kept_of_run run ++ [] else []) (sym is)
 shown-run policy depth run shown false is here = ap (λ l. kept_of_run l ++ []) here ∙ ap (λ b. if b then kept_of_run run ++ [] else []) (sym is)
 
--- what is kept at the end of a page
+-- the pieces kept at the end of a page
 pub kept-last : (policy : PolicyOf) (depth : ℕ) (run shown : List ℕ) (told : Told) → is_end told ≡ true → shown ≡ (if depth == 0 then run else [])
     → kept_of_run shown ++ [] ≡ kept_where policy depth run told
 kept-last policy depth run shown told ends here = shown-run policy depth run shown (depth == 0) refl here ∙ ap (kept_where policy depth run) (sym (told-end told ends))
 
--- what is kept where no tag follows the run
+-- the pieces kept when no tag follows the run
 pub kept-untagged : (policy : PolicyOf) (depth : ℕ) (run : List ℕ) (told : Told) → depth ≡ 0 → is_tag told ≡ false → kept_where policy depth run told ≡ kept_of_run run ++ []
 kept-untagged policy depth run (Tag tag) shown is = absurd (false≢true (sym is))
 kept-untagged policy depth run (Text text) shown is = ap (λ n. if n == 0 then kept_of_run run ++ [] else []) shown

@@ -20,7 +20,7 @@ pub link-else : (policy : PolicyOf) (element encoded : List ℕ) (attributes : L
 link-else policy element encoded attributes link same is off =
     off ∙ sym (ap (λ b. b && list_any is_href attributes) (ap (λ e. is_rel_of_link policy e (codes "rel")) same ∙ sym is ∙ off))
 
--- where nothing is written
+-- when nothing is written
 pub kept-plain : (policy : PolicyOf) (element : List ℕ) (attributes kept : List NameAndValue) (adds : Bool) → kept ≡ filter (is_kept_attribute policy element) attributes
     → adds ≡ adds_rel policy element kept → adds ≡ false → kept ≡ kept_attributes policy element attributes
 unfolding kept_attributes

@@ -27,12 +27,12 @@ use Rattle.html5cleaner.proofs.ShapeRuns.{shaped-closed}
 use Rattle.html5cleaner.proofs.TreePages.{written-fits}
 use Rattle.html5cleaner.proofs.WrittenRuns.{none-open}
 
--- what is open in a tree is right for the normaliser
+-- the elements open in a tree are right for the normaliser
 abbrev pub IsReadyFor : Shape → List (List ℕ) → Type 0
 IsReadyFor (Tree limit) opened = IsReady limit opened
 IsReadyFor other opened = Unit {0}
 
--- what a handler wrote leaves open what is open
+-- a handler's output leaves its open elements open
 abbrev pub GoesOn : Cleaned → Type 0
 GoesOn c = AllGo (shape_of c.policy) [] c.pieces c.opened × IsReadyFor (shape_of c.policy) c.opened
 

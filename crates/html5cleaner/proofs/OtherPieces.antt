@@ -17,11 +17,11 @@ use Rattle.html5cleaner.proofs.Balancing.{written-others}
 use Rattle.html5cleaner.proofs.NestedPages.{shape-flat}
 use Rattle.html5cleaner.proofs.SameReadings.{page-same}
 
--- the same policy with other rules of how what is kept is written
+-- the same policy with other rules of how kept pieces are written
 abbrev pub with_rules : PolicyOf → Bool → Bool → ℕ → PolicyOf
 with_rules policy balance tree limit = record policy { balance = balance; tree = tree; depth = limit }
 
--- what is kept does not depend on these rules, and what is hidden doesn't either
+-- neither kept nor hidden parts depend on these rules
 pub same-kept : (policy : PolicyOf) (balance tree : Bool) (limit depth : ℕ) (run : List ℕ) (told : Told)
     → kept_where policy depth run told ≡ kept_where (with_rules policy balance tree limit) depth run told
 unfolding kept_of_tag kept_of_parts kept_attributes is_kept is_allowed

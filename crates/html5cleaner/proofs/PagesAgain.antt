@@ -35,7 +35,7 @@ use Rattle.html5cleaner.proofs.Printing.{clean-handed}
 use Rattle.html5cleaner.proofs.Replies.{keeps_on-page}
 use Rattle.html5cleaner.proofs.Tokens.{can-clean}
 
--- a page of clean pieces is read, but for errors, as these
+-- a page of clean pieces is read, except for errors, as these
 proper-page : (policy : PolicyOf) (references : List NamedReference) (pieces : List Piece) → IsSound policy → IsTable references → list_all (is_clean policy) pieces ≡ true
     → proper (runs_page clean_step references (at_start policy) (encode_utf8_all (pieces_text pieces))) ≡ pieces_tokens pieces ++ End ∷ []
 unfolding runs_page
@@ -69,7 +69,7 @@ kept-again policy references pieces opened sound table clean steady go =
     (after-messages (runs_start (at_start policy)) M ∙ ap (after_tokens start) (proper-page policy references pieces sound table clean) ∙ after_tokens-append start (pieces_tokens pieces) (End ∷ []))
     ∙ kept-with_run policy opened (pieces_text pieces) before stands End (pieces_text (end_tags opened)) (ap pieces_text (shaped-at_end (shape_of policy) opened pieces go))
 
--- what was written of any messages, and then the end tags of what is open after them
+-- the output for any messages, and then the end tags of the elements open after them
 pub kept-twice : (policy : PolicyOf) (references : List NamedReference) (M : List Message) → IsSound policy → IsTable references
     → pieces_text (runs_handed clean_step (at_start policy) (runs_page clean_step references (at_start policy) (encode_utf8_all (pieces_text (runs_handed clean_step (at_start policy) M).pieces)))).pieces
     ≡ pieces_text (runs_handed clean_step (at_start policy) M).pieces ++ pieces_text (end_tags (runs_handed clean_step (at_start policy) M).opened)
@@ -77,7 +77,7 @@ kept-twice policy references M sound table =
     let c : Cleaned = runs_handed clean_step (at_start policy) M in
     kept-again policy references c.pieces c.opened sound table (clean-handed policy M (λ tree. sound)) (steady-handed policy sound M) (goes-handed policy M)
 
--- where nothing is open after them, they are kept again as they are
+-- when nothing is open after them, they are kept again as they are
 pub kept-whole : (policy : PolicyOf) (references : List NamedReference) (M : List Message) → IsSound policy → IsTable references → (runs_handed clean_step (at_start policy) M).opened ≡ []
     → pieces_text (runs_handed clean_step (at_start policy) (runs_page clean_step references (at_start policy) (encode_utf8_all (pieces_text (runs_handed clean_step (at_start policy) M).pieces)))).pieces
     ≡ pieces_text (runs_handed clean_step (at_start policy) M).pieces

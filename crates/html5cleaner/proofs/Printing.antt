@@ -1,4 +1,4 @@
--- What is printed of a page is what is kept of it.
+-- The printed output for a page is its kept part.
 use Rattle.std.proofs.Common.{◌≡◌, ℕ, true, Option, List, [], ◌++◌, refl, ap, sym, ◌∙◌, subst, append_assoc, encode_utf8_all}
 use Rattle.std.proofs.lemmas.List.{append-nil}
 use Rattle.std.proofs.lemmas.List.Concat.{flat_map-append}

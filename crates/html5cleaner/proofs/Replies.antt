@@ -25,7 +25,7 @@ pub and-right : (a b : Bool) → (a && b) ≡ true → b ≡ true
 and-right true b both = both
 and-right false b both = absurd (false≢true both)
 
--- a name that hides nothing is none that does
+-- a name that hides nothing is not one that does
 other-name : (name raw : List ℕ) (same : Bool) → bytes_eq name raw ≡ same → always_hides name ≡ false → always_hides raw ≡ true → same ≡ false
 other-name name raw true is shows hides = absurd (false≢true (sym shows ∙ ap always_hides (bytes_eq-same name raw is) ∙ hides))
 other-name name raw false is shows hides = refl

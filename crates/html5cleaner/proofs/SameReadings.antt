@@ -38,7 +38,7 @@ foreign-same : {S T : Type 0} (first : Steps S) (second : Steps T) (s : Running 
     → (stepped (runs_step first) s M).foreign ≡ (stepped (runs_step second) t M).foreign
 foreign-same first second s t M same = foreign-stepped first s M ∙ same ∙ sym (foreign-stepped second t M)
 
--- the same of what a character brings, where what follows it is the same
+-- the same of what a character brings, if the text after it is read alike
 here-same : {S T : Type 0} (first : Steps S) (second : Steps T) (rules : Rules) (K : Start) (f : Running S → List ℕ → Slice → Read) (g : Running T → List ℕ → Slice → Read)
     → ((r : Running S) (q : Running T) (name : List ℕ) (rest : Slice) → r.foreign ≡ q.foreign → f r name rest ≡ g q name rest)
     → (s : Running S) (t : Running T) (last before : List ℕ) (c : ℕ) (here : Here Slice) → s.foreign ≡ t.foreign

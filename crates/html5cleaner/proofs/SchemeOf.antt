@@ -19,7 +19,7 @@ without_breaks address = filter is_no_break address
 abbrev pub is_scheme_byte : ℕ → Bool
 is_scheme_byte byte = is_ascii_alphanumeric byte || (byte == 0x2B) || (byte == 0x2D) || (byte == 0x2E)
 
--- what stands before the colon, in lower case: none where another byte stands before it
+-- the bytes before the colon, in lower case: none if another byte stands before it
 unfoldable pub scheme_from : List ℕ → Option (List ℕ)
 scheme_from [] = None
 scheme_from (byte ∷ address) =

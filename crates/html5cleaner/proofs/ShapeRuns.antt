@@ -196,7 +196,7 @@ shaped-nothing AsKept opened = (refl, refl)
 shaped-nothing Balanced opened = (refl, refl)
 shaped-nothing (Tree limit) opened = (refl, refl)
 
--- where nothing else is kept, the end closes what is open after these pieces
+-- when nothing else is kept, the end closes the elements open after these pieces
 pub shaped-at_end : (shape : Shape) (opened : List (List ℕ)) (pieces : List Piece) → AllGo shape [] pieces opened → written_by shape true opened [] ≡ end_tags opened
 unfolding written_by all_balanced all_open_after all_fitted open_after_all items_of
 shaped-at_end AsKept opened pieces go = ap (λ (o : List (List ℕ)). end_tags o) (go-none [] opened pieces go)

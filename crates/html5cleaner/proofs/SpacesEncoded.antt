@@ -60,7 +60,7 @@ other-encoded : (c : ℕ) → is_space c ≡ false → IsOther (encode_utf8 c)
 unfolding encode
 other-encoded c o = other-by_len c (nat_lt c 128) (nat_lt c 2048) (nat_lt c 65536) o
 
--- ---- what stands at the front
+-- ---- the front
 
 front-where : (c : ℕ) (text : List ℕ) (space : Bool) → is_space c ≡ space → leading_space (encode_utf8_all text) ≡ encode_utf8_all (leading_space text)
     → leading_space (encode_utf8 c ++ encode_utf8_all text) ≡ encode_utf8_all (if space then c ∷ leading_space text else [])

@@ -112,7 +112,7 @@ pub steady-append : (policy : PolicyOf) (xs ys : List Piece) → AreSteady polic
 steady-append policy [] ys f g = g
 steady-append policy (x ∷ xs) ys f g = (f.0, steady-append policy xs ys f.1 g)
 
--- an element that is kept does not hide what stands in it
+-- a kept element does not hide its content
 not-hidden : (always acts listed : Bool) → (not always && (not acts && not listed)) ≡ true → always ≡ false → (always || listed) ≡ false
 not-hidden always acts false both shows = rw shows refl
 not-hidden always true true both shows = absurd (false≢true (sym (ap (λ b. not b && false) shows) ∙ both))

@@ -15,7 +15,7 @@ use Rattle.html5cleaner.proofs.GoodItems as good
 use Rattle.html5cleaner.proofs.Printing.{policy-handed}
 use Rattle.html5cleaner.proofs.Steady.{AreSteady, steady-append}
 
--- it is steady, and the end tags of what is open are clean
+-- it is steady, and the end tags of the open elements are clean
 record IsSteadyPage (c : Cleaned) : Type 0 where
   steady : AreSteady c.policy c.pieces
   can : CanClose c.policy c.opened

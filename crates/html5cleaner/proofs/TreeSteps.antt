@@ -1,4 +1,4 @@
--- What calls that write what is kept so that it fits answer.
+-- The answers of calls that write kept pieces so that they fit.
 use Rattle.std.proofs.Common.{◌≡◌, ℕ, Bool, true, false, List, [], ◌∷◌, ◌++◌, Result, Ok, Err, chars, map, refl, ap, sym, ◌∙◌, subst, append-nil, append_assoc}
 use Rattle.std.specs.Prelude.{◌==◌, encode_utf8_all, flat_map, OnErr, OnOk, if◌then◌else◌}
 use Rattle.std.proofs.lemmas.List.{map-append}

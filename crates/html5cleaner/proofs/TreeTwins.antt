@@ -113,7 +113,7 @@ step-keeps enough limit ends opened plain made kept ready short leaves before ro
     (subst (λ (o : List (List ℕ)). Keeps enough o (items_of kept) (items_of more)) (sym leaves)
     (written-keeps enough limit ends opened kept ready (λ e. let r = room e in omega (arith, r, both, short))))))
 
--- what is open is what its pieces leave open
+-- the open elements are those that its pieces leave open
 pub open-is : (limit : ℕ) (pieces : List Piece) (opened : List (List ℕ)) → AllGo (Tree limit) [] pieces opened → all_open_after [] (items_of pieces) ≡ opened
 open-is limit pieces opened go = open-fitting limit [] opened (items_of pieces) (go-fitting limit [] opened pieces go)
 

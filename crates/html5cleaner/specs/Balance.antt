@@ -90,7 +90,7 @@ without_balance policy = record policy { balance = false }
 abbrev pub without_tree : PolicyOf → PolicyOf
 without_tree policy = record policy { tree = false; balance = false }
 
--- the same policy, by which so many elements may be open
+-- the same policy, by which this many elements may be open
 abbrev pub with_depth : ℕ → PolicyOf → PolicyOf
 with_depth depth policy = record policy { depth = depth }
 

@@ -1,4 +1,4 @@
--- A page that is cleaned as it arrives, and what is kept of it, which waits until it is taken.
+-- A page that is cleaned as it arrives, and its kept part, which waits until it is taken.
 --
 -- No run of text and no token changes how many bytes were taken.
 use Rattle.std.specs.Prelude.{◌≡◌, ℕ, List, []}
@@ -19,11 +19,11 @@ pub record Buffered : Type 0 where
   pub hidden : Hidden
   pub opened : List (List ℕ)
 
--- where a page begins, after so many bytes were taken that belong to none
+-- where a page begins, after this many bytes were taken that belong to none
 abbrev pub buffer_start : PolicyOf → ℕ → Buffered
 buffer_start policy taken = record { policy = policy; out = record { bytes = []; taken = taken }; hidden = nothing_hidden; opened = [] }
 
--- a run of text and the token after it: what is written of them waits after what waited
+-- a run of text and the token after it: their output waits after the bytes that waited
 abbrev pub buffered_step : Buffered → List ℕ → Told → ℕ → Buffered
 buffered_step b run told line = record {
   policy = b.policy;
@@ -32,7 +32,7 @@ buffered_step b run told line = record {
   opened = open_by (shape_of b.policy) (is_end told) b.opened (kept_where b.policy b.hidden.depth run told);
 }
 
--- so many bytes more were taken, and all else is as it was
+-- this many bytes more were taken, and all else is as it was
 abbrev pub after_taking : Buffered → ℕ → Buffered
 after_taking b count = record b { out = taking b.out count }
 

@@ -1,4 +1,4 @@
--- A page that is cleaned: what is kept of each run of text and of the token after it, and what is written of that.
+-- A page that is cleaned: the kept part of each run of text and of the token after it, and the output for that.
 use Rattle.std.specs.Prelude.{ℕ, Bool, not, List, [], ◌∷◌, ◌++◌, ◌&&◌, ◌||◌, ◌==◌, filter, map, chars, codes, encode_utf8_all, if◌then◌else◌}
 use Rattle.std.specs.List.{list_any}
 use Rattle.std.specs.Str.{bytes_eq}
@@ -18,11 +18,11 @@ use Rattle.html5cleaner.specs.Shape.{shape_of}
 
 -- ---- what is hidden
 
--- whether a tag begins an element that is dropped with what stands in it
+-- whether a tag begins an element that is dropped with its content
 abbrev pub opens : PolicyOf → TagOf → Bool
 opens policy tag = hides policy tag.name && has_content tag
 
--- ---- what is kept
+-- ---- kept parts
 
 abbrev pub attribute_chars : AttributeOf → NameAndValue
 attribute_chars a = record { name = chars a.name.local; value = chars a.value }
@@ -66,11 +66,11 @@ abbrev pub allows_by_kind : PolicyOf → TagKind → List ℕ → Bool
 allows_by_kind policy StartTag name = is_allowed policy name
 allows_by_kind policy EndTag name = is_allowed policy name && has_end name
 
--- a piece, where it can be written
+-- a piece, if it can be written
 abbrev pub where_writable : Piece → List Piece
 where_writable piece = if can_write piece then piece ∷ [] else []
 
--- what is kept of a tag with these attributes
+-- the kept part of a tag with these attributes
 unfoldable pub kept_of_parts : PolicyOf → TagKind → List ℕ → List NameAndValue → List Piece
 kept_of_parts policy kind name attributes =
     if allows_by_kind policy kind (encode_utf8_all name) then where_writable (piece_by_kind kind name attributes) else []
@@ -93,12 +93,12 @@ abbrev pub kept_of_token : PolicyOf → Told → List Piece
 kept_of_token policy (Tag tag) = kept_of_tag policy tag
 kept_of_token policy other = []
 
--- a run, where there is one
+-- a run, if there is one
 unfoldable pub kept_of_run : List ℕ → List Piece
 kept_of_run [] = []
 kept_of_run (byte ∷ run) = where_writable (TextPiece (chars (byte ∷ run)))
 
--- what is kept of a run of text and the token after it, where nothing is hidden
+-- the kept part of a run of text and the token after it, when nothing is hidden
 abbrev pub kept : PolicyOf → List ℕ → Told → List Piece
 kept policy run told = kept_of_run run ++ kept_of_token policy told
 

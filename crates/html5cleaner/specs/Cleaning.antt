@@ -39,7 +39,7 @@ abbrev pub policy_in : Result PolicyOf PolicyError → Option PolicyOf
 policy_in (Ok policy) = Some policy
 policy_in (Err error) = None
 
--- the policy of a text, or where there is none the standard policy
+-- the policy of a text, or the standard policy if there is none
 abbrev pub policy_by : Option (List ℕ) → Option PolicyOf
 policy_by None = Some standard_policy
 policy_by (Some text) = policy_in (policy_said text)

@@ -1,4 +1,4 @@
--- What is kept, as code has it.
+-- Kept pieces, as code has them.
 use Rattle.std.specs.Prelude.{◌≡◌, ℕ, Bool, List, [], ◌∷◌, ◌++◌, Option, None, Some, Result, IfOk, OnErr, OnOk, drop, if◌then◌else◌}
 use Rattle.html5write.specs.Pieces.{Piece}
 use Rattle.html5write.specs.Writing.{piece_of}
@@ -14,22 +14,22 @@ use Rattle.html5tree.specs.Items.{Item}
 use Rattle.html5tree.specs.Nested.{Nested}
 use Rattle.html5tree.specs.Normal.{IsReady, end_tags}
 
--- a piece, where there is one
+-- a piece, if there is one
 abbrev pub piece_where : Option RustPiece → List Piece
 piece_where None = []
 piece_where (Some piece) = piece_of piece ∷ []
 
--- what a call that writes what is kept answers, where these pieces stood before and after it, and these elements were open: it wrote
+-- the answer of a call that writes kept pieces, where these pieces stood before and after it, and these elements were open: it wrote
 -- `pieces`, and `elements` are open afterwards; after an error nothing is changed
 pub record Keeps (result : Result Change WriteError) (before after : List Piece) (was now : List (List ℕ)) (pieces : List Piece) (elements : List (List ℕ)) : Type 0 where
   pub written : OnOk result (after ≡ before ++ pieces)
-  -- what was begun with the open elements can be undone, or ended
+  -- closing this many of the open elements takes the step back, or completes it
   pub undone : IfOk result (λ change. drop change.undo now ≡ was)
   pub done : IfOk result (λ change. drop change.close now ≡ elements)
   pub unchanged : OnErr result (after ≡ before)
   pub unopened : OnErr result (now ≡ was)
 
--- what a call that writes what is kept answers, by the shape of the page: it wrote `pieces`, and `elements` are open once that is
+-- the answer of a call that writes kept pieces, by the shape of the page: it wrote `pieces`, and `elements` are open once that is
 -- settled; after an error nothing is changed
 pub record Settles {Z : Type 0} (shape : Shape) (result : Result Pending WriteError) (before after : List Piece) (was now : Opened Z) (pieces : List Piece) (elements : List (List ℕ)) : Type 0 where
   pub written : OnOk result (after ≡ before ++ pieces)

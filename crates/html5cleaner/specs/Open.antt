@@ -12,7 +12,7 @@ unfoldable pub reach : List (List ℕ) → List ℕ → ℕ
 reach [] name = 0
 reach (inner ∷ opened) name = if bytes_eq inner name then 1 else suc (reach opened name)
 
--- how many an end tag of this name closes: those opened inside the innermost of its name, and that one; where none is open it closes none
+-- how many an end tag of this name closes: those opened inside the innermost of its name, and that one; if none is open it closes none
 unfoldable pub closed_by : List (List ℕ) → List ℕ → ℕ
 closed_by opened name = if is_open opened name then reach opened name else 0
 

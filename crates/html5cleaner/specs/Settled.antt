@@ -1,4 +1,4 @@
--- What is open, as code has it: by tags, or in a tree.
+-- The open elements, as code has them: by tags, or in a tree.
 use Rattle.std.specs.Prelude.{ℕ, List, drop}
 use Rattle.html5cleaner.specs.Shape.{Shape}
 use Rattle.html5cleaner.specs.Shape.Shape.{Tree}
@@ -15,7 +15,7 @@ names_in other o = o.tags
 abbrev innermost_closed : Nested → Nested
 innermost_closed nested = record nested { opened = drop 1 nested.opened }
 
--- what is open once a step is settled, or where it is undone
+-- the open elements once a step is settled, or once it is undone
 abbrev pub settled : {Z : Type 0} → Pending → Opened Z → Opened Z
 settled (Tags change) o = record o { tags = drop change.close o.tags }
 settled TreePending o = record o { tree = o.next; next = o.tree }

@@ -12,7 +12,7 @@ pub data Shape : Type 0 where
   AsKept : Shape
   -- each end tag closes the innermost open element, and at the end of the page none is open
   Balanced : Shape
-  -- a browser builds them so, and no more than so many are open
+  -- a browser builds them so, and no more than this many are open
   Tree : (limit : ℕ) → Shape
 
 -- with the rule `balance`, and without it

@@ -21,7 +21,7 @@ fn is_kept<A: Allocator>(policy: &Policy<A>, element: &str, attribute: &str, val
     policy.is_kept(element, attribute, value)
 }
 
-// Appends an attribute, where it is kept.
+// Appends an attribute, if it is kept.
 fn push_kept<'t, A: Allocator>(
     kept: &mut Vec<Written<'t>, A>,
     policy: &Policy<A>,

@@ -1,4 +1,4 @@
-//! What is written of what is kept, where each end tag closes the innermost open element.
+//! Output of kept pieces in which each end tag closes the innermost open element.
 ghost use Rattle.std.specs.Prelude.{◌≡◌, ◌++◌, ◌∷◌, [], OnErr, OnOk, IfOk, chars, encode_utf8_all, take};
 ghost use Rattle.html5write.specs.Writing.{piece_of};
 ghost use Rattle.html5cleaner.specs.Balance.{all_balanced, all_open_after, end_tags};
@@ -13,15 +13,15 @@ use html5elements::is_void;
 use html5write::{Piece, Writable, WriteError, Writer};
 use std::alloc::Allocator;
 
-/// What is left to be done with the elements that are open: closing so many of them undoes what was
-/// begun, and closing so many ends it.
+/// How a step on the open elements ends: closing the innermost `undo` of them takes it back, closing
+/// the innermost `close` completes it.
 #[derive(Clone, Copy, Debug, PartialEq, Eq)]
 pub struct Change {
     pub undo: usize,
     pub close: usize,
 }
 
-/// Nothing is left to be done.
+/// No step is left.
 pub const NO_CHANGE: Change = Change { undo: 0, close: 0 };
 
 // Whether an element of this name has no end tag, by its characters.
@@ -31,7 +31,7 @@ fn is_void_name(name: &str) -> bool
     is_void(name)
 }
 
-// Writes the end tags of so many of these names, the last first.
+// Writes the end tags of this many of these names, the last first.
 fn write_end_tags<A: Allocator + Copy>(
     page: &mut Writer<A>,
     names: &[String<A>],
@@ -52,8 +52,8 @@ fn write_end_tags<A: Allocator + Copy>(
     Ok(())
 }
 
-/// Writes what is kept of a run of text, and after it the end tags of so many of the open elements: all
-/// of it or nothing.
+/// Writes the kept part of a run of text, and after it the end tags of this many of the open
+/// elements: all of it or nothing.
 pub fn write_closed<A: Allocator + Copy>(
     alloc: A,
     opened: &OpenElements<A>,
@@ -73,8 +73,8 @@ pub fn write_closed<A: Allocator + Copy>(
     page.append(&part)
 }
 
-// Writes what is kept of a run of text, and a start tag of this name, which opens an element: all of it
-// or nothing.
+// Writes the kept part of a run of text, and a start tag of this name, which opens an element: all of
+// it or nothing.
 fn write_opened<A: Allocator + Copy>(
     opened: &mut OpenElements<A>,
     page: &mut Writer<A>,
@@ -97,7 +97,7 @@ fn write_opened<A: Allocator + Copy>(
     }
 }
 
-/// Writes what is kept of a run of text, and a piece after it, where no element is opened or closed.
+/// Writes the kept part of a run of text, and a piece after it, when no element is opened or closed.
 pub fn write_plain<A: Allocator + Copy>(
     page: &mut Writer<A>,
     run: &str,
@@ -111,7 +111,7 @@ pub fn write_plain<A: Allocator + Copy>(
     Ok(NO_CHANGE)
 }
 
-// Writes what is kept of a run of text and a tag after it, balanced: all of it or nothing.
+// Writes the kept part of a run of text and a tag after it, balanced: all of it or nothing.
 fn write_piece<A: Allocator + Copy>(
     alloc: A,
     opened: &mut OpenElements<A>,
@@ -144,7 +144,7 @@ fn write_piece<A: Allocator + Copy>(
     }
 }
 
-/// Writes what is kept of a run of text and of the tag after it, balanced: all of it or nothing.
+/// Writes the kept part of a run of text and of the tag after it, balanced: all of it or nothing.
 pub fn write_balanced<A: Allocator + Copy>(
     alloc: A,
     opened: &mut OpenElements<A>,

@@ -1,4 +1,4 @@
-//! A handler that keeps what is kept of a page until it is taken.
+//! A handler that buffers the kept part of a page until it is taken.
 ghost use Rattle.std.specs.Prelude.{◌≡◌, ◌≤◌, ◌++◌, ℕ, List, length, take, drop, min, OnOk, OnErr};
 ghost use Rattle.html5ever_interface.specs.Sink.{Message, stepped};
 ghost use Rattle.html5ever_interface.specs.Token.{told_by};
@@ -25,8 +25,8 @@ use outbox::Outbox;
 use std::alloc::{Allocator, Global};
 use std::marker::Model;
 
-/// What a buffer keeps of a page is what the policy keeps, and the messages of a page, or of a part of one, take nothing
-/// of what waits: more comes after it.
+/// What a buffer keeps of a page is what the policy keeps. The messages of a page, or of a part of one, take none of
+/// the waiting bytes: more come after them.
 pub fn buffers_clean_pages()
     ensures page { (policy : PolicyOf) (taken : ℕ) (references : List NamedReference) (bytes : List ℕ) →
         (runs_after buffered_step references (buffer_start policy taken) bytes).out.bytes
@@ -59,7 +59,7 @@ impl<A: Allocator> Model for CleanBuffer<A> {
     ghost invariant = { λ c. c.opened.tree.limit ≡ c.policy.depth };
 }
 
-// Puts out what is kept of a run of text and the token after it, all of it or nothing.
+// Puts out the kept part of a run of text and the token after it, all of it or nothing.
 fn put_kept<A: Allocator + Copy>(
     draft: &mut Draft<A>,
     policy: &Policy<A>,
@@ -110,14 +110,14 @@ impl<A: Allocator + Copy> CleanBuffer<A> {
 }
 
 impl<A: Allocator> CleanBuffer<A> {
-    /// The policy. What waits is gone.
+    /// The policy. The waiting bytes are dropped.
     pub fn into_policy(self) -> Policy<A>
         ensures { result ≡ self.policy }
     {
         self.policy
     }
 
-    /// What waits to be taken. It goes on waiting.
+    /// The bytes that wait to be taken. They go on waiting.
     pub fn waiting(&self) -> &[u8]
         ensures waiting { result.now ≡ waiting self.now.out }
         ensures within { self.now.out.taken ≤ length self.now.out.bytes }
@@ -125,7 +125,7 @@ impl<A: Allocator> CleanBuffer<A> {
         self.out.waiting()
     }
 
-    /// Takes as many bytes of what waits as there is room for, and copies them. It answers how many.
+    /// Takes as many waiting bytes as there is room for, and copies them. It answers how many.
     pub fn take(&mut self, into: &mut [u8]) -> usize
         ensures count { result ≡ min (length into.old) (length (waiting self.old.out)) }
         ensures copied { into.new ≡ take result (waiting self.old.out) ++ drop result into.old }

@@ -1,4 +1,4 @@
-//! A handler that prints what is kept of a page, as it arrives.
+//! A handler that prints the kept part of a page, as it arrives.
 ghost use Rattle.std.specs.Prelude.{◌≡◌, ◌++◌, [], OnOk, OnErr, string_bytes};
 ghost use Rattle.html5ever_interface.specs.Token.{told_by};
 ghost use Rattle.html5cleaner.specs.Balance.{is_end, open_by, written_by};
@@ -42,7 +42,7 @@ impl<W, A: Allocator> Model for CleanPrinter<W, A> {
     ghost invariant = { λ c. c.opened.tree.limit ≡ c.policy.depth };
 }
 
-// Prints what is kept of a run of text and the token after it, all of it or nothing.
+// Prints the kept part of a run of text and the token after it, all of it or nothing.
 fn print_kept<W: Target, A: Allocator + Copy>(
     draft: &mut Draft<A>,
     policy: &Policy<A>,
@@ -103,7 +103,7 @@ impl<W: Target, A: Allocator + Copy> CleanPrinter<W, A> {
         self
     }
 
-    /// The printer, with what was printed.
+    /// The printer, with its output.
     pub fn into_inner(self) -> Printer<W, A>
         ensures { result ≡ self.printer }
     {

@@ -1,4 +1,4 @@
-//! A handler that writes what is kept of a page.
+//! A handler that writes the kept part of a page.
 ghost use Rattle.std.specs.Prelude.{◌≡◌, ◌++◌, [], false, true};
 ghost use Rattle.std.specs.List.{list_all};
 ghost use Rattle.html5ever_interface.specs.Token.{tag_of, told_by};
@@ -77,7 +77,7 @@ impl<'p, A: Allocator + Copy> Cleaner<'p, A> {
     }
 }
 
-// Writes what is kept of a run of text and the tag after it, all of it or nothing.
+// Writes the kept part of a run of text and the tag after it, all of it or nothing.
 fn keep_tag<A: Allocator + Copy>(
     alloc: A,
     policy: &Policy<A>,
@@ -98,7 +98,7 @@ fn keep_tag<A: Allocator + Copy>(
     write_plain(page, run, tag)
 }
 
-// Writes what is kept of a run of text at the end of a page, all of it or nothing.
+// Writes the kept part of a run of text at the end of a page, all of it or nothing.
 fn keep_end<A: Allocator + Copy>(
     alloc: A,
     policy: &Policy<A>,
@@ -115,8 +115,8 @@ fn keep_end<A: Allocator + Copy>(
     Ok(Change { undo: 0, close })
 }
 
-// Writes what is kept of a run of text and the token after it, by its tags: all of it or nothing, where so
-// many elements hide what stands in them.
+// Writes the kept part of a run of text and the token after it, by its tags: all of it or nothing, when
+// this many elements hide their content.
 fn keep_by_tags<A: Allocator + Copy>(
     alloc: A,
     policy: &Policy<A>,
@@ -143,8 +143,8 @@ fn keep_by_tags<A: Allocator + Copy>(
     }
 }
 
-/// Writes what is kept of a run of text and the token after it, all of it or nothing, where so many
-/// elements hide what stands in them.
+/// Writes the kept part of a run of text and the token after it, all of it or nothing, when this many
+/// elements hide their content.
 pub fn keep_where<A: Allocator + Copy>(
     alloc: A,
     policy: &Policy<A>,

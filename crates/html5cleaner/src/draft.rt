@@ -1,4 +1,4 @@
-//! What is kept of one token, before it is put where it belongs.
+//! The kept part of one token, before it is put where it belongs.
 ghost use Rattle.std.specs.Prelude.{◌≡◌, []};
 ghost use Rattle.html5ever_interface.specs.Token.{told_by};
 ghost use Rattle.html5cleaner.specs.Balance.{is_end, open_by, written_by};
@@ -14,7 +14,7 @@ use html5policy::Policy;
 use html5write::{WriteError, Writer};
 use std::alloc::Allocator;
 
-/// What is kept of one run of text and the token after it. Its memory serves for the next ones.
+/// The kept part of one run of text and the token after it. Its memory serves for the next ones.
 #[derive(Drop)]
 pub struct Draft<A: Allocator> {
     alloc: A,
@@ -35,8 +35,8 @@ impl<A: Allocator + Copy> Draft<A> {
         self.alloc
     }
 
-    /// Keeps of a run of text and the token after it what is kept, and nothing of what was kept before, where so many
-    /// elements hide what stands in them.
+    /// Holds the kept part of a run of text and the token after it, and nothing from before, when this many
+    /// elements hide their content.
     pub fn keep(
         &mut self,
         policy: &Policy<A>,

@@ -44,7 +44,7 @@ fn run_fits<A: Allocator>(nesting: &Nesting<A>, run: &Option<Writable<'_>>) -> b
     }
 }
 
-// Whether a start tag of this name fits, where at most so many elements may be open.
+// Whether a start tag of this name fits, where at most this many elements may be open.
 fn fit_of_start_tag<A: Allocator>(nesting: &Nesting<A>, limit: usize, name: &str) -> Fit
     requires { limit ≡ nesting.now.limit }
     ensures { (attributes : List NameAndValue)
@@ -99,7 +99,7 @@ fn fit_of_tag<A: Allocator>(nesting: &Nesting<A>, limit: usize, tag: &Option<Wri
     }
 }
 
-/// Whether a run of text and the tag after it fit, where at most so many elements may be open.
+/// Whether a run of text and the tag after it fit, where at most this many elements may be open.
 pub fn fit_of<A: Allocator>(
     nesting: &Nesting<A>,
     limit: usize,

@@ -1,4 +1,4 @@
-//! What a policy hides: elements that are dropped with what stands in them.
+//! What a policy hides: elements that are dropped with their content.
 ghost use Rattle.std.specs.Prelude.{◌≡◌, ◌+◌, ◌^◌, ◌<◌};
 ghost use Rattle.html5ever_interface.specs.Token.{tag_of, told_by};
 ghost use Rattle.html5elements.specs.Hidden.{hidden_after, hidden_after_tag, hidden_of};
@@ -10,7 +10,7 @@ use html5policy::Policy;
 use std::alloc::Allocator;
 use std::mem;
 
-// Whether a tag begins an element that is dropped with what stands in it. The name of an end tag need not be looked up.
+// Whether a tag begins an element that is dropped with its content. The name of an end tag need not be looked up.
 fn opens<A: Allocator>(policy: &Policy<A>, tag: &Tag<A>) -> bool
     ensures { result ≡ opens policy.now (tag_of tag.now) }
 {

@@ -1,4 +1,4 @@
-//! What is written of what is kept, where it is made to fit.
+//! Output of kept pieces that are made to fit.
 ghost use Rattle.std.specs.Prelude.{◌≡◌, ◌++◌, chars, false, map, OnOk};
 ghost use Rattle.html5ever_interface.specs.Token.{tag_of, told_by};
 ghost use Rattle.html5nested.specs.PageItems.{items_of, items_of_piece};
@@ -60,7 +60,7 @@ fn write_end_tag<A: Allocator + Copy>(
     write_fitted(alloc, page, nesting, &Item::EndTag(name))
 }
 
-// Writes a piece so that it fits. A comment is none.
+// Writes a piece so that it fits. A comment has no items.
 fn write_piece<A: Allocator + Copy>(
     alloc: A,
     page: &mut Writer<A>,
@@ -79,7 +79,7 @@ fn write_piece<A: Allocator + Copy>(
     }
 }
 
-// Writes a piece so that it fits, where there is one.
+// Writes a piece so that it fits, if there is one.
 fn write_where<A: Allocator + Copy>(
     alloc: A,
     page: &mut Writer<A>,
@@ -94,7 +94,7 @@ fn write_where<A: Allocator + Copy>(
     }
 }
 
-// Writes a run of text and a tag so that they fit, and where the page ends after them closes what is open.
+// Writes a run of text and a tag so that they fit, and closes the open elements if the page ends after them.
 fn write_step<A: Allocator + Copy>(
     alloc: A,
     page: &mut Writer<A>,
@@ -187,8 +187,8 @@ fn write_within<A: Allocator + Copy>(
     }
 }
 
-// Writes what is kept of a run of text and the tag after it so that it fits, all of it or nothing, where these of the tag's
-// attributes are kept.
+// Writes the kept part of a run of text and the tag after it so that it fits, all of it or nothing, where these of the
+// tag's attributes are kept.
 fn keep_tag_with<A: Allocator + Copy>(
     alloc: A,
     policy: &Policy<A>,
@@ -210,7 +210,7 @@ fn keep_tag_with<A: Allocator + Copy>(
     write_within(alloc, policy.depth(), opened, page, &run, &tag)
 }
 
-// Writes what is kept of a run of text and the tag after it so that it fits, all of it or nothing. Most tags have no
+// Writes the kept part of a run of text and the tag after it so that it fits, all of it or nothing. Most tags have no
 // attribute.
 fn keep_tag<A: Allocator + Copy>(
     alloc: A,
@@ -232,8 +232,8 @@ fn keep_tag<A: Allocator + Copy>(
     keep_tag_with(alloc, policy, opened, page, run, tag, &attributes)
 }
 
-/// Writes what is kept of a run of text and the token after it so that it fits, all of it or nothing, where so many
-/// elements hide what stands in them.
+/// Writes the kept part of a run of text and the token after it so that it fits, all of it or nothing, when this many
+/// elements hide their content.
 pub fn keep_in_tree<A: Allocator + Copy>(
     alloc: A,
     policy: &Policy<A>,

@@ -1,4 +1,4 @@
-//! What is kept of a run of text and of a tag.
+//! The kept part of a run of text and of a tag.
 ghost use Rattle.std.specs.Prelude.{◌≡◌, ◌++◌, chars, encode_utf8_all, map, string_bytes, OnErr, OnOk};
 ghost use Rattle.html5ever_interface.specs.Token.{tag_of, told_by};
 ghost use Rattle.std.specs.List.{list_any};
@@ -23,7 +23,7 @@ pub fn is_end<A: Allocator>(token: &Token<A>) -> bool
     matches!(token, Token::EOFToken)
 }
 
-// The piece, where it can be written.
+// The piece, if it can be written.
 #[inline(always)]
 fn where_writable(piece: Piece<'_>) -> Option<Writable<'_>>
     ensures { piece_where result ≡ where_writable (piece_of piece.entry) }
@@ -62,7 +62,7 @@ fn end_piece(name: &str) -> Piece<'_>
     Piece::EndTag(name)
 }
 
-/// What is kept of a run of text.
+/// The kept part of a run of text.
 #[tactic(auto, unfolding(crate::specs::Clean::kept_of_run))]
 pub fn kept_run(run: &str) -> Option<Writable<'_>>
     ensures { piece_where result ≡ kept_of_run run.now }
@@ -73,7 +73,7 @@ pub fn kept_run(run: &str) -> Option<Writable<'_>>
     where_writable(Piece::Text(run))
 }
 
-// What is kept of a tag of this kind and name, where these are its attributes.
+// The kept part of a tag of this kind and name, where these are its attributes.
 #[tactic(auto, unfolding(crate::specs::Clean::kept_of_parts))]
 fn kept_of_parts<'t, A: Allocator>(
     policy: &Policy<A>,
@@ -119,7 +119,7 @@ fn is_lost_image<A: Allocator>(policy: &Policy<A>, tag: &Tag<A>) -> bool
     tag.name.0.as_str() == "img" && refuses_source(policy, &tag.attrs)
 }
 
-/// What is kept of a tag, where these of its attributes are kept.
+/// The kept part of a tag, where these of its attributes are kept.
 #[tactic(auto, unfolding(crate::specs::Clean::kept_of_tag))]
 pub fn kept_tag<'t, A: Allocator>(
     policy: &Policy<A>,
@@ -136,7 +136,7 @@ pub fn kept_tag<'t, A: Allocator>(
     kept_of_parts(policy, tag.kind, &tag.name.0, attributes)
 }
 
-// Writes a piece, where there is one: all of it or nothing.
+// Writes a piece, if there is one: all of it or nothing.
 fn write_where<A: Allocator + Copy>(
     page: &mut Writer<A>,
     piece: &Option<Writable<'_>>,
@@ -150,7 +150,7 @@ fn write_where<A: Allocator + Copy>(
     }
 }
 
-/// Writes what is kept, all of it or nothing.
+/// Writes kept pieces, all of them or none.
 pub fn write_kept<A: Allocator + Copy>(
     page: &mut Writer<A>,
     run: &Option<Writable<'_>>,

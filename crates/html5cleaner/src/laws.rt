@@ -43,10 +43,9 @@ use html5tree::laws::fits_in_host;
 use html5write::laws::{all_pieces, whole_text};
 use std::alloc::Allocator;
 
-/// By each policy a page of clean pieces, read with any table by any sink that keeps on after their tags, at
-/// once or after a pause, is read but for errors as exactly these pieces and the end. Each of their tokens
-/// is allowed: text, or a tag of an allowed element, with attributes that are kept and addresses that are
-/// safe.
+/// By each policy a page of clean pieces is read, except for errors, as exactly these pieces and the end. The table may
+/// be any, and the sink any that keeps on after their tags, at once or after a pause. Each of their tokens is allowed:
+/// text, or a tag of an allowed element, with attributes that are kept and addresses that are safe.
 pub fn cleaned_page<S: TokenSink<Token<A>>, A: Allocator>()
     ensures tokens { (policy : PolicyOf) (rules : Rules) (K : Start) (s : S.State) (pieces : List Piece)
         → IsReadBackClean {S = S.State} policy rules K S.means.reply pieces
@@ -58,8 +57,8 @@ pub fn cleaned_page<S: TokenSink<Token<A>>, A: Allocator>()
     whole_text::<S, A>();
 }
 
-/// Wherever it is put in a page, in Data and with no CR directly before it, such a page tells its pieces,
-/// and is read to where nothing is open: what follows it is read as it would be without it.
+/// Wherever it is put in a page, in Data and with no CR directly before it, such a page tells its pieces. It leaves
+/// nothing open: the text after it is read as it would be without it.
 pub fn cleaned_part<S: TokenSink<Token<A>>, A: Allocator>()
     ensures { (policy : PolicyOf) (rules : Rules) (K : Start) (s : S.State) (pieces : List Piece)
         → IsReadBackClean {S = S.State} policy rules K S.means.reply pieces
@@ -88,7 +87,7 @@ pub fn kept_pieces_are_clean()
 
 /// By a policy that balances, or makes a tree, each end tag of a page closes the innermost open element, and at
 /// the end of the page none is open. One that balances, and makes no tree, writes what the same policy without the
-/// rule writes, but for end tags.
+/// rule writes, except for end tags.
 pub fn balanced_page()
     ensures nested { (policy : PolicyOf) (references : List NamedReference) (text : List ℕ)
         → (policy.balance || policy.tree) ≡ true
@@ -99,9 +98,9 @@ pub fn balanced_page()
 {}
 
 /// By a policy with the rule `tree` each page fits at every item (`fits`), with no more elements open than the policy's
-/// depth (`within`). So the tree that is built of what is told where the page is read, by any table and a sink that
-/// follows the standard, is the nesting of its pieces (`tree`): their tags and texts, as `cleaned_page` says, are the
-/// policy's. A newline straight after the start tag of a `pre` is ignored, as tree construction does (`read_items`).
+/// depth (`within`). So the tree that is built of the page's messages, read by any table and a sink that follows the
+/// standard, is the nesting of its pieces (`tree`). Their tags and texts, as `cleaned_page` says, are the policy's. A
+/// newline straight after the start tag of a `pre` is ignored, as tree construction does (`read_items`).
 pub fn tree_of_cleaned_page<S: TokenSink<Token<A>>, A: Allocator>()
     ensures fits { (policy : PolicyOf) (references : List NamedReference) (text : List ℕ) → policy.tree ≡ true
         → all_fit [] (items_of (kept_of_page policy references text)) ≡ true }
@@ -143,12 +142,12 @@ pub fn cleaned_page_in_host()
     fits_in_host();
 }
 
-/// What the rule `tree` leaves out of what the same policy keeps without it, and what it adds (`Keeps`, of html5tree). All
-/// text is kept, and each start tag with its attributes, in one order. A start tag is left out only where it has no place
-/// (`has_place`): a part of a table outside one, or a form in another or straight in a table. End tags come and go. Start
-/// tags of `tbody`, `tr`, `colgroup`, `td`, `p` and `br` are added, without attributes. That is so where nowhere more elements
-/// would be open than the policy's depth, if any number could be, such as eight for each piece (`all`). Of any page a start
-/// tag may be left out, too, and of its text what is no white space (`some`).
+/// What the rule `tree` leaves out of what the same policy keeps without it, and what it adds (`Keeps`, of html5tree).
+/// All text is kept, and each start tag with its attributes, in one order. A start tag is left out only if it has no
+/// place (`has_place`): a part of a table outside one, or a form in another or straight in a table. End tags come and
+/// go. Start tags of `tbody`, `tr`, `colgroup`, `td`, `p` and `br` are added, without attributes. That is so where
+/// nowhere more elements would be open than the policy's depth, if any number could be, such as eight for each piece
+/// (`all`). Of any page a start tag may be left out, too, and of its text what is no white space (`some`).
 pub fn kept_in_tree()
     ensures all { (policy : PolicyOf) (references : List NamedReference) (text : List ℕ) (more : ℕ) → policy.tree ≡ true
         → policy.depth ≤ more → 8 * length (items_of (kept_of_page (without_tree policy) references text)) ≤ more
@@ -159,9 +158,9 @@ pub fn kept_in_tree()
 {}
 
 /// Cleaning twice by a policy changes nothing, whatever the table of each reading: what was kept of a text
-/// is kept again to the byte. Of what was printed of a page, or of a beginning of it, the same is printed
-/// again, and then the end tags of what is still open there: of a whole page, and by a policy that neither
-/// balances nor makes a tree, that is nothing.
+/// is kept again to the byte. Of the output for a page, or for a prefix of it, the same is printed again, and then the
+/// end tags of the elements still open there. There are none of a whole page, and none by a policy that neither
+/// balances nor makes a tree.
 pub fn cleaning_twice()
     ensures text { (policy : PolicyOf) (references others : List NamedReference) (text : List ℕ) → IsSound policy
         → IsTable others → page_bytes (kept_of_page policy others (page_bytes (kept_of_page policy references text)))

@@ -90,7 +90,7 @@ impl<A: Allocator + Copy> OpenElements<A> {
         }
     }
 
-    /// Closes so many of them, or all where there are fewer.
+    /// Closes this many of them, or all if there are fewer.
     pub fn close(&mut self, count: usize)
         ensures { self.new ≡ drop count self.old }
     {

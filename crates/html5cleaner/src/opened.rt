@@ -1,4 +1,4 @@
-//! What is open on a page.
+//! The open elements of a page.
 ghost use Rattle.std.specs.Prelude.{◌≡◌, []};
 ghost use Rattle.html5tree.specs.Nested.{nothing_nested};
 ghost use Rattle.html5cleaner.specs.Settled.{names_in, settled, undone};
@@ -10,22 +10,22 @@ use html5tree::nesting::Nesting;
 use std::alloc::Allocator;
 use std::mem;
 
-/// What is open on a page: by its tags, or in the tree that is built of it.
+/// The open elements of a page: by its tags, or in the tree that is built of it.
 #[derive(Drop)]
 pub struct Opened<A: Allocator> {
     pub tags: OpenElements<A>,
     pub tree: Nesting<A>,
-    /// What will be open in the tree, once what was written stands where it should.
+    /// The elements that will be open in the tree, once the output reached its place.
     pub next: Nesting<A>,
 }
 
-/// What is left to be done with what is open, once what was written stands where it should.
+/// The step on the open elements that is left, once the output reached its place.
 #[derive(Clone, Copy, Debug, PartialEq, Eq)]
 pub enum Pending {
     Tags(Change),
-    /// What will be open in the tree takes the place of what is.
+    /// The next open elements of the tree replace the current ones.
     Tree,
-    /// What is open stays open.
+    /// The open elements stay open.
     Nothing,
     /// The innermost element of the tree was opened.
     Opened,
@@ -34,7 +34,7 @@ pub enum Pending {
 }
 
 impl<A: Allocator + Copy> Opened<A> {
-    /// Nothing is open. In a tree at most so many elements will be.
+    /// Nothing is open. In a tree at most this many elements will be.
     pub fn none(alloc: A, limit: usize) -> Opened<A>
         ensures named { (shape : Shape) → names_in shape result ≡ [] }
         ensures tree { result.tree ≡ nothing_nested limit }
@@ -46,7 +46,7 @@ impl<A: Allocator + Copy> Opened<A> {
         }
     }
 
-    /// What was written stands where it should.
+    /// The output reached its place: completes the step.
     pub fn settle(&mut self, pending: Pending)
         ensures { self.new ≡ settled pending self.old }
     {
@@ -60,7 +60,7 @@ impl<A: Allocator + Copy> Opened<A> {
         }
     }
 
-    /// What was written is nowhere.
+    /// The output was dropped: takes the step back.
     pub fn undo(&mut self, pending: Pending)
         ensures { self.new ≡ undone pending self.old }
     {

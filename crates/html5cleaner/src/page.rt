@@ -15,7 +15,7 @@ use markup5ever::data::NamedReferences;
 use std::alloc::Allocator;
 
 /// Reads a page as it arrives, and keeps of it what a policy allows: of the whole page, or after an error of a
-/// beginning of it. `Cleaner::into_page` gives what was kept.
+/// prefix of it. `Cleaner::into_page` gives what was kept.
 pub fn clean_page<'p, R: Source, A: Allocator + Copy>(
     alloc: A,
     source: &mut R,

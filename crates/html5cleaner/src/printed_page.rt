@@ -18,15 +18,14 @@ use html5stream::{StreamError, read_tokens};
 use markup5ever::data::NamedReferences;
 use std::alloc::{Allocator, Global};
 
-/// The pieces that are kept of any messages, as those of a page or of a beginning of it, are clean, where a policy
-/// with the rule `tree` is sound, as each that is made is: so `laws::cleaned_page` says how what is printed of a page
-/// is read.
+/// The pieces that are kept of any messages, as those of a page or of a prefix of it, are clean, where a policy with
+/// the rule `tree` is sound, as each that is made is. So `laws::cleaned_page` says how the output for a page is read.
 pub fn prints_clean_pieces()
     ensures { (policy : PolicyOf) (M : List Message) → (policy.tree ≡ true → IsSound policy)
         → list_all (is_clean policy) (runs_handed clean_step (at_start policy) M).pieces ≡ true }
 {}
 
-// Reads a page, and prints what is kept of it, in the words of the handler.
+// Reads a page, and prints its kept part, in the words of the handler.
 fn read_printed<R: Source, W: Target, A: Allocator + Copy>(
     alloc: A,
     source: &mut R,
@@ -48,7 +47,7 @@ fn read_printed<R: Source, W: Target, A: Allocator + Copy>(
     read_tokens(alloc, source, cleaner.at_start(), references)
 }
 
-/// Reads a page, and prints as it arrives what is kept of it, after what was printed before.
+/// Reads a page, and prints its kept part as it arrives, after the earlier output.
 pub fn print_cleaned<R: Source, W: Target, A: Allocator + Copy>(
     alloc: A,
     source: &mut R,

@@ -1,4 +1,4 @@
--- What a call of the session below says of what was fed to the cleaner.
+-- What a call of the session below says of the bytes fed to the cleaner.
 use Rattle.std.proofs.Common.{◌≡◌, ℕ, Bool, true, false, List, [], ◌++◌, drop, Option, None, Some, Result, Ok, Err, String, string_bytes, refl, sym, ap, ◌∙◌, subst, inl, inr, append_assoc, take-append-drop}
 use Rattle.std.specs.Prelude.{◌-◌, ◌^◌, ◌||◌, IfErr, IfOk, IsOk, OnOk, codes, is_some, option_map, if◌then◌else◌}
 use Rattle.std.proofs.lemmas.Bool.{false≢true}
@@ -167,7 +167,7 @@ rest_text references old taken text at_once decoding (Rest before page was rest 
   silent = ap (λ (i : IntakeOf). i.fault) is ∙ was;
 }
 
--- what was fed was read by the session's own table
+-- the fed bytes were read by the session's own table
 table_is : (policy : PolicyOf) (references : List NamedReference) (s : CleaningOf) (bytes : List ℕ) → Fed policy references s bytes → s.references ≡ references
 table_is policy references s bytes fed = ap (λ (r : Rules). r.references) fed.rules
 
@@ -443,7 +443,7 @@ at_once-end (Err Over) s new at_once ends refused still = subst (λ (w : Cleanin
 
 -- ---- another page
 
--- where nothing was fed as UTF-8, nothing was fed to the session that has this decoder of a page at its start, if there is one
+-- when nothing was fed as UTF-8, nothing was fed to the session that has this decoder of a page at its start, if there is one
 fed_again : (policy : PolicyOf) (references : List NamedReference) (s : CleaningOf) (page : Option PageDecoding) (limit : ℕ) → s.intake.page ≡ None
     → Fed policy references s []
     → Fed policy references (record s { intake = record s.intake { limit = limit; page = option_map (λ d. page_start d.said d.fallback) page } }) []

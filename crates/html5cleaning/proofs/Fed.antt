@@ -1,4 +1,4 @@
--- What was fed to a session, from its start to its end, and that takes change nothing of it.
+-- The bytes fed to a session, from its start to its end, and that takes don't change them.
 use Rattle.std.proofs.Common.{◌≡◌, ℕ, false, List, [], ◌∷◌, ◌++◌, length, Option, None, Some, refl, sym, ap, ◌∙◌, subst, append_assoc, arith, length-append}
 use Rattle.std.specs.Prelude.{is_some}
 use Rattle.std.proofs.lemmas.Bool.{false≢true}
@@ -84,14 +84,14 @@ fed_text policy references old new before after text utf8 reads untaken same fed
     let now = reads_more policy references old new fed.text text utf8 reads untaken same (has_read policy references old before fed) in
     record { text = fed.text ++ text; parts = so_far; utf8 = now.utf8; stands = now.stands; rules = now.rules }
 
--- what was fed, what was held of it, and a piece, where a text of them was read
+-- the fed bytes, those held of them, and a piece, where a text of them was read
 pub fed_parts : (before text held bytes more rest : List ℕ) → before ≡ text ++ held → held ++ bytes ≡ more ++ rest → before ++ bytes ≡ (text ++ more) ++ rest
 fed_parts before text held bytes more rest was is =
     ap (λ l. l ++ bytes) was ∙ append_assoc text held bytes ∙ ap (λ l. text ++ l) is ∙ sym (append_assoc text more rest)
 
 -- ---- a take
 
--- so many bytes of what waits were taken
+-- this many of the waiting bytes were taken
 abbrev taking_run : ℕ → S → S
 taking_run count s = record s { joined = record s.joined { handler = after_taking s.joined.handler count } }
 
@@ -151,7 +151,7 @@ utf8_page i is = none i.page is where
   none None is = refl
   none (Some d) is = absurd (false≢true (sym is))
 
--- of bytes that are UTF-8, where nothing is held
+-- of bytes that are UTF-8, when nothing is held
 pub whole_utf8 : (references : List NamedReference) (i : IntakeOf) (bytes text : List ℕ) → i.page ≡ None → IsComplete i → IsTextSoFar references i bytes text
     → text ≡ whole_text references i bytes
 whole_utf8 references i bytes text utf8 complete so_far =

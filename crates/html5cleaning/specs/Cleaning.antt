@@ -38,11 +38,11 @@ waiting_in s = waiting (buffer_of s).out
 abbrev pub held_in_sink : CleaningOf → ℕ
 held_in_sink s = place_after (length s.detached.sink.run) (length (waiting_in s))
 
--- so many bytes more are within the limit
+-- this many bytes more are within the limit
 abbrev pub fits_in : CleaningOf → ℕ → Bool
 fits_in s more = has_room s.intake (held_in_sink s) more
 
--- so many bytes of those that wait were taken, and all else is as it was
+-- this many bytes of those that wait were taken, and all else is as it was
 abbrev pub after_session_takes : CleaningOf → ℕ → CleaningOf
 after_session_takes s count =
     record s { detached = record s.detached { sink = record s.detached.sink { handler = after_taking s.detached.sink.handler count } } }
@@ -56,10 +56,10 @@ cleaning_run s = record { joined = joined_of s.handler s.run; foreign = s.foreig
 abbrev pub buffer_means : Means (RunSink Buffered) (Running Buffered) (Unit {0})
 buffer_means = runs_means cleaning_run buffered_step
 
--- ---- what was fed, and what was kept of it
+-- ---- the fed bytes, and what was kept of them
 
--- exactly these bytes were fed, by this policy and this table: a text, whose reading the cleaner was sent as far as it is decided,
--- and after it what may begin a character; where the page is decoded, this text is what is decided of it by these bytes
+-- exactly these bytes were fed, by this policy and this table: a text, whose reading the cleaner was sent as far as it is decided, and
+-- after it what may begin a character. Where the page is decoded, this text is what these bytes decide of it
 pub record Fed (policy : PolicyOf) (references : List NamedReference) (s : CleaningOf) (bytes : List ℕ) : Type 0 where
   pub text : List ℕ
   pub parts : IsTextSoFar references s.intake bytes text
@@ -74,7 +74,7 @@ pub record Ended (policy : PolicyOf) (references : List NamedReference) (s : Cle
   pub utf8 : IsUtf8 (whole_text references s.intake bytes)
   pub page : (buffer_of s).out.bytes ≡ page_bytes (kept_of_page policy references (whole_text references s.intake bytes))
 
--- what was fed before a take was fed
+-- bytes fed before a take stay fed
 abbrev pub StaysFed : CleaningOf → CleaningOf → Type 0
 StaysFed old new = (policy : PolicyOf) (references : List NamedReference) (bytes : List ℕ) → Fed policy references old bytes → Fed policy references new bytes
 
@@ -89,7 +89,7 @@ abbrev pub EndsFed : CleaningOf → CleaningOf → Type 0
 EndsFed old new =
     (policy : PolicyOf) (references : List NamedReference) (bytes : List ℕ) → Fed policy references old bytes → Ended policy references new bytes
 
--- of the bytes that were fed and these a beginning was fed: all that stands before bytes that are no UTF-8
+-- of the bytes that were fed and these a prefix was fed: all that stands before bytes that are not UTF-8
 pub record FedUpTo (policy : PolicyOf) (references : List NamedReference) (s : CleaningOf) (bytes : List ℕ) : Type 0 where
   pub front : List ℕ
   pub rest : List ℕ
@@ -103,11 +103,11 @@ FedFront old new bytes =
 
 -- ---- what the calls do
 
--- where nothing was fed, nothing was fed to the session that decodes
+-- when nothing was fed, nothing was fed to the session that decodes
 abbrev pub DecodesFrom : CleaningOf → CleaningOf → Type 0
 DecodesFrom old new = (policy : PolicyOf) (references : List NamedReference) → Fed policy references old [] → Fed policy references new []
 
--- a page at its start, with nothing that was fed, kept or refused, which may hold so many bytes, and whose bytes this decoder takes, if
+-- a page at its start, with nothing that was fed, kept or refused, which may hold this many bytes, and whose bytes this decoder takes, if
 -- there is one
 pub record StartsPage (policy : PolicyOf) (references : List NamedReference) (limit : ℕ) (page : Option PageDecoding) (s : CleaningOf) : Type 0 where
   pub fed : Fed policy references s []
@@ -116,24 +116,25 @@ pub record StartsPage (policy : PolicyOf) (references : List NamedReference) (li
   pub intake : s.intake ≡ record nothing_taken { limit = limit; page = page }
   pub going_on : is_over s ≡ false
 
--- between two calls nothing waits to be read, and no fault is still to be said: no reply of the cleaner pauses
+-- between two calls nothing waits to be read, and no fault is still to be reported: no reply of the cleaner pauses
 pub record ReadsAtOnce (i : IntakeOf) : Type 0 where
   pub read : i.text ≡ []
   pub no_fault : i.fault ≡ false
 
--- a piece was fed, as the session below feeds it up to no pause. What waited waits on, and what is kept of the piece comes after it.
+-- a piece was fed, as the session below feeds it up to no pause. The waiting bytes stay, and the kept part of the piece comes after them.
 pub record FeedsPiece (old new : CleaningOf) (bytes : List ℕ) : Type 0 where
   pub fed : FedMore old new bytes
   pub feeds : session.FeedsPiece buffer_means old new (Bytes bytes) KeepOn
   pub waits : WaitsOn (buffer_of old) (buffer_of new)
 
--- a piece was fed up to bytes in it that are no UTF-8. What waited waits on, and what is kept of what stands before them comes after it.
+-- a piece was fed up to bytes in it that are not UTF-8. The waiting bytes stay, and the kept part of the text before the fault comes after
+-- them.
 pub record SaysFault (old new : CleaningOf) (bytes : List ℕ) (place : ℕ) : Type 0 where
   pub fed : FedFront old new bytes
   pub says : session.SaysFault buffer_means old new (Bytes bytes) place
   pub waits : WaitsOn (buffer_of old) (buffer_of new)
 
--- a piece was lost to want of memory. What waited waits on, and maybe a beginning of what is kept of the piece comes after it.
+-- memory ran out, and a piece was lost. The waiting bytes stay, and maybe a prefix of the kept part of the piece comes after them.
 pub record LosesPiece (old new : CleaningOf) (bytes : List ℕ) : Type 0 where
   pub loses : session.LosesPiece buffer_means old new (Bytes bytes)
   pub waits : WaitsOn (buffer_of old) (buffer_of new)
@@ -147,8 +148,8 @@ FeedRefused old new bytes Waiting = ⊥
 FeedRefused old new bytes ItemOpen = ⊥
 FeedRefused old new bytes Over = StaysOver old new
 
--- The page ended: where it is no page that is decoded, nothing was held of a character. What waited waits on, with the rest of what is
--- kept after it.
+-- The page ended: unless the page is decoded, nothing was held of a character. The waiting bytes stay, with the rest of the kept part
+-- after them.
 pub record EndsPage (old new : CleaningOf) : Type 0 where
   pub ended : EndsFed old new
   pub waits : WaitsOn (buffer_of old) (buffer_of new)
@@ -157,7 +158,7 @@ pub record EndsPage (old new : CleaningOf) : Type 0 where
   pub references : new.references ≡ old.references
   pub over : is_over new ≡ true
 
--- the end was lost to want of memory. What waited waits on, and maybe a beginning of the rest comes after it.
+-- memory ran out, and the end was lost. The waiting bytes stay, and maybe a prefix of the rest comes after them.
 pub record LosesEnd (old new : CleaningOf) : Type 0 where
   pub loses : session.LosesEnd buffer_means old new
   pub waits : WaitsOn (buffer_of old) (buffer_of new)
@@ -168,15 +169,15 @@ pub record LosesAfterRest (old new : CleaningOf) : Type 0 where
   pub reads : session.FeedsPiece buffer_means old between TheEnd KeepOn
   pub loses : session.LosesEnd buffer_means between new
 
--- of a page that is decoded the rest of the text was lost, or the end after it. What waited waits on, and maybe a beginning of the rest of
--- what is kept comes after it.
+-- of a page that is decoded the rest of the text was lost, or the end after it. The waiting bytes stay, and maybe a prefix of the rest of
+-- the kept part comes after them.
 pub record LosesRest (old new : CleaningOf) : Type 0 where
   pub loses : session.LosesPiece buffer_means old new TheEnd ⊎ LosesAfterRest old new
   pub waits : WaitsOn (buffer_of old) (buffer_of new)
   pub references : new.references ≡ old.references
   pub over : is_over new ≡ true
 
--- the end was refused for want of memory: it is lost or, of a page that is decoded, may have changed nothing
+-- the end was refused, out of memory: it is lost or, of a page that is decoded, may have changed nothing
 abbrev pub EndWantsMemory : Bool → CleaningOf → CleaningOf → Type 0
 EndWantsMemory false old new = LosesEnd old new
 EndWantsMemory true old new = (new ≡ old) ⊎ LosesRest old new

@@ -17,7 +17,7 @@ use markup5ever::tokenizer_result::TokenizerResult;
 use std::alloc::{Allocator, Global};
 use std::marker::Model;
 
-/// A page that is cleaned as its bytes arrive, and what is kept of it, which waits until it is taken.
+/// A page that is cleaned as its bytes arrive, and its kept part, which waits until it is taken.
 #[derive(Drop)]
 pub struct CleaningSession<A: Allocator = Global> {
     alloc: A,
@@ -50,7 +50,7 @@ fn done<A: Allocator>(
 }
 
 impl<A: Allocator> CleaningSession<A> {
-    /// Whether nothing more is read: a call failed, or the page has ended. What was kept can still be taken.
+    /// Whether nothing more is read: a call failed, or the page has ended. The kept bytes can still be taken.
     pub fn is_over(&self) -> bool
         ensures { result ≡ is_over self.now }
     {
@@ -64,8 +64,9 @@ impl<A: Allocator> CleaningSession<A> {
         self.session.error_at()
     }
 
-    /// Whether a piece of so many bytes is within the limit (`set_limit`). What is held counts: the text that came since
-    /// all was read and nothing was open, the run of text that no tag has ended yet, and what waits to be taken.
+    /// Whether a piece of this many bytes is within the limit (`set_limit`). Three held things count: the text that
+    /// came since all was read and nothing was open, the run of text that no tag has ended yet, and the bytes that wait
+    /// to be taken.
     pub fn has_room(&self, more: usize) -> bool
         ensures { result ≡ fits_in self.now more }
     {
@@ -95,7 +96,7 @@ impl<A: Allocator> CleaningSession<A> {
         self.session.encoding()
     }
 
-    // Takes the next bytes of what was kept.
+    // Takes the next bytes of the kept part.
     fn take_bytes(&mut self, into: &mut [u8]) -> usize
         ensures count { result ≡ min (length into.old) (length (waiting_in self.old)) }
         ensures copied { into.new ≡ take result (waiting_in self.old) ++ drop result into.old }
@@ -104,8 +105,8 @@ impl<A: Allocator> CleaningSession<A> {
         self.session.detached.sink.handler_mut().take(into)
     }
 
-    /// Takes the next bytes of what was kept, as many as wait and as there is room for. It answers how many. A character
-    /// may be cut in two: what is left of it comes first at the next call.
+    /// Takes the next bytes of the kept part, as many as wait and as there is room for. It answers how many. A
+    /// character may be cut in two: what is left of it comes first at the next call.
     pub fn take(&mut self, into: &mut [u8]) -> usize
         ensures count { result ≡ min (length into.old) (length (waiting_in self.old)) }
         ensures copied { into.new ≡ take result (waiting_in self.old) ++ drop result into.old }
@@ -136,8 +137,9 @@ impl<A: Allocator + Copy> CleaningSession<A> {
         self.session.set_page_decoder(page);
     }
 
-    /// Decodes the page by the encoding that it is in, where this one is said of it, as by a header of the transport:
-    /// as a browser determines it. Then no bytes are refused, and those that are none of the encoding give U+FFFD.
+    /// Decodes the page by the encoding that it is in, as a browser determines it, where this one is declared for it,
+    /// as by a header of the transport. Then no bytes are refused, and those that are invalid in the encoding give
+    /// U+FFFD.
     pub fn decode_page(&mut self, said: Option<Encoding>)
         requires { IsUnbegun self.old.intake }
         ensures decodes { self.new ≡ record self.old { intake = record self.old.intake { page = Some (page_start said None) } } }
@@ -147,7 +149,7 @@ impl<A: Allocator + Copy> CleaningSession<A> {
     }
 
     /// A session at the start of another page, by the same policy, table and limit, whose bytes are decoded as those of
-    /// this one. What was kept and not taken is gone.
+    /// this one. Kept bytes that were not taken are gone.
     pub fn restart(self) -> CleaningSession<A>
         ensures { StartsPage (buffer_of self).policy self.references self.intake.limit (page_again self.intake) result }
     {
@@ -163,7 +165,7 @@ impl<A: Allocator + Copy> CleaningSession<A> {
 
     /// Takes a piece of the page, cut anywhere, and reads on.
     ///
-    /// Where bytes of the piece are no UTF-8, those before them are taken and read, and then the answer is `NotUtf8`.
+    /// Where bytes of the piece are not UTF-8, those before them are taken and read, and then the answer is `NotUtf8`.
     /// After `Memory` the session is as it was, or it is over and the piece is lost.
     pub fn feed(self, bytes: &[u8]) -> (CleaningSession<A>, Result<(), SessionError>)
         ensures feeds { OnOk result.1 (FeedsPiece self result.0 bytes.now) }
@@ -206,10 +208,10 @@ impl<A: Allocator + Copy> CleaningSession<A> {
         (CleaningSession { alloc, session }, result)
     }
 
-    /// Ends the page. The rest of what is kept of it can then be taken.
+    /// Ends the page. The rest of its kept part can then be taken.
     ///
-    /// After `Cut` all is as it was: the rest of a character may be fed. After `Memory` the session is over or, where a page
-    /// is decoded, as it was.
+    /// After `Cut` all is as it was: the rest of a character may be fed. After `Memory` the session is over or, where a
+    /// page is decoded, as it was.
     pub fn end(self) -> (CleaningSession<A>, Result<(), SessionError>)
         ensures ends { OnOk result.1 (EndsPage self result.0) }
         ensures refused { IfErr result.1 (λ error. EndRefused self result.0 error) }

@@ -33,7 +33,7 @@ Appends-nothing known = Appends-kept known known (Keeps-same known)
 pub AppendsBeginning-nothing : (known : Option (List ℕ)) (all : List ℕ) → 0 < length all → AppendsBeginning known known all
 AppendsBeginning-nothing known all some = AppendsBeginning-stopped known known known all [] all refl some (Appends-nothing known) (Appends-nothing known)
 
--- a front was written, and then a beginning of the output after it
+-- a front was written, and then a prefix of the output after it
 pub AppendsBeginning-after : (before between after : Option (List ℕ)) (all front output more : List ℕ) → all ≡ (front ++ output) ++ more
     → Appends before between front → AppendsBeginning between after output → AppendsBeginning before after all
 AppendsBeginning-after before between after all front output more parts written (n, short, begun) =
@@ -183,7 +183,7 @@ FedTo-short before after first now text start queue fed utf8 K p X stands =
     (omega (arith, length-append now.sink.output.lines longer.more, longer.some))
     fed.prints.written (Appends-nothing after)
 
--- a beginning of the output was written
+-- a prefix of the output was written
 pub FedTo-unwritten : (before between after : Option (List ℕ)) (first now : Tokenizing Printer) (text : List ℕ) (start : ℕ) (queue : TextQueue)
     → FedTo before between first now text start queue → IsUtf8 text → AppendsBeginning between after now.sink.output.lines
     → PrintsShort before after first (chars text)

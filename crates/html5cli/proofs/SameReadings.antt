@@ -74,7 +74,7 @@ told-same rules K p q X same =
     ∙ ap (λ (t : Trace). t.messages) (trace-same rules p q (line_after K.input []) K.last_start_tag K.opened (normalised K.input X) same)
     ∙ sym (told-trace output_step output_reply output_foreign rules K q X)
 
--- and the start of what follows it
+-- and the start after it
 pub start-same : (rules : Rules) (K : Start) (p q : Output) (X : List ℕ) → p.foreign ≡ q.foreign
     → start_after printer_means rules K p X ≡ start_after printer_means rules K q X
 start-same rules K p q X same =

@@ -48,7 +48,7 @@ said_after-value s w v W no_flag = rw no_flag refl
 differs : (w p : List ℕ) → w ≢ p → bytes_eq w p ≡ false
 differs w p n = false_from_ne_true (bytes_eq w p) (λ e. n ((bytes_eq-Decides w p).0 e))
 
--- a word that is none of those that stand alone or have a value
+-- a word that is not among those that stand alone or have a value
 pub record IsUnknown (w : List ℕ) : Type 0 where
   pub no_exact : w ≢ codes "--exact"
   pub no_keep_bom : w ≢ codes "--keep-bom"

@@ -23,7 +23,7 @@ IsCut-step text rest len c width utf8 cut e measured =
 pub IsCut-front : (text : List ℕ) (at_byte : ℕ) → IsUtf8 text → IsCut text at_byte → IsUtf8 (take at_byte text)
 IsCut-front text at_byte utf8 cut = IsUtf8-take text at_byte utf8 (IsCharBoundary-from_drop text at_byte cut.within cut.rest_utf8)
 
--- a place in what follows a cut is a place of the text
+-- a place in the text after a cut is a place of the whole text
 pub IsCut-further : (text rest : List ℕ) (start len : ℕ) → IsCut text start → rest ≡ drop start text → len ≤ length rest → IsUtf8 (drop len rest)
     → IsCut text (start + len)
 IsCut-further text rest start len cut e within utf8 = record {

@@ -103,7 +103,7 @@ module _ (R : Rules) (K : Start) where
 -- ---- an output of which a front was written
 
 module _ (R : Rules) (K : Start) (p : Output) (text : List ℕ) where
-  -- where what follows the text is read from
+  -- the start after the text
   abbrev begins : Start
   begins = start_after printer_means R K p text
 
@@ -135,7 +135,7 @@ module _ (R : Rules) (K : Start) (p : Output) (text : List ℕ) where
         ∙ ap (λ s. stepped output_step s E) is_told
         ∙ sym (ap (stepped output_step p) (whole-parts R K p text) ∙ stepped-append output_step p (messages_so_far printer_means R K p text) E)
 
-  -- after the whole reading of a text there is more on the output than what a beginning of the text decides
+  -- after the whole reading of a text there is more on the output than what a prefix of the text decides
   pub decided-short : (rest : List ℕ) → IsLonger (state_at_end printer_means R K p (text ++ rest)).lines (state_after printer_means R K p text).lines
   decided-short rest =
       let s : Output = state_after printer_means R K p text in

@@ -40,7 +40,7 @@ failures_of Usage = 0
 failures_of (NoTable error) = 0
 failures_of (Faulted fault) = device_failures fault
 
--- a device's known bytes grow by the line, or a write failed after a beginning of it, and none was tried again
+-- a device's known bytes grow by the line, or a write failed after a prefix of it, and none was tried again
 abbrev pub TriesLine : {E : Type 0} → (E → Option (List ℕ)) → (E → ℕ) → E → E → List ℕ → Type 0
 TriesLine contents failures before after line =
     ((failures after ≡ failures before) × Appends (contents before) (contents after) line)
@@ -65,6 +65,6 @@ SayBadTable words = IsSomeAnd (settings_said words) (λ settings. IsSome (first_
 abbrev pub PrintsAsSaid : List (List ℕ) → Traffic → Type 0
 PrintsAsSaid words known = IsSomeAnd (settings_said words) (λ settings. PrintsReading settings (table_of settings.table) known)
 
--- the same, but only a beginning was printed
+-- the same, but only a prefix was printed
 abbrev pub PrintsBeginningAsSaid : List (List ℕ) → Traffic → Type 0
 PrintsBeginningAsSaid words known = IsSomeAnd (settings_said words) (λ settings. PrintsBeginning settings (table_of settings.table) known)

@@ -49,7 +49,7 @@ pub record PrintsOn (before after : Option (List ℕ)) (old new : Tokenizing Pri
   pub written : Appends before after front
   pub reads : ReadsOn printer_means old (after_written front new) more
 
--- from wherever the tokenizer stood, a beginning of the output after the whole reading was written, and not all of it
+-- from wherever the tokenizer stood, a prefix of the output after the whole reading was written, and not all of it
 abbrev pub PrintsShort : Option (List ℕ) → Option (List ℕ) → Tokenizing Printer → List ℕ → Type 0
 PrintsShort before after old more =
     (K : Start) (output : Output) (text : List ℕ) → StandsAt printer_means old K output text
@@ -97,7 +97,7 @@ pub record PrintsItems (settings : SettingsOf) (references : List NamedReference
   pub items : Items printer_means (rules_of settings.opts references) (start_of settings.opts) (blank_output settings.foreign) (chars bytes) tells ends
   pub printed : Appends known.written known.after (printed (tells ++ ends))
 
--- the same as the printed reading, but only a beginning was written
+-- the same as the printed reading, but only a prefix was written
 pub record PrintsBeginning (settings : SettingsOf) (references : List NamedReference) (known : Traffic) : Type 0 where
   pub bytes : List ℕ
   pub consumed : Consumes known.unread known.left bytes

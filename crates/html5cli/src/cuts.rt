@@ -49,7 +49,7 @@ fn place_after(text: &str, from: usize, count: usize) -> usize
     bytes.len()
 }
 
-// How many bytes the first `count` characters take, or all where there are fewer.
+// How many bytes the first `count` characters take, or all if there are fewer.
 fn prefix_len(text: &str, count: usize) -> usize
     requires filled { 0 < length text.now }
     requires some { 0 < count }

@@ -14,8 +14,8 @@ use markup5ever::buffer_queue::BufferQueue;
 use std::alloc::Allocator;
 use token_printer::print_sink::PrintSink;
 
-// Feeds one piece of the text, past its pauses. Where that is refused memory was: no call was refused before, and the
-// sink faults for want of memory alone.
+// Feeds one piece of the text, past its pauses. It is refused only when out of memory: no call was refused before,
+// and the sink faults for no other reason.
 #[inline(always)]
 fn feed_piece<A: Allocator + Copy>(
     tokenizer: &mut Tokenizer<'_, PrintSink<A>, A>,
@@ -39,8 +39,8 @@ fn feed_piece<A: Allocator + Copy>(
     }
 }
 
-/// Feeds the text, cut into pieces of so many characters, and 0 stands for a number of its own. After a piece the
-/// output is written if it is full. What is left on it at the end is the caller's to write.
+/// Feeds the text, cut into pieces of this many characters, and 0 stands for a number of its own. After a piece
+/// the output is written if it is full. What is left on it at the end is the caller's to write.
 pub fn feed_text<W: Target, A: Allocator + Copy>(
     alloc: A,
     tokenizer: &mut Tokenizer<'_, PrintSink<A>, A>,

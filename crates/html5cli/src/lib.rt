@@ -1,4 +1,4 @@
-//! The program `html5tok`, but for its `main`: its words, its settings, and a run of it over any
+//! The program `html5tok`, except for its `main`: its words, its settings, and a run of it over any
 //! devices.
 #![tactic(auto)]
 

@@ -28,7 +28,7 @@ pub fn write_output<W: Target, A: Allocator>(
 // How many bytes wait on an output before it is written.
 const OUTPUT: usize = 65_536;
 
-/// Writes the output and clears it, where it is full.
+/// Writes the output and clears it, if it is full.
 pub fn write_full_output<W: Target, A: Allocator>(
     writer: &mut W,
     sink: &mut PrintSink<A>,

@@ -105,8 +105,8 @@ fn line_at(text: &str, place: usize) -> ArrayString<LONGEST_LINE>
     line
 }
 
-/// The words after the program's name, or how a run without them ends: words that are no text are
-/// none that it knows.
+/// The words after the program's name, or how a run without them ends: the program knows no words
+/// that are not text.
 pub fn given_words<R: Env + Alloc>(rt: &R) -> Result<Vec<String<R::A>, R::A>, Ending>
     ensures { IfErr result (λ ending. (ending ≡ Ending.Usage) ⊎ (ending ≡ Ending.Faulted Fault.Memory)) }
 {

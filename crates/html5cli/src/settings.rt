@@ -12,9 +12,9 @@ use std::alloc::{AllocError, Allocator};
 pub struct Settings<'w> {
     /// Report every bad character, and name no state in error messages.
     pub exact_errors: bool,
-    /// Drop U+FEFF where it is the first character.
+    /// Drop U+FEFF if it is the first character.
     pub discard_bom: bool,
-    /// The state to start in, where it is not `Data`.
+    /// The state to start in, if it is not `Data`.
     pub initial_state: Option<State>,
     /// The name of the start tag before the input, where one is given.
     pub last: Option<&'w str>,
@@ -26,7 +26,7 @@ pub struct Settings<'w> {
     pub table: &'w str,
 }
 
-// The name as a text of its own, where there is one.
+// The name as a text of its own, if there is one.
 fn owned<A: Allocator>(alloc: A, name: Option<&str>) -> Result<Option<String<A>>, AllocError>
     ensures { IfOk result (λ owned. option_map string_bytes owned
         ≡ option_map (λ name. name.now) name.entry) }

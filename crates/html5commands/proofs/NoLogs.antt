@@ -1,4 +1,4 @@
--- No log of SARIF is asked for where none is a format.
+-- No log of SARIF is asked for by a command without that format.
 use Rattle.std.proofs.Common.{◌≡◌, ℕ, Bool, true, false, List, Option, None, Some, codes, subst, sym}
 use Rattle.std.specs.Prelude.{◌&&◌, if◌then◌else◌}
 use Rattle.std.specs.Str.{bytes_eq}

@@ -97,7 +97,7 @@ abbrev pub command_named : List (List ℕ) → Option Named
 command_named [] = None
 command_named (word ∷ words) = named_by words (command_of word)
 
--- a word that is no command, and asks for no text
+-- a word that is not a command, and asks for no text
 pub record IsUnknownWord (word : List ℕ) : Type 0 where
   pub no_command : command_of word ≡ None
   pub no_help : bytes_eq word (codes "--help") ≡ false
@@ -142,7 +142,7 @@ format_named logs word =
     else if logs && bytes_eq word (codes "sarif") then Some Sarif
     else None
 
--- lines, where no name is given
+-- lines, if no name is given
 abbrev pub format_of : Bool → Option (List ℕ) → Option Format
 format_of logs None = Some Lines
 format_of logs (Some word) = format_named logs word
@@ -195,13 +195,13 @@ check_made_json = check_made (λ found file located. finding_lines file located)
 abbrev pub check_made_log : Making CheckSettings Located Checks
 check_made_log = check_made results_of log_ended
 
--- they ask for no text and none is wrong, but the template language that they name is none
+-- they ask for no text and none is wrong, but the template language that they name is unknown
 pub record NamesNoTemplate (asked : Asked) : Type 0 where
   pub no_text : AsksNoText asked
   pub no_wrong : IsNone asked.wrong
   pub unknown : check_settings_said asked None ≡ None
 
--- the policy of a text, or where there is none the standard policy
+-- the policy of a text, or the standard policy if there is none
 abbrev pub settings_by : Option (List ℕ) → Option PolicySettings
 settings_by text = option_map (λ policy. record { policy = policy }) (policy_by text)
 
@@ -222,7 +222,7 @@ no_settings asked text = Some tt
 abbrev pub policy_settings : Asked → Option (List ℕ) → Option PolicySettings
 policy_settings asked text = settings_by text
 
--- they ask for no text and none is wrong, but the URL that they give is none
+-- they ask for no text and none is wrong, but the URL that they give is not one
 pub record NamesNoBase (asked : Asked) : Type 0 where
   pub no_text : AsksNoText asked
   pub no_wrong : IsNone asked.wrong

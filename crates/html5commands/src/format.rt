@@ -25,7 +25,7 @@ pub enum Format {
     Sarif,
 }
 
-// What is said of a word that is no format, where a log of SARIF is one or not.
+// The error for a word that is not a format, where a log of SARIF is one or not.
 fn no_format(logs: bool) -> &'static str {
     if logs {
         "no such format: lines, json or sarif"
@@ -68,8 +68,8 @@ fn is_for_no_page(asked: &Words<'_>) -> bool
         || asked.has("--print-policy")
 }
 
-// The format to print pages in, or how a run ends where there is none. What it is where words are wrong, or ask for a
-// text, doesn't matter.
+// The format to print pages in, or how a run ends if there is none. If words are wrong, or ask for a text, its value
+// doesn't matter.
 fn format_by_words<E: Target>(
     alloc: Global,
     logs: bool,

@@ -8,7 +8,7 @@ use Rattle.html5edit.specs.Asked.{changes_said, no_changes, said_after}
 use Rattle.html5edit.specs.Changes.{Changes}
 use Rattle.html5programs.specs.Words.{AskedOption}
 
--- where none was taken
+-- when none was taken
 pub said-none : (given : List AskedOption) (count : ℕ) → count ≡ length given → changes_said (drop (count - 0) given) ≡ Some no_changes
 unfolding changes_said
 said-none given count all = ap changes_said (drop_of_length-le given (omega (arith, all)))

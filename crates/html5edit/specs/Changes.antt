@@ -13,7 +13,7 @@ use Rattle.html5reading.specs.Characters.{is_white_space}
 use Rattle.html5rewrite.specs.Edits.{value_of, with_attribute, without_attribute}
 use Rattle.url.specs.Parts.{Parts, serialize}
 
--- an attribute of each element of a name: the value that it is set to, or none where it is removed
+-- an attribute of each element of a name: the value that it is set to, or none if it is removed
 pub record AttributeRule : Type 0 where
   pub element : List ℕ
   pub attribute : List ℕ
@@ -22,7 +22,7 @@ pub record AttributeRule : Type 0 where
 pub record Changes : Type 0 where
   -- in this order
   pub rules : List AttributeRule
-  -- elements that are dropped with what stands in them
+  -- elements that are dropped with their content
   pub dropped : List (List ℕ)
   -- whether links and forms with a target get `noopener`
   pub noopener : Bool
@@ -32,7 +32,7 @@ pub record Changed : Type 0 where
   pub tag : TagOf
   pub is_changed : Bool
 
--- a tag as it is written
+-- an unchanged tag
 abbrev pub as_written : TagOf → Changed
 as_written tag = record { tag = tag; is_changed = false }
 
@@ -77,7 +77,7 @@ abbrev pub with_link : Bases → Option (List ℕ) → Changed → Changed
 with_link bases None c = c
 with_link bases (Some attribute) c = with_address bases attribute (value_of attribute c.tag.attributes) c
 
--- where there is a base, the address of a link is the URL to which it leads
+-- if there is a base, the address of a link is the URL to which it leads
 abbrev pub absolute : Bases → Changed → Changed
 absolute bases c = with_link bases (link_attribute c.tag.name) c
 

@@ -36,7 +36,7 @@ edits_of_changed c = if c.is_changed then record { run = Keep; token = Replace (
 abbrev pub edits_of_tag : Editing → TagOf → EditsOf
 edits_of_tag s tag = if is_dropped s.changes tag.name then token_dropped else (edits_of_changed (changed_tag s.changes s.bases tag))
 
--- where nothing is dropped: tags alone are edited
+-- when nothing is dropped: tags alone are edited
 abbrev pub edits_shown : Editing → Told → EditsOf
 edits_shown s (Tag tag) = edits_of_tag s tag
 edits_shown s other = no_edits
@@ -44,7 +44,7 @@ edits_shown s other = no_edits
 abbrev pub edits_of : Editing → Told → EditsOf
 edits_of s told = if s.hidden.depth == 0 then (edits_shown s told) else both_dropped
 
--- whether a tag begins an element that is dropped with what stands in it
+-- whether a tag begins an element that is dropped with its content
 abbrev pub opens : Changes → TagOf → Bool
 opens changes tag = is_dropped changes tag.name && has_content tag
 

@@ -86,7 +86,7 @@ impl Changes {
         &self.rules
     }
 
-    /// Whether elements of this name are dropped with what stands in them.
+    /// Whether elements of this name are dropped with their content.
     pub fn drops(&self, name: &str) -> bool
         ensures { result ≡ is_dropped self.now name.now }
     {

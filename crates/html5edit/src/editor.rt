@@ -73,7 +73,7 @@ impl<'s> Editor<'s> {
         })
     }
 
-    // What becomes of a tag, where nothing is dropped.
+    // What happens to a tag, when nothing is dropped.
     fn edits_of_tag(&self, tag: Tag) -> Result<Edits, AllocError>
         ensures { IfOk result (λ edits. edits_by edits ≡ edits_of_tag (editing_of self.now) (tag_of tag)) }
     {
@@ -84,7 +84,7 @@ impl<'s> Editor<'s> {
         edits_of_changed(self.alloc, &changed)
     }
 
-    // What becomes of a token, and of the run before it.
+    // What happens to a token, and to the run before it.
     fn edits_of(&self, token: Token) -> Result<Edits, AllocError>
         ensures { IfOk result (λ edits. edits_by edits ≡ edits_of (editing_of self.now) (told_by token)) }
     {
@@ -157,7 +157,7 @@ impl<'s> Editor<'s> {
         }
     }
 
-    // What becomes of a token, and what it changes.
+    // What happens to a token, and what it changes.
     fn said_of(&self, token: Token) -> Result<(Edits, EditorChange), AllocError>
         ensures edits { IfOk result (λ said. edits_by said.0 ≡ edits_of (editing_of self.now) (told_by token)) }
         ensures changes { IfOk result (λ said. changed_with (editing_of self.now) said.1 ≡ after_token (editing_of self.now) (told_by token)) }

@@ -1,5 +1,5 @@
-//! Pages that are edited by words: attributes are set and removed, elements are dropped, and the addresses of links are made absolute. What
-//! is not changed stays as it is written, to the byte.
+//! Pages that are edited by words: attributes are set and removed, elements are dropped, and the addresses of links are
+//! made absolute. The rest stays unchanged, to the byte.
 #![tactic(auto)]
 
 mod changes;

@@ -12,25 +12,25 @@ use std::alloc::{AllocError, Global};
 pub struct AttributeRule {
     pub element: String,
     pub attribute: String,
-    /// What it is set to, or `None` where it is removed.
+    /// What it is set to, or `None` if it is removed.
     pub value: Option<String>,
 }
 
-// What stands round the first `=`.
+// The parts round the first `=`.
 fn round_equals_sign(word: &str) -> Option<(&str, &str)>
     ensures { option_map (λ parts. (parts.0.now, parts.1.now)) result ≡ parts_round is_equals_sign word.now }
 {
     word.split_once('=')
 }
 
-// What stands round the first dot.
+// The parts round the first dot.
 fn round_dot(place: &str) -> Option<(&str, &str)>
     ensures { option_map (λ parts. (parts.0.now, parts.1.now)) result ≡ parts_round is_dot place.now }
 {
     place.split_once('.')
 }
 
-// A copy of a value, where there is one.
+// A copy of a value, if there is one.
 fn copied(alloc: Global, value: Option<&str>) -> Result<Option<String>, AllocError>
     ensures { IfOk result (λ copy. option_map string_bytes copy ≡ option_map (λ v. v.now) value.entry) }
 {

@@ -24,7 +24,7 @@ pub struct ChangedTag {
 }
 
 impl ChangedTag {
-    // A tag as it is written.
+    // An unchanged tag.
     fn as_written(tag: Tag) -> ChangedTag
         ensures { changed_by result ≡ as_written (tag_of tag) }
     {
@@ -34,7 +34,7 @@ impl ChangedTag {
         }
     }
 
-    // The value of an attribute, where there is one.
+    // The value of an attribute, if there is one.
     fn value(&self, attribute: &str) -> Option<&str>
         ensures { option_map (λ value. value.now) result
             ≡ value_of attribute.now (map attribute_of self.now.tag.attrs.items) }
@@ -55,7 +55,7 @@ impl ChangedTag {
         }
     }
 
-    // Sets an attribute, where it has another value or none.
+    // Sets an attribute, if it has another value or none.
     fn set(&mut self, alloc: Global, attribute: &str, value: &str) -> Result<(), AllocError>
         ensures { OnOk result (changed_by self.new ≡ with_value attribute.now (Some value.now) (changed_by self.old)) }
     {
@@ -68,7 +68,7 @@ impl ChangedTag {
         Ok(())
     }
 
-    // Removes an attribute, where there is one.
+    // Removes an attribute, if there is one.
     fn remove(&mut self, attribute: &str)
         ensures { changed_by self.new ≡ with_value attribute.now None (changed_by self.old) }
     {
@@ -112,7 +112,7 @@ impl ChangedTag {
         matches!(self.tag.name.0.as_str(), "a" | "area" | "form") && self.value("target").is_some()
     }
 
-    // Where it is one, its `rel` has `noopener`.
+    // If it is one, its `rel` has `noopener`.
     fn close_to_opener(&mut self, alloc: Global) -> Result<(), AllocError>
         ensures { OnOk result (changed_by self.new ≡ closed_to_opener (changed_by self.old)) }
     {
@@ -123,7 +123,7 @@ impl ChangedTag {
         self.set(alloc, "rel", &words)
     }
 
-    // The URL to which an attribute leads, where it does.
+    // The URL to which an attribute leads, if it does.
     fn url_of(&self, bases: &Bases, attribute: &str) -> Result<Option<Url>, AllocError>
         ensures { IfOk result (λ url. with_address bases.now attribute.now (value_of attribute.now (map attribute_of self.now.tag.attrs.items)) (changed_by self.now)
             ≡ with_url attribute.now url (changed_by self.now)) }

@@ -8,7 +8,7 @@ use Rattle.html5ever_interface.specs.declared.interface.token.TagKind.TheVariant
 use Rattle.html5elements.specs.Elements.{is_empty_element}
 use Rattle.html5elements.specs.declared.hidden.Hidden.{Hidden as RustHidden}
 
--- a name, and how many elements of that name are open and hide what stands in them: where none is, the name says nothing
+-- a name, and how many elements of that name are open and hide their content: if none is, the name says nothing
 pub record Hidden : Type 0 where
   pub name : List ℕ
   pub depth : ℕ
@@ -29,7 +29,7 @@ has_content tag = has_content_by_kind tag.kind tag.name tag.self_closing
 
 -- ---- after a tag
 
--- outside, where nothing is hidden: one that opens what is hidden begins the count, under its name
+-- outside, when nothing is hidden: one that opens hidden content begins the count, under its name
 abbrev pub hidden_from : Bool → Hidden → TagOf → Hidden
 hidden_from opens hidden tag = if opens then record { name = tag.name; depth = 1 } else hidden
 

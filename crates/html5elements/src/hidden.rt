@@ -7,8 +7,7 @@ use crate::is_empty_element;
 use html5ever_interface::interface::token::{Tag, TagKind};
 use std::alloc::Allocator;
 
-/// How many elements of one name are open and hide what stands in them. Where none is, the name says
-/// nothing.
+/// How many elements of one name are open and hide their content. If none is, the name says nothing.
 #[derive(Drop)]
 pub struct Hidden<A: Allocator> {
     pub name: String<A>,

@@ -13,7 +13,7 @@ use Rattle.html5encodings.specs.Steps.{error_if}
 use Rattle.html5encodings.specs.Utf16 as utf16
 use Rattle.html5encodings.specs.Decoding.{at_end, given_before_error, handled, is_whole, len_before_error, returns_error, state_before_error}
 
--- a byte that is no error was decoded
+-- a byte that is not an error was decoded
 pub given-sound : (now : State) (byte : ℕ) (bytes old new : List ℕ) → returns_error now byte ≡ false → new ≡ old ++ encode_utf8_all (handled now byte).0
     → new ++ encode_utf8_all (given_before_error (handled now byte).1 bytes) ≡ old ++ encode_utf8_all (given_before_error now (byte ∷ bytes))
 given-sound now byte bytes old new sound is =
@@ -50,7 +50,7 @@ pub len-bound : (now : State) (bytes : List ℕ) → len_before_error now bytes 
 len-bound now [] = omega arith
 len-bound now (byte ∷ bytes) = bound-step (len_before_error (handled now byte).1 bytes) (length bytes) (returns_error now byte) (len-bound (handled now byte).1 bytes)
 
--- ---- where nothing is begun, the end gives nothing
+-- ---- when nothing is begun, the end gives nothing
 
 end-none : {X : Type 0} (part : Option X) → is_none part ≡ true → error_if (is_some part) ≡ []
 end-none None none = refl

@@ -110,7 +110,7 @@ abbrev pub HasNoError : State → List ℕ → Type 0
 HasNoError now [] = is_whole now ≡ true
 HasNoError now (byte ∷ bytes) = (returns_error now byte ≡ false) × HasNoError (handled now byte).1 bytes
 
--- what comes before the first error: the code points, where they leave the decoder, and how many bytes they are of
+-- what comes before the first error: the code points, where they leave the decoder, and how many bytes they take
 abbrev pub given_before_error : State → List ℕ → List ℕ
 given_before_error now [] = []
 given_before_error now (byte ∷ bytes) =
@@ -152,7 +152,7 @@ reads_text (state.Replacement returned) = false
 reads_text (state.Utf16 now) = false
 reads_text state.UserDefined = false
 
--- in this state ASCII stands for itself, and leaves the decoder there; but for UTF-8, where all text does
+-- in this state ASCII stands for itself, and leaves the decoder there; except for UTF-8, where all text does
 unfoldable pub reads_ascii : State → Bool
 reads_ascii (state.Utf8 part) = false
 reads_ascii (state.SingleByte single) = true

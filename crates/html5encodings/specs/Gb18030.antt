@@ -12,7 +12,7 @@ abbrev pub last_range : List (ℕ × ℕ) → ℕ → ℕ × ℕ → ℕ × ℕ
 last_range [] pointer found = found
 last_range (row ∷ rows) pointer found = if nat_lt pointer row.0 then found else (last_range rows pointer row)
 
--- a number, if it is a code point that is no surrogate: of a pointer below it always is
+-- a number, if it is a code point that is not a surrogate: of a pointer below it always is
 abbrev pub scalar_or_none : ℕ → Option ℕ
 scalar_or_none c = if nat_lt c 0xD800 || is_in_range 0xE000 0x10FFFF c then Some c else None
 

@@ -28,7 +28,7 @@ roman_code_point byte = if byte == 0x5C then Some 0xA5 else (if byte == 0x7E the
 abbrev pub katakana_code_point : ℕ → Option ℕ
 katakana_code_point byte = if is_in_range 0x21 0x5F byte then Some (0xFF61 + (byte - 0x21)) else None
 
--- a byte that is no escape, in the ASCII, Roman, katakana and lead byte states
+-- a byte that is not an escape, in the ASCII, Roman, katakana and lead byte states
 abbrev pub shown : Charset → ℕ → Handled
 shown Ascii byte = (code_point_or_error (ascii_code_point byte), standing Ascii)
 shown Roman byte = (code_point_or_error (roman_code_point byte), standing Roman)
@@ -129,7 +129,7 @@ at_end_after EscapeParenthesis charset = 0xFFFD ∷ restored_at_end charset 0x28
 abbrev pub at_end : Iso2022Jp → List ℕ
 at_end state = at_end_after state.begun state.charset
 
--- whether a byte that is no escape is an error, in the ASCII, Roman, katakana and lead byte states
+-- whether a byte that is not an escape is an error, in the ASCII, Roman, katakana and lead byte states
 abbrev pub is_shown_error : Charset → ℕ → Bool
 is_shown_error Ascii byte = is_none (ascii_code_point byte)
 is_shown_error Roman byte = is_none (roman_code_point byte)

@@ -5,12 +5,12 @@ use Rattle.std.specs.Prelude.{◌≡◌, ℕ, ◌==◌, nat_lt, Bool, List, [], 
 abbrev pub code_point_at : List ℕ → ℕ → Option ℕ
 code_point_at index pointer = if slice_index index pointer == 0 then None else (Some (slice_index index pointer))
 
--- a code point, or an error where there is none
+-- a code point, or an error if there is none
 abbrev pub code_point_or_error : Option ℕ → List ℕ
 code_point_or_error None = 0xFFFD ∷ []
 code_point_or_error (Some code_point) = code_point ∷ []
 
--- a code point. Where there is none an error, and an ASCII byte is restored, and stands for itself.
+-- a code point. If there is none, an error, and an ASCII byte is restored, and stands for itself.
 abbrev pub code_point_or_restored : Option ℕ → ℕ → List ℕ
 code_point_or_restored None byte = if nat_lt byte 0x80 then (0xFFFD ∷ byte ∷ []) else (0xFFFD ∷ [])
 code_point_or_restored (Some code_point) byte = code_point ∷ []

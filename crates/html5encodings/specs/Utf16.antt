@@ -12,7 +12,8 @@ abbrev pub alone : ℕ → HandledUnit
 alone unit = if is_in_range 0xD800 0xDBFF unit then ([], Some unit)
     else (if is_in_range 0xDC00 0xDFFF unit then (0xFFFD ∷ [], None) else (unit ∷ [], None))
 
--- a code unit: after a lead surrogate one that is no trail surrogate is an error, and its bytes are restored
+-- a code unit: after a lead surrogate one that is not a trail surrogate is an error, and its bytes are
+-- restored
 abbrev pub handled_unit : Option ℕ → ℕ → HandledUnit
 handled_unit None unit = alone unit
 handled_unit (Some lead) unit = if is_in_range 0xDC00 0xDFFF unit then ((0x10000 + (lead - 0xD800) * 0x400 + (unit - 0xDC00)) ∷ [], None)

@@ -27,7 +27,7 @@ of_four byte = record {
   upper = if byte == 0xF4 then 0x8F else 0xBF;
 }
 
--- a byte where none is needed
+-- a byte when none is needed
 abbrev pub alone : ℕ → Handled
 alone byte = if nat_lt byte 0x80 then (byte ∷ [], None)
     else (if is_in_range 0xC2 0xDF byte then ([], Some (of_two byte))

@@ -7,8 +7,8 @@ use crate::state::{State, append, append_before_error, at_end, is_whole, start};
 use std::alloc::{AllocError, Allocator};
 use std::marker::Model;
 
-/// Makes texts of bytes in an encoding that arrive in pieces, cut anywhere. Bytes that are none of the
-/// encoding give U+FFFD.
+/// Makes texts of bytes in an encoding that arrive in pieces, cut anywhere. Bytes that are invalid in the encoding
+/// give U+FFFD.
 #[derive(Drop)]
 pub struct Decoder {
     state: State,
@@ -57,9 +57,9 @@ impl Decoder {
         Ok(text)
     }
 
-    /// The text of a piece before the first error in it, as the error mode "fatal" of the Standard has it; how many
-    /// bytes of the piece stand before that error; and after how many of these the last whole character ends, if
-    /// one does.
+    /// The text of a piece before the first error in it, as the error mode "fatal" of the Standard has it. Also how
+    /// many bytes of the piece stand before that error, and after how many of these the last whole character ends,
+    /// if one does.
     pub fn decode_before_error<A: Allocator>(
         &mut self,
         alloc: A,

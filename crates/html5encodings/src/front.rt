@@ -30,7 +30,7 @@ pub(crate) fn ascii_len(bytes: &[u8]) -> usize
     at
 }
 
-// How many bytes of a block are ASCII, before the first that is none.
+// How many bytes of a block are ASCII, before the first that is not.
 #[inline(always)]
 fn ascii_in_block(bytes: &[u8], at: usize) -> usize
     requires { at + 16 ≤ length bytes.now }

@@ -21,7 +21,7 @@ pub(crate) trait Handler {
     // The state of the decoder that holds this.
     ghost state: { Self.Held → State };
 
-    // Appends what a byte gives, and gives what is held after it.
+    // Appends what a byte gives, and returns the state held after it.
     fn append_byte<A: Allocator>(
         held: Self::Held,
         byte: u8,
@@ -38,7 +38,7 @@ pub(crate) trait Handler {
 }
 
 // Appends the text of bytes, of the first one at least, up to two bytes of ASCII that stand for themselves, or to the
-// end. It gives how many they were and what is held after them.
+// end. It returns how many they were and the state held after them.
 pub(crate) fn append_run<H: Handler, A: Allocator>(
     held: H::Held,
     bytes: &[u8],

@@ -58,7 +58,7 @@ pub(crate) fn append_byte<A: Allocator>(
     }
 }
 
-// A byte where nothing is begun.
+// A byte when nothing is begun.
 fn append_alone<A: Allocator>(
     charset: Charset,
     escaped: bool,
@@ -78,7 +78,7 @@ fn append_alone<A: Allocator>(
     append_shown(charset, byte, text)
 }
 
-// A byte that is no escape, where nothing is begun.
+// A byte that is not an escape, when nothing is begun.
 fn append_shown<A: Allocator>(
     charset: Charset,
     byte: u8,
@@ -392,7 +392,7 @@ pub(crate) fn returns_error(before: Iso2022Jp, byte: u8) -> bool
     }
 }
 
-// Whether a byte that is no escape is an error, where nothing is begun.
+// Whether a byte that is not an escape is an error, when nothing is begun.
 fn is_shown_error(charset: Charset, byte: u8) -> bool
     ensures { result ≡ is_shown_error charset byte }
 {

@@ -1,5 +1,6 @@
 //! The encodings of the Encoding Standard: their names and labels, and decoders for bytes that arrive in
-//! pieces, cut anywhere. Bytes that are none of an encoding give U+FFFD, or are fatal, as the Standard says.
+//! pieces, cut anywhere. Bytes that are invalid in an encoding give U+FFFD, or are fatal, as the Standard
+//! says.
 #![tactic(auto)]
 
 mod big5;

@@ -89,7 +89,7 @@ pub(crate) fn append<A: Allocator>(
 }
 
 // Appends the text of bytes at the front, of all that stand for themselves or of some that are handled one by
-// one, and gives how many they were and where they leave the decoder.
+// one. Returns how many they were and where they leave the decoder.
 fn append_front<A: Allocator>(
     state: State,
     bytes: &[u8],
@@ -187,7 +187,7 @@ fn reads_text(state: State) -> bool
     }
 }
 
-// Whether ASCII stands for itself, and leaves the decoder where it is; but for UTF-8.
+// Whether ASCII stands for itself, and leaves the decoder where it is; except for UTF-8.
 #[tactic(auto, unfolding(crate::specs::Decoding::reads_ascii))]
 fn reads_ascii(state: State) -> bool
     ensures { result ≡ reads_ascii state }
@@ -272,8 +272,8 @@ pub(crate) fn at_end(state: State) -> &'static str
     }
 }
 
-// What comes before the first error: where it leaves the decoder, how many bytes it is of, and how many of them
-// the last whole character ends after, if one does.
+// What comes before the first error: where it leaves the decoder, how many bytes it takes, and after how many
+// of them the last whole character ends, if one does.
 #[derive(Clone, Copy)]
 pub(crate) struct BeforeError {
     pub(crate) left: State,

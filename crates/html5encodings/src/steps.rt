@@ -4,7 +4,7 @@ ghost use Rattle.html5encodings.specs.Steps.{Adds, code_point_or_error, code_poi
 
 use std::alloc::{AllocError, Allocator};
 
-// Appends a character, or U+FFFD where there is none.
+// Appends a character, or U+FFFD if there is none.
 pub(crate) fn append_or_error<A: Allocator>(
     character: Option<char>,
     text: &mut String<A>,
@@ -17,7 +17,7 @@ pub(crate) fn append_or_error<A: Allocator>(
     }
 }
 
-// Appends the character that a byte ends. Where there is none, it appends U+FFFD, and the byte if it is
+// Appends the character that a byte ends. If there is none, it appends U+FFFD, and the byte if it is
 // ASCII.
 pub(crate) fn append_or_restored<A: Allocator>(
     character: Option<char>,

@@ -44,7 +44,7 @@ pub(crate) fn append_byte<A: Allocator>(
     }
 }
 
-// Appends what a byte gives where none is needed.
+// Appends what a byte gives when none is needed.
 fn append_alone<A: Allocator>(byte: u8, text: &mut String<A>) -> Result<Option<Partial>, AllocError>
     ensures text { OnOk result (Adds text.old text.new (alone byte).0) }
     ensures part { IfOk result (λ left. left ≡ (alone byte).1) }

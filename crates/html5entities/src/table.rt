@@ -9,8 +9,8 @@ use html5table::references_of;
 use markup5ever::data::{NamedReferences, TableError};
 use std::alloc::Allocator;
 
-/// The table of the standard's named references. Its list has no fault, so an error is want of memory: that is
-/// tested, and not proved.
+/// The table of the standard's named references. Its list has no fault, so the only error is out of memory:
+/// that is tested, and not proved.
 pub fn standard_references<A: Allocator + Copy>(alloc: A) -> Result<NamedReferences<A>, TableError>
     ensures { IfOk result (λ references. references ≡ table_of (entries_in standard_list)) }
 {

@@ -14,7 +14,7 @@ use Rattle.html5errors.specs.Messages.{after_word, code_by_place, code_named, co
 use Rattle.html5errors.proofs.NamedStates.{state_named-name}
 use Rattle.html5errors.proofs.Words.{after_word-append, after_word-is, none_from_all, split-first}
 
--- what stands after a character, where a state saw it
+-- the text after a character, if a state saw it
 abbrev place : State → List ℕ
 place S = codes " in state " ++ state_name S
 

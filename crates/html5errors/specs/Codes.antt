@@ -17,7 +17,7 @@ use Rattle.html5errors.specs.declared.codes.ErrorCode.TheVariants as code
 abbrev pub is_quote : ℕ → Bool
 is_quote c = (c == quotation_mark) || (c == apostrophe)
 
--- where nothing is an error but a NUL
+-- when only a NUL is an error
 abbrev pub null_code : ℕ → Option ErrorCode
 null_code c = if c == null then Some code.UnexpectedNullCharacter else None
 
@@ -35,7 +35,7 @@ unquoted_code c =
 abbrev pub code_by_end : ErrorCode → ErrorCode → ℕ → Option ErrorCode
 code_by_end at_end other c = if c == greater_than then Some at_end else Some other
 
--- the code at a `>`, where nothing else is an error but a NUL
+-- the code at a `>`, when nothing else but a NUL is an error
 abbrev pub end_or_null_code : ErrorCode → ℕ → Option ErrorCode
 end_or_null_code at_end c = if c == greater_than then Some at_end else null_code c
 
@@ -43,11 +43,11 @@ end_or_null_code at_end c = if c == greater_than then Some at_end else null_code
 abbrev pub code_by_quote : ErrorCode → ErrorCode → ℕ → Option ErrorCode
 code_by_quote at_quote other c = if is_quote c then Some at_quote else Some other
 
--- "Before DOCTYPE public identifier state", where no quote follows
+-- "Before DOCTYPE public identifier state", when no quote follows
 abbrev pub public_code : ℕ → Option ErrorCode
 public_code c = code_by_end code.MissingDoctypePublicIdentifier code.MissingQuoteBeforeDoctypePublicIdentifier c
 
--- "Before DOCTYPE system identifier state", where no quote follows
+-- "Before DOCTYPE system identifier state", when no quote follows
 abbrev pub system_code : ℕ → Option ErrorCode
 system_code c = code_by_end code.MissingDoctypeSystemIdentifier code.MissingQuoteBeforeDoctypeSystemIdentifier c
 
@@ -105,7 +105,7 @@ code_in (AttributeValue Unquoted) c = unquoted_code c
 code_in AfterAttributeValueQuoted c = Some code.MissingWhitespaceBetweenAttributes
 -- "Self-closing start tag state"
 code_in SelfClosingStartTag c = Some code.UnexpectedSolidusInTag
--- "Markup declaration open state", where no keyword comes: the error names the `!` before that
+-- "Markup declaration open state", when no keyword comes: the error names the `!` before that
 code_in MarkupDeclarationOpen c = Some code.IncorrectlyOpenedComment
 -- "Comment start state"
 code_in CommentStart c = end_or_null_code code.AbruptClosingOfEmptyComment c

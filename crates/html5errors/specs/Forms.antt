@@ -15,7 +15,7 @@ HasForm exact message =
     ⊎ (((S : State) × (message ≡ saw_end exact (state_name S)))
     ⊎ ((m : FixedMessage) × (message ≡ fixed_text m)))
 
--- a token that is no error, or one of such a form
+-- a token that is not an error, or one of such a form
 abbrev pub IsFormed : Bool → Told → Type 0
 IsFormed exact (Error message) = HasForm exact message
 IsFormed exact other = Unit {0}

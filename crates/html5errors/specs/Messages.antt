@@ -9,18 +9,18 @@ use Rattle.html5errors.specs.StateNames.{state_named}
 use Rattle.html5errors.specs.declared.codes.ErrorCode.{ErrorCode}
 use Rattle.html5errors.specs.declared.codes.ErrorCode.TheVariants as code
 
--- what stands after a word, where the text begins with it
+-- the text after a word, if the text begins with it
 unfoldable pub after_word : List ℕ → List ℕ → Option (List ℕ)
 after_word [] text = Some text
 after_word (c ∷ word) [] = None
 after_word (c ∷ word) (d ∷ text) = if c == d then after_word word text else None
 
--- of a text with these characters: the first, and what stands after it
+-- of a text with these characters: the first, and the text after it
 abbrev pub first_and_rest : List ℕ → List ℕ → Option (ℕ × List ℕ)
 first_and_rest [] text = None
 first_and_rest (c ∷ more) text = Some (c, drop (len_utf8 c) text)
 
--- the first character of a text, and what stands after it
+-- the first character of a text, and the text after it
 unfoldable pub split_first : List ℕ → Option (ℕ × List ℕ)
 split_first text = first_and_rest (chars text) text
 
@@ -32,7 +32,7 @@ code_named c name = option_and_then (λ state. code_in state c) (state_named nam
 abbrev pub end_code_named : List ℕ → Option ErrorCode
 end_code_named name = option_and_then end_code_in (state_named name)
 
--- the code of a character, by what stands after it
+-- the code of a character, by the text after it
 abbrev pub code_by_place : ℕ → List ℕ → Option ErrorCode
 code_by_place c place = option_and_then (code_named c) (after_word (codes " in state ") place)
 
@@ -62,7 +62,7 @@ code_of_fixed message =
     else if bytes_eq message (codes "EOF after '#' in character reference") then Some code.AbsenceOfDigitsInNumericCharacterReference
     else None
 
--- the code of a message, by what stands after its first word, where that is "Saw"
+-- the code of a message, by the text after its first word, if that is "Saw"
 abbrev pub code_where_saw : Option (List ℕ) → List ℕ → Option ErrorCode
 code_where_saw None message = code_of_fixed message
 code_where_saw (Some seen) message = code_of_seen seen

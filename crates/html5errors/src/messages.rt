@@ -13,14 +13,14 @@ use crate::tables::{code_in, end_code_in};
 use html5ever_interface::interface::message::FixedMessage;
 use html5ever_interface::states::State;
 
-// What stands after a word, where the text begins with it.
+// The text after a word, if the text begins with it.
 fn after_word<'t>(text: &'t str, word: &str) -> Option<&'t str>
     ensures { option_copied result ≡ after_word word.now text.now }
 {
     text.strip_prefix(word)
 }
 
-// The first character of a text, and what stands after it.
+// The first character of a text, and the text after it.
 fn split_first(text: &str) -> Option<(char, &str)>
     ensures { MatchOption result (split_first text.now ≡ None)
         (λ split. split_first text.now ≡ Some (split.0, split.1.now)) }
@@ -52,7 +52,7 @@ fn end_code_named(name: &str) -> Option<ErrorCode>
     }
 }
 
-// The code of a character, by what stands after it.
+// The code of a character, by the text after it.
 fn code_by_place(c: char, place: &str) -> Option<ErrorCode>
     ensures { result ≡ code_by_place c place.now }
 {

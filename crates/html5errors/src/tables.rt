@@ -11,7 +11,7 @@ fn is_quote(c: char) -> bool
     c == '"' || c == '\''
 }
 
-// Where nothing is an error but a NUL.
+// When only a NUL is an error.
 fn null_code(c: char) -> Option<ErrorCode>
     ensures { result ≡ null_code c }
 {
@@ -73,7 +73,7 @@ fn code_by_end(at_end: ErrorCode, other: ErrorCode, c: char) -> Option<ErrorCode
     }
 }
 
-// The code at a `>`, where nothing else is an error but a NUL.
+// The code at a `>`, when nothing else but a NUL is an error.
 fn end_or_null_code(at_end: ErrorCode, c: char) -> Option<ErrorCode>
     ensures { result ≡ end_or_null_code at_end c }
 {
@@ -94,7 +94,7 @@ fn code_by_quote(at_quote: ErrorCode, other: ErrorCode, c: char) -> Option<Error
     }
 }
 
-// The standard's "Before DOCTYPE public identifier state", where no quote follows.
+// The standard's "Before DOCTYPE public identifier state", when no quote follows.
 fn public_code(c: char) -> Option<ErrorCode>
     ensures { result ≡ public_code c }
 {
@@ -105,7 +105,7 @@ fn public_code(c: char) -> Option<ErrorCode>
     )
 }
 
-// The standard's "Before DOCTYPE system identifier state", where no quote follows.
+// The standard's "Before DOCTYPE system identifier state", when no quote follows.
 fn system_code(c: char) -> Option<ErrorCode>
     ensures { result ≡ system_code c }
 {

@@ -21,14 +21,14 @@ use Rattle.html5partial.specs.declared.error.TokenizerError.TheVariants.{Memory}
 text_of-append : (fed later : List (List ℕ)) → text_of (fed ++ later) ≡ text_of fed ++ text_of later
 text_of-append fed later = ap concat (map-append chars fed later) ∙ concat-append (map chars fed) (map chars later)
 
--- all that waits and all pieces are what was taken, what waits then and the later pieces
+-- the queued text and all pieces are the taken text, the text queued then, and the later pieces
 fed-parts : (waiting : List ℕ) (fed later : List (List ℕ))
     → waiting ++ text_of (fed ++ later) ≡ fed_text waiting fed ++ (left_of waiting fed ++ text_of later)
 fed-parts waiting [] later = refl
 fed-parts waiting (piece ∷ fed) later =
     ap (λ l. waiting ++ l) (text_of-append (piece ∷ fed) later) ∙ sym (append_assoc waiting (text_of (piece ∷ fed)) (text_of later))
 
--- one piece more takes what waits and the piece
+-- one piece more takes the queued text and the piece
 fed-more : (waiting : List ℕ) (fed : List (List ℕ)) (piece : List ℕ)
     → fed_text waiting (fed ++ piece ∷ []) ≡ fed_text waiting fed ++ (left_of waiting fed ++ chars piece)
 fed-more waiting [] piece = ap (λ l. waiting ++ l) (append-nil (chars piece))
@@ -60,7 +60,7 @@ module _ {X S H : Type 0} (means : Means X S H) where
     linear = omega arith;
   }
 
-  -- what a feed after a further piece cost, also where it was refused
+  -- what a feed after a further piece cost, also if it was refused
   pub HasFed-linear : (first now : Tokenizing X) (old mid pushed new : TextQueue) (pieces later : List (List ℕ)) (piece : List ℕ) (held : ℕ)
       → HasFed first now old mid pieces later → Gains mid pushed (chars piece)
       → IsLinear (held_len now.position.opened) pushed held new → new.handed_in ≡ pushed.handed_in
@@ -128,7 +128,7 @@ module _ {X S H : Type 0} (means : Means X S H) where
       (subst (λ b. Stops means.step means.faulted e (means.state now.sink) (told_beyond means b K s (text ++ front) waiting) v) so_far.rules
       (stops K s (text ++ front) now_stands)))
 
-  -- where there is no room for the next piece, nothing more was sent
+  -- if there is no room for the next piece, nothing more was sent
   pub HasFed-no_room : (first now : Tokenizing X) (old mid : TextQueue) (pieces later : List (List ℕ)) → HasFed first now old mid pieces later
       → StopsReading means Memory first (old.text ++ text_of pieces) (means.state now.sink)
   HasFed-no_room first now old mid pieces later so_far =

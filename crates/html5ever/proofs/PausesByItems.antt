@@ -1,4 +1,4 @@
--- A feed takes the shortest beginning whose items tell, as the last message, a tag to which the sink's reply pauses.
+-- A feed takes the shortest prefix whose items tell, as the last message, a tag to which the sink's reply pauses.
 use Rattle.std.proofs.Common.{◌≡◌, ℕ, Bool, true, false, List, [], ◌∷◌, ◌++◌, refl, ap, sym, ◌∙◌, subst, length, drop}
 use Rattle.std.specs.Prelude.{◌≢◌, ◌==◌, ◌&&◌, codes, cond, if◌then◌else◌}
 use Rattle.std.proofs.Math.Seq.{drop-append_seam}
@@ -121,7 +121,7 @@ module _ {X S H : Type 0} (means : Means X S H) (rules : Rules) where
       ap (first_pause means t) (told-append means.step means.reply means.foreign rules P t (c ∷ []) more)
       ∙ first_pause-append means t (messages_so_far means rules P t (c ∷ [])) _
 
-  -- ---- the tag that is told last
+  -- ---- the tag that is sent last
 
   -- the last of these messages is a tag, and this the reply to it
   record EndsInTag (t : S) (M : List Message) (reply : Reply H) : Type 0 where
@@ -147,7 +147,7 @@ module _ {X S H : Type 0} (means : Means X S H) (rules : Rules) where
   unfolding first_pause
   first_pause-last t M tag line = first_pause-append means t M (tag_message tag line ∷ [])
 
-  -- a reply that pauses is the one to the tag, where no tag stands before it
+  -- a reply that pauses is the one to the tag, when no tag stands before it
   asked-last : (t : S) (M : List Message) (tag : TagOf) (line : ℕ) → first_pause means t M ≡ KeepOn
       → pauses (first_pause means t (M ++ tag_message tag line ∷ [])) ≡ true
       → first_pause means t (M ++ tag_message tag line ∷ []) ≡ means.reply (stepped means.step t M) (Tag tag) line
@@ -164,7 +164,7 @@ module _ {X S H : Type 0} (means : Means X S H) (rules : Rules) where
       by true e pausing = if-true _ _ _ e
       by false e pausing = absurd (false≢true (sym (ap pauses (if-false _ _ KeepOn e)) ∙ pausing))
 
-  -- the tag that is told last pauses, so some reply does
+  -- the tag that is sent last pauses, so some reply does
   pauses-last : (t : S) (M : List Message) (tag : TagOf) (line : ℕ) → pauses (means.reply (stepped means.step t M) (Tag tag) line) ≡ true
       → pauses (first_pause means t (M ++ tag_message tag line ∷ [])) ≡ true
   pauses-last t M tag line h = by (pauses (first_pause means t M)) refl
@@ -303,7 +303,7 @@ module _ {X S H : Type 0} (means : Means X S H) (rules : Rules) where
         let c : Composed means rules K s text = all-composed means rules K s text clean in
         (c.ends, subst (λ N. Items means rules K s text N c.ends) (sym (tells-items means rules K s text c.tells c.ends table c.items).told ∙ e) c.items)
 
-    -- what is told beyond a text
+    -- the messages beyond a text
     abbrev beyond_of : Start → S → List ℕ → List ℕ → List Message
     beyond_of K s text more = messages_so_far means rules (start_after means rules K s text) (state_after means rules K s text) more
 

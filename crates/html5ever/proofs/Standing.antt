@@ -71,7 +71,7 @@ module _ {X S H : Type 0} (means : Means X S H) where
     not_ended = not_ended;
   }
 
-  -- another sink, where nothing is pending
+  -- another sink, when nothing is pending
   pub StandsAt-anew : (t : Tokenizing X) (x : X) → t.failed ≡ false → t.ended ≡ false
       → StandsAt means (record t { sink = x }) t.position (means.state x) []
   StandsAt-anew t x not_failed not_ended = StandsAt-start (record t { sink = x }) t.position refl not_failed not_ended

@@ -1,4 +1,4 @@
--- A run by steps: what was taken so far, and what that gives at the end or where it is refused.
+-- A run by steps: what was taken so far, and what that gives at the end or if it is refused.
 use Rattle.std.proofs.Common.{◌≡◌, ℕ, true, false, List, [], ◌∷◌, ◌++◌, refl, ap, sym, ◌∙◌, subst, length, arith}
 use Rattle.std.specs.List.{concat}
 use Rattle.std.specs.Prelude.{map}
@@ -24,7 +24,7 @@ use Rattle.html5states.proofs.Tellings.{Memory-at_once}
 use Rattle.html5ever.proofs.Wholes.{whole-within_stops, whole-end_stops}
 
 module _ {X S H : Type 0} (means : Means X S H) (rules : Rules) where
-  -- the text that was taken is a beginning of what the run takes
+  -- the text that was taken is a prefix of what the run takes
   pub record Begins (K : Start) (s : S) (text queue : List ℕ) (steps : List StepOf) : Type 0 where
     pub more : List ℕ
     pub parts : run_text means rules K s text queue steps ≡ text ++ more

@@ -40,5 +40,5 @@ pub record CollectsText (result : Result Collecting TokenizerError) (opts : Opti
   -- a collector that holds the finished reading, and has not faulted
   pub holds : IfOk result (λ sink. sink.collected ≡ collected_of opts references foreign text)
   pub no_fault : IfOk result (λ sink. sink.faults ≡ 0)
-  -- or an error, for want of memory or a fault of the collector
+  -- or an error: out of memory, or a fault of the collector
   pub refusal : IfErr result IsRefusal

@@ -31,10 +31,10 @@ module _ {X S H : Type 0} (means : Means X S H) (rules : Rules) where
 
   -- what a feed takes of the queue's text after `text`, what it leaves, and the reply that it hands on
   pub data TakesByItems (K : Start) (s : S) (text queue : List ℕ) : List ℕ → List ℕ → Reply H → Type 0 where
-    -- the shortest beginning that ends in a pause
+    -- the shortest prefix that ends in a pause
     UpToPause : (taken left : List ℕ) (reply : Reply H) → queue ≡ taken ++ left → EndsInPause K s text taken reply
         → ((front rest : List ℕ) (other : Reply H) → taken ≡ front ++ rest → rest ≢ [] → ¬ (EndsInPause K s text front other))
         → TakesByItems K s text queue taken left reply
-    -- all of it, where none does
+    -- all of it, if none does
     All : ((front rest : List ℕ) (other : Reply H) → queue ≡ front ++ rest → ¬ (EndsInPause K s text front other))
         → TakesByItems K s text queue queue [] KeepOn

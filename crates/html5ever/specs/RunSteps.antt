@@ -1,4 +1,4 @@
--- The text that a run takes. It hands in texts at the back or at the front of what waits, and feeds once after each.
+-- The text that a run takes. It hands in texts at the back or at the front of the queue, and feeds once after each.
 use Rattle.std.specs.Prelude.{◌≡◌, ℕ, List, [], ◌∷◌, ◌++◌}
 use Rattle.std.specs.Str.{chars}
 use Rattle.std.specs.String.{string_bytes}
@@ -25,13 +25,13 @@ abbrev pub step_of : {Z : Type 0} → Step Z → StepOf
 step_of (Push text) = AtBack (chars (string_bytes text))
 step_of (Insert text) = AtFront (chars (string_bytes text))
 
--- what waits after a step was handed in
+-- the queued text after a step was handed in
 abbrev pub waiting_with : StepOf → List ℕ → List ℕ
 waiting_with (AtBack text) queue = queue ++ text
 waiting_with (AtFront text) queue = text ++ queue
 
 module _ {X S H : Type 0} (means : Means X S H) where
-  -- the text taken in all, where `text` was taken and `queue` waits. A feed after each step takes a beginning of what waits, and
+  -- the text taken in all, where `text` was taken and `queue` waits. A feed after each step takes a prefix of the queued text, and
   -- after the last step all is taken.
   unfoldable pub run_text : Rules → Start → S → List ℕ → List ℕ → List StepOf → List ℕ
   run_text rules K s text queue [] = text ++ queue
@@ -54,10 +54,10 @@ module _ {X S H : Type 0} (means : Means X S H) where
       (K : Start) (s : S) → StandsAt means old K s []
       → EndStops means e s (all_messages means old.rules K s (run_text old.rules K s [] [] steps)) t
 
-  -- ---- by items: how much each feed takes is said by `TakesByItems`
+  -- ---- by items: `TakesByItems` says how much each feed takes
 
-  -- where `text` was taken and `queue` waits, the steps take `whole` in all. A feed after each step takes a beginning of what waits,
-  -- and after the last step all is taken.
+  -- where `text` was taken and `queue` waits, the steps take `whole` in all. A feed after each step takes a prefix of the queued
+  -- text, and after the last step all is taken.
   pub data RunTakes (rules : Rules) (K : Start) (s : S) : List ℕ → List ℕ → List StepOf → List ℕ → Type 0 where
     Ended : (text queue : List ℕ) → RunTakes rules K s text queue [] (text ++ queue)
     Fed : (text queue taken left whole : List ℕ) (reply : Reply H) (t : StepOf) (ts : List StepOf)

@@ -31,9 +31,9 @@ pub record Tokenizing (X : Type 0) : Type 0 where
 abbrev pub rules_of : OptionsOf → List NamedReference → Rules
 rules_of opts references = record { exact = opts.exact_errors; references = references }
 
--- what a feed does to the queue, also where it is refused: it puts nothing in, and takes from the front
+-- what a feed does to the queue, also if it is refused: it puts nothing in, and takes from the front
 pub record TakesFront {X : Type 0} (before after : Tokenizing X) (queue left : TextQueue) : Type 0 where
-  -- what is left is an end of what waited
+  -- what is left is a suffix of the text that waited
   pub end_of_queue : IsEndOf left.text queue.text
   pub handed_in : left.handed_in ≡ queue.handed_in
   -- at most two characters were taken for each that waited and left the queue
@@ -73,7 +73,7 @@ module _ {X S H : Type 0} (means : Means X S H) where
   pub record StandsAt (t : Tokenizing X) (K : Start) (s : S) (text : List ℕ) : Type 0 where
     -- the sink was sent exactly the decided beginning
     pub told : means.state t.sink ≡ state_after means t.rules K s text
-    -- what follows is read from the start after the text
+    -- the rest is read from the start after the text
     pub position : t.position ≡ start_after means t.rules K s text
     pub not_failed : t.failed ≡ false
     pub not_ended : t.ended ≡ false
@@ -88,7 +88,7 @@ module _ {X S H : Type 0} (means : Means X S H) where
     pub answer : reply ≡ fed.answer
     pub left : queue ≡ fed.left
 
-  -- from wherever it stood, the tokenizer was fed a queue's text. It took a beginning, `left` waits, and that reply was handed
+  -- from wherever it stood, the tokenizer was fed a queue's text. It took a prefix, `left` waits, and that reply was handed
   -- on.
   abbrev pub Feeds : Tokenizing X → Tokenizing X → List ℕ → List ℕ → Reply H → Type 0
   Feeds old new queue left reply =
@@ -103,7 +103,7 @@ module _ {X S H : Type 0} (means : Means X S H) where
   ReadsWhole old more t =
       (K : Start) (s : S) (text : List ℕ) → StandsAt old K s text → t ≡ state_at_end means old.rules K s (text ++ more)
 
-  -- ---- by items: where nothing was open at the start K, the text after it is items, and at most one unfinished one
+  -- ---- by items: when nothing was open at the start K, the text after it is items, and at most one unfinished one
 
   -- after `more`, the sink was sent exactly what the items tell
   abbrev pub ReadsItems : Tokenizing X → Tokenizing X → List ℕ → Type 0
@@ -111,7 +111,7 @@ module _ {X S H : Type 0} (means : Means X S H) where
       (K : Start) (s : S) (text : List ℕ) → nothing_open K.opened ≡ true → StandsAt old K s text
       → ToldItems means old.rules K s (text ++ more) (means.state new.sink)
 
-  -- after `text` the tokenizer took the beginning of the queue's text that its items say, `left` waits, and that reply was handed on.
+  -- after `text` the tokenizer took the prefix of the queue's text that its items say, `left` waits, and that reply was handed on.
   -- The sink was sent exactly what the items of all that was taken tell.
   pub record FedByItems (old new : Tokenizing X) (K : Start) (s : S) (text queue left : List ℕ) (reply : Reply H) : Type 0 where
     pub taken : List ℕ
@@ -141,7 +141,7 @@ module _ {X S H : Type 0} (means : Means X S H) where
   pub record StopsFrom (e : TokenizerError) (fed : Feed H) (t : Tokenizing X) (K : Start) (s : S) (text queue left : List ℕ) (v : S) : Type 0 where
     -- it stopped within what it would have sent, and so before any pause
     pub stops : Stops means.step means.faulted e (means.state t.sink) (told_beyond means t.rules K s text fed.taken) v
-    -- a beginning of the queue's text is gone. All that it tells was sent, except for the last item, within which the feed stopped.
+    -- a prefix of the queue's text is gone. All that it tells was sent, except for the last item, within which the feed stopped.
     pub refused : RefusedAfter means t.rules e K s text queue left v
 
   -- from wherever it stood, the tokenizer was refused a feed of a queue's text. It stopped within that, and `left` waits.

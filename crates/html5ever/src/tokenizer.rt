@@ -106,8 +106,8 @@ impl<'t, Sink: TokenSink<Token<A>>, A: Allocator + Copy> Tokenizer<'t, Sink, A> 
     }
 
     /// Reads the text that waits in the queue, up to the first tag after which the sink asks to
-    /// pause. Then the queue holds what follows that tag's `>`. Text may be put in front of it, and
-    /// the caller goes on by feeding again. After a refusal the queue holds an end of the text that
+    /// pause. Then the queue holds the text after that tag's `>`. Text may be put in front of it, and
+    /// the caller goes on by feeding again. After a refusal the queue holds a suffix of the text that
     /// it held, and every further call is refused.
     pub fn feed(
         &mut self,
@@ -115,14 +115,14 @@ impl<'t, Sink: TokenSink<Token<A>>, A: Allocator + Copy> Tokenizer<'t, Sink, A> 
     ) -> Result<TokenizerResult<Sink::Handle, String<A>>, TokenizerError>
         requires { self.old.ended ≡ false }
 
-        // What an `Ok` says: a beginning of the queue's text was taken, and the sink was sent exactly
+        // What an `Ok` says: a prefix of the queue's text was taken, and the sink was sent exactly
         // what that decides. The rest waits, and the answer is the reply that pauses.
         ensures reads { IfOk result (λ answer.
             Feeds Sink.means self.old self.new queue.old.text queue.new.text (reply_in string_bytes answer)) }
         ensures items { IfOk result (λ answer.
             FeedsItems Sink.means self.old self.new queue.old.text queue.new.text (reply_in string_bytes answer)) }
 
-        // After a pause nothing is open: what follows is markup, unless the caller says otherwise.
+        // After a pause nothing is open: the rest is markup, unless the caller says otherwise.
         ensures paused { IfOk result (λ answer. answer ≢ TokenizerResult.Done
             → self.new.position.opened ≡ Between Data) }
 
@@ -202,7 +202,7 @@ impl<'t, Sink: TokenSink<Token<A>>, A: Allocator + Copy> Tokenizer<'t, Sink, A> 
     }
 
     /// Whether nothing is pending: no item is open, no call was refused, and the end was not sent. A
-    /// CR whose LF may still follow doesn't count. Then what follows can be sent to another sink, which
+    /// CR whose LF may still follow doesn't count. Then the rest can be sent to another sink, which
     /// the caller puts in the field `sink`.
     pub fn nothing_pending(&self) -> bool
         ensures exact { result ≡ (nothing_open self.now.position.opened && not self.now.failed && not self.now.ended) }
@@ -222,7 +222,7 @@ impl<'t, Sink: TokenSink<Token<A>>, A: Allocator + Copy> Tokenizer<'t, Sink, A> 
         self.position.is_after_less_than()
     }
 
-    /// Reads the rest of the stream as plain text, where nothing is pending.
+    /// Reads the rest of the stream as plain text, when nothing is pending.
     pub fn set_plaintext_state(&mut self)
         requires nothing_open { nothing_open self.old.position.opened ≡ true }
         requires not_failed { self.old.failed ≡ false }

@@ -77,7 +77,7 @@ from_first_with_text-push x [] last text here other =
 from_first_with_text-push x (y ∷ ys) last text here other =
     ap (λ l. message_of x ∷ l) (from_first_with_text-push y ys last text here other)
 
--- a text after an entry that is none
+-- a text after an entry that is not a text
 pub with_text-push : {Z : Type 0} (xs : List (Token Z × ℕ)) (i : ℕ) (last : Token Z × ℕ) (text : String Z)
     → i + 1 ≡ length xs
     → last ≡ get_or xs i last

@@ -19,6 +19,6 @@ options_of opts = record {
   last_start_tag_name = option_map string_bytes opts.last_start_tag_name;
 }
 
--- the options where none is chosen: a byte order mark is dropped
+-- the default options: a byte order mark is dropped
 abbrev pub default_options : OptionsOf
 default_options = record { exact_errors = false; discard_bom = true; initial_state = None; last_start_tag_name = None }

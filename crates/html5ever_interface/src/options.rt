@@ -10,9 +10,9 @@ use std::alloc::{AllocError, Allocator, Global};
 pub struct TokenizerOpts<A: Allocator = Global> {
     /// Report every bad character, and name no state in error messages.
     pub exact_errors: bool,
-    /// Drop U+FEFF where it is the first character of the stream.
+    /// Drop U+FEFF if it is the first character of the stream.
     pub discard_bom: bool,
-    /// The state to start in, where it is not `Data`. It must be a text state.
+    /// The state to start in, if it is not `Data`. It must be a text state.
     pub initial_state: Option<State>,
     /// The name of the start tag before the input: raw data ends at an end tag of that name.
     pub last_start_tag_name: Option<String<A>>,

@@ -72,7 +72,7 @@ pub fn read_with_script<S: TokenSink<Token<A>> + Drop, A: Allocator + Copy>(
     }
     if let TokenizerResult::Script(_) = tokenizer.feed(&mut queue)? {
         if queue.push_front(written).is_err() {
-            return Err(TokenizerError::Memory); // in front of what follows the tag's `>`
+            return Err(TokenizerError::Memory); // in front of the text after the tag's `>`
         }
     }
     feed_until_done(&mut tokenizer, &mut queue)?; // past all further pauses

@@ -58,7 +58,7 @@ frozen_base fallback href = frozen_by fallback (leads_to (Some fallback) href)
 abbrev pub page_bases : Bases → Bases
 page_bases bases = record bases { found = None }
 
--- the `href` of a `<base>`, where it has one
+-- the `href` of a `<base>`, if it has one
 abbrev pub base_href : TagOf → Option (List ℕ)
 base_href tag = if is_start_of tag (codes "base") then attribute_value (codes "href") tag.attributes else None
 
@@ -67,7 +67,7 @@ abbrev pub named_from : Option Parts → Option Parts → Option (List ℕ) → 
 named_from (Some fallback) None (Some href) = Some (frozen_base fallback href)
 named_from fallback found href = None
 
--- the URL that a tag names, where none was named before it
+-- the URL that a tag names, when none was named before it
 abbrev pub named_by : Bases → TagOf → Option Parts
 named_by bases tag = named_from bases.fallback bases.found (base_href tag)
 
@@ -79,21 +79,21 @@ with_named bases (Some url) = record bases { found = Some url }
 abbrev pub bases_after : Bases → TagOf → Bases
 bases_after bases tag = with_named bases (named_by bases tag)
 
--- the base that links are resolved against, where there is one
+-- the base that links are resolved against, if there is one
 abbrev pub base_of : Bases → Option Parts
 base_of bases = option_or bases.found bases.fallback
 
 -- ---- links
 
--- the URL that an address leads to, where there is a base and it is one
+-- the URL that an address leads to, if there is a base and it is one
 abbrev pub url_at : Bases → List ℕ → Option Parts
 url_at bases address = option_and_then (λ base. leads_to (Some base) address) (base_of bases)
 
--- the text of a URL, or else the address as it is written
+-- the text of a URL, or else the unchanged address
 abbrev pub shown_or : List ℕ → Option Parts → List ℕ
 shown_or address None = address
 shown_or address (Some url) = serialize url
 
--- where an address leads, or else the address as it is written
+-- where an address leads, or else the unchanged address
 abbrev pub resolved : Bases → List ℕ → List ℕ
 resolved bases address = shown_or address (url_at bases address)

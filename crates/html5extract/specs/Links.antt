@@ -20,7 +20,7 @@ link_attribute name =
     else if bytes_eq name (codes "img") || bytes_eq name (codes "script") || bytes_eq name (codes "iframe") then Some (codes "src")
     else None
 
--- the value of the attribute, where there is one
+-- the value of the attribute, if there is one
 abbrev pub value_where : Option (List ℕ) → List AttributeOf → Option (List ℕ)
 value_where None attributes = None
 value_where (Some name) attributes = value_of name attributes
@@ -34,7 +34,7 @@ link_by_kind EndTag name attributes = None
 abbrev pub link_of : TagOf → Option (List ℕ)
 link_of tag = link_by_kind tag.kind tag.name tag.attributes
 
--- a byte, where it is no tab and breaks no line
+-- a byte, unless it is a tab or breaks a line
 abbrev pub kept : ℕ → List ℕ
 kept byte = if nat_eq byte 9 || nat_eq byte 10 || nat_eq byte 13 then [] else byte ∷ []
 

@@ -25,7 +25,7 @@ at_start printed = record { printed = printed; within = false }
 abbrev pub reading_of : {W : Type 0} → Showing W → Reading
 reading_of showing = record { printed = showing.printer.printed; within = showing.within }
 
--- whether what stands in an element of this name is a script or a style
+-- whether the content of an element of this name is a script or a style
 unfoldable pub is_skipped : List ℕ → Bool
 is_skipped name = bytes_eq name (codes "script") || bytes_eq name (codes "style")
 

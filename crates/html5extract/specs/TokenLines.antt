@@ -30,7 +30,7 @@ pub record TokenReading : Type 0 where
 abbrev pub line_output : Bool → Output
 line_output in_text = record { lines = []; in_text = in_text; foreign = false }
 
--- where no text is open
+-- when no text is open
 abbrev pub lines_started : {W : Type 0} → Printing W → Option (List ℕ) → LinePrinter W
 lines_started printer front = record { printer = printer; in_text = false; front = front; faults = 0 }
 
@@ -46,9 +46,9 @@ tokens_closed s = record s { lines = s.lines ++ text_closing s.in_text; in_text 
 abbrev pub tokens_named : List ℕ → TokenReading → TokenReading
 tokens_named file s = record (tokens_closed s) { front = front_named file s.front }
 
--- ---- what a token adds to the lines, with what stands in front of a line
+-- ---- what a token adds to the lines, with the text in front of a line
 
--- a byte, after it where no line has begun
+-- a byte, after it when no line has begun
 abbrev pub byte_added : List ℕ → Bool → ℕ → List ℕ
 byte_added front true byte = byte ∷ []
 byte_added front false byte = front ++ byte ∷ []

@@ -85,7 +85,7 @@ fn base_href<A: Allocator>(tag: &Tag<A>) -> Option<&String<A>>
     None
 }
 
-/// A resolved address, or else the address as it is written.
+/// A resolved address, or else the unchanged address.
 pub fn shown<'a>(url: &'a Option<Url>, address: &'a str) -> &'a str
     ensures { result.now ≡ shown_or address.now url.now }
 {
@@ -120,7 +120,7 @@ impl Bases {
         })
     }
 
-    /// The URL that a tag names for the links of the page, where none was named before it: the first `<base>` with an
+    /// The URL that a tag names for the links of the page, when none was named before it: the first `<base>` with an
     /// `href` counts, where the page has a URL.
     pub fn named_by<A: Allocator>(&self, tag: &Tag<A>) -> Result<Option<Url>, AllocError>
         ensures { IfOk result (λ url. url ≡ named_by self.now (tag_of tag.now)) }
@@ -177,7 +177,7 @@ fn no_bases() -> Bases
     }
 }
 
-/// At the URL that a word is, or at none where there is no word.
+/// At the URL that a word is, or at none if there is no word.
 pub fn bases_at(alloc: Global, word: Option<&str>) -> Result<Bases, BaseError>
     ensures { IfOk result (λ bases. bases_by_word (option_map (λ word. word.now) word.entry) ≡ Some bases) }
 {

@@ -12,8 +12,8 @@ use html5stream::{StreamError, read_tags};
 use markup5ever::data::NamedReferences;
 use std::alloc::{Allocator, Global};
 
-/// Reads a page, and prints its links as it arrives, in the order in which they stand there, each where it
-/// leads from the page's URL, or from the base that the tags before it name.
+/// Reads a page, and prints its links as it arrives, in their order. Each is printed as where it leads
+/// from the page's URL, or from the base that the tags before it name.
 pub fn read_links<R: Source, W: Target, A: Allocator + Copy>(
     alloc: A,
     source: &mut R,

@@ -54,7 +54,7 @@ pub fn link_of<A: Allocator>(tag: &Tag<A>) -> Option<&String<A>>
     }
 }
 
-// Appends a byte, where it is no tab and no line break.
+// Appends a byte, unless it is a tab or a line break.
 fn push_kept<A: Allocator>(line: &mut Vec<u8, A>, byte: u8) -> Result<(), AllocError>
     ensures { OnOk result (line.new.items ≡ line.old.items ++ kept byte) }
 {
@@ -94,9 +94,9 @@ fn line_of<A: Allocator>(
     Ok(line)
 }
 
-/// Prints the links of the tags that it takes, a line each: the name in front, if there is one, the number of the line on which the tag
-/// ends, a space, and where the link leads, or the link as it is written, without the tabs and line breaks
-/// that a URL has none of.
+/// Prints the links of the tags that it takes, a line each. It has the name in front, if there is one, the number of
+/// the line on which the tag ends, a space, and where the link leads. If no URL comes of it, that is the unresolved
+/// link, without tabs and line breaks, which no URL has.
 #[derive(Drop)]
 pub struct Links<W, A: Allocator = Global> {
     pub alloc: A,

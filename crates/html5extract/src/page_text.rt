@@ -9,7 +9,7 @@ use html5sinks::text_runs::TokenHandler;
 use std::alloc::{Allocator, Global};
 use std::marker::Model;
 
-// Whether what stands in an element of this name is a script or a style.
+// Whether the content of an element of this name is a script or a style.
 #[tactic(auto, unfolding(crate::specs::PageText::is_skipped))]
 fn is_skipped(name: &str) -> bool
     ensures { result ≡ is_skipped name.now }
@@ -30,7 +30,7 @@ fn is_within_after<A: Allocator>(within: bool, token: &Token<A>) -> bool
     }
 }
 
-/// Prints the text that it takes, but for what stands in scripts and styles.
+/// Prints the text that it takes, except for the content of scripts and styles.
 #[derive(Drop)]
 pub struct PageText<W, A: Allocator = Global> {
     printer: Printer<W, A>,
@@ -65,7 +65,7 @@ impl<W: Target, A: Allocator> PageText<W, A> {
         PageText::new(self.printer)
     }
 
-    // Prints a run, where no script and no style is open.
+    // Prints a run, when no script and no style is open.
     fn show(&mut self, run: &str) -> Result<(), SinkFault>
         ensures ok { OnOk result (self.new.printer.printed ≡ self.old.printer.printed
             ++ shown self.old.within run.now) }
@@ -81,7 +81,7 @@ impl<W: Target, A: Allocator> PageText<W, A> {
         }
     }
 
-    /// The printer, with what was printed.
+    /// The printer, with its output.
     pub fn into_inner(self) -> Printer<W, A>
         ensures { result ≡ self.printer }
     {

@@ -53,7 +53,7 @@ fn is_open_after<A: Allocator>(in_text: bool, token: &Token<A>) -> bool
     }
 }
 
-// Appends a byte, after the name in front where no line has begun.
+// Appends a byte, after the name in front when no line has begun.
 fn push_byte<A: Allocator>(
     lines: &mut Vec<u8, A>,
     front: &Front,
@@ -179,7 +179,7 @@ fn print_token<W: Target, A: Allocator + Copy>(
 }
 
 /// Prints what it is sent as `PrintSink` does, but to a printer, as it comes, with a name in front of each
-/// line where there is one. It replies as that does.
+/// line if there is one. It replies as that does.
 #[derive(Drop)]
 pub struct TokenLines<W, A: Allocator = Global> {
     alloc: A,
@@ -198,7 +198,7 @@ impl<W, A: Allocator> Model for TokenLines<W, A> {
 }
 
 impl<W: Target, A: Allocator> TokenLines<W, A> {
-    /// Prints to this printer, where no text is open.
+    /// Prints to this printer, when no text is open.
     pub fn new(alloc: A, printer: Printer<W, A>, front: Front) -> TokenLines<W, A>
         ensures { result ≡ lines_started printer front }
     {
@@ -211,7 +211,7 @@ impl<W: Target, A: Allocator> TokenLines<W, A> {
         }
     }
 
-    /// The printer, with what was printed.
+    /// The printer, with its output.
     pub fn into_inner(self) -> Printer<W, A>
         ensures { result ≡ self.printer }
     {

@@ -9,7 +9,7 @@ use Rattle.std.proofs.lemmas.Str.{IsCharBoundary-after_ascii, IsCharBoundary-sta
 use Rattle.std.proofs.lemmas.Str.Ascii.{IsAscii-more, IsAscii-nil}
 use Rattle.markup5ever.specs.SmallCharSet.{BeginsOutside, IsMember}
 
--- so many bytes are such a front
+-- this many bytes are such a front
 pub record IsAsciiFront (P : ℕ → Type 0) (text : List ℕ) (len : ℕ) : Type 0 where
   pub boundary : IsCharBoundary text len
   pub ascii : IsAscii (take len text)
@@ -45,7 +45,7 @@ front-bytes P text len front =
 pub front-characters : (P : ℕ → Type 0) (text : List ℕ) (len : ℕ) → IsAsciiFront P text len → All P (chars (take len text))
 front-characters P text len front = rw (chars-IsAscii (take len text) front.ascii) (front-bytes P text len front)
 
--- where no byte with the property is in a set, the front is outside it
+-- when no byte with the property is in a set, the front is outside it
 pub front-outside : (P : ℕ → Type 0) (set : ℕ) (text : List ℕ) (len : ℕ) → ((c : ℕ) → P c → ¬ IsMember set c) → IsUtf8 text → IsAsciiFront P text len
     → BeginsOutside set text len
 front-outside P set text len out utf8 front = record {

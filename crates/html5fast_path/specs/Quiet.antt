@@ -34,13 +34,13 @@ unfoldable pub ReadsQuietly : Open → List ℕ → Open → Type 0
 ReadsQuietly opened [] later = opened ≡ later
 ReadsQuietly opened (c ∷ text) later = (next : Open) × (IsQuiet opened next c × ReadsQuietly next text later)
 
--- so many bytes at the front of a text are read so
+-- this many bytes at the front of a text are read so
 pub record ReadsFront (text : List ℕ) (bytes : ℕ) (opened later : Open) : Type 0 where
   pub within : bytes ≤ length text
   pub rest_utf8 : IsUtf8 (drop bytes text)
   pub quiet : ReadsQuietly opened (chars (take bytes text)) later
 
--- a beginning of the text was read so, and memory was refused for what begins with the next character
+-- a prefix of the text was read so, and memory was refused for what begins with the next character
 pub record StopsQuietly (opened : Open) (text : List ℕ) : Type 0 where
   pub front : List ℕ
   pub item : List ℕ
@@ -65,7 +65,8 @@ abbrev pub opening_of : TagKind → Open
 opening_of StartTag = LessThan
 opening_of EndTag = LessThanSolidus
 
--- so many bytes at the front of a text are a name: the first character is a letter, and none is in the set of those that end it
+-- this many bytes at the front of a text are a name: the first character is a letter, and none is in the set of those that end
+-- it
 pub record IsNameIn (ends : ℕ) (text : List ℕ) (len : ℕ) : Type 0 where
   pub outside : BeginsOutside ends text len
   pub first : ℕ

@@ -12,7 +12,7 @@ use html5partial::current_tag::push_value;
 use html5partial::opened::Opened;
 use std::alloc::{AllocError, Allocator};
 
-/// The character with which a text begins, where it is ASCII.
+/// The character with which a text begins, if it is ASCII.
 #[inline(always)]
 pub fn first_ascii(text: &str) -> Option<char>
     ensures { IfSome result (λ c. BeginsWithCharacter text.now c) }

@@ -78,7 +78,7 @@ fn front_len(ends: SmallCharSet, is_plain: bool, text: &str) -> usize
     }
 }
 
-// How many bytes the front of the name takes with which a text begins. Where the text begins with no letter, it is none.
+// How many bytes the front of the name takes with which a text begins. It is 0 if the text begins with no letter.
 #[inline(always)]
 fn name_len(ends: SmallCharSet, is_plain: bool, text: &str) -> usize
     ensures name { result ≢ 0 → IsNameIn ends text.now result }

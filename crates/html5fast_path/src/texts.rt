@@ -213,7 +213,7 @@ fn first_len(text: &str) -> usize
 }
 
 /// Reads a text, from its front, as long as its characters tell nothing. Answers how many bytes it
-/// read. What follows tells something, or is left to the states. Errors must not be exact, and no
+/// read. The next character tells something, or is left to the states. Errors must not be exact, and no
 /// first character may be dropped.
 pub fn read_quietly<A: Allocator + Copy>(
     at: &mut Opened<A>,
@@ -232,7 +232,7 @@ pub fn read_quietly<A: Allocator + Copy>(
         StopsQuietly (opened_of at.old) (chars (take refused.bytes text.now))) }
 {
     let mut read = 0;
-    // Most often a `>` ends a tag, whose end is told.
+    // Most often a `>` ends a tag, which it emits.
     while read < text.len() && text.as_bytes()[read] != b'>' {
         let rest = &text[read..];
         match read_next(at, alloc, rest) {

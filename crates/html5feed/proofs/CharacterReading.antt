@@ -78,7 +78,7 @@ after_name≢data : (held : List ℕ) (d : DoctypeOf) → after_doctype_name hel
 after_name≢data [] d = λ e. cc
 after_name≢data (c ∷ held) d = λ e. cc
 
--- no text of a section is held where there are no bytes of it
+-- no text of a section is held if there are no bytes of it
 section-filled : (held : List ℕ) → held ≢ [] → is_between state.CdataSection held ≡ false
 section-filled [] filled = absurd (filled refl)
 section-filled (c ∷ held) filled = refl
@@ -177,7 +177,7 @@ module _ {X S H : Type 0} (means : Means X S H) (rules : Rules) where
   messages-tokens line d (Tells told later) = ap (on_line line) (sym (append-nil (bad_character_error rules.exact d ++ told)))
   messages-tokens line d (TellsTag told tag) = refl
 
-  -- the reply to a tag is asked after all that was sent before
+  -- the sink replies to a tag after all that was sent before
   opened-after : (s : S) (line : ℕ) (last : List ℕ) (d : ℕ) (h : Here Open)
       → opened_here means.step means.reply rules s line last d h ≡ open_after means.reply (stepped means.step s (on_line line (bad_character_error rules.exact d ++ tokens_of h))) line last (afterwards h)
   unfolding opened_here tokens_of afterwards

@@ -14,7 +14,7 @@ pub holds-nothing : (references : List NamedReference) (opened later : Open) (te
 holds-nothing references opened later text none holds =
     holds.after ∙ ap (InReference holds.stand) (ap (λ l. holds.held ++ l) none ∙ append-nil holds.held) ∙ sym holds.before
 
--- the reference is the one that is kept beside what is open
+-- the reference is the one that is kept beside the open item
 pub holds-no_text : (references : List NamedReference) (is_in : Bool) (held : List ℕ) (opened : Open) → is_in ≡ true
     → HoldsText references (with_reference is_in held opened) [] (with_reference is_in held opened)
 unfolding with_reference HoldsEach

@@ -1,4 +1,5 @@
--- The line feeds of a block of bytes, but for its first ones, are the ones of its mask above as many places.
+-- The line feeds of a block of bytes, except for its first ones, are the ones of its mask above as many
+-- places.
 use Rattle.std.proofs.Common.{◌≡◌, ℕ, ◌+◌, ◌*◌, ◌/◌, ◌^◌, ◌≤◌, Bool, true, false, cond, List, [], ◌∷◌, zero, suc, length, map, take, drop, sym, ap, ◌∙◌, arith}
 use Rattle.std.specs.Prelude.{◌==◌, count_by, count_ones}
 use Rattle.std.proofs.lemmas.List.{drop-drop, drop-map, drop-take, length-drop, take-take}

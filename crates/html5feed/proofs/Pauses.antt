@@ -58,7 +58,7 @@ reply_in-pauses bytes Done other = absurd (other refl)
 reply_in-pauses bytes (Script handle) other = refl
 reply_in-pauses bytes (EncodingIndicator text) other = refl
 
--- where nothing pauses in two texts, nothing pauses in each
+-- when nothing pauses in two texts, nothing pauses in each
 pauses-parts : {H : Type 0} → (p : Bool) (r q : Reply H) → pauses r ≡ p → pauses (if pauses r then r else q) ≡ false
     → (pauses r ≡ false) × (pauses q ≡ false)
 pauses-parts true r q h none = absurd (false≢true (sym none ∙ rw h h))
@@ -182,7 +182,7 @@ module _ {X S H : Type 0} (means : Means X S H) (rules : Rules) where
       ∙ ap (λ N. takes_before (c ∷ Y) (feed means rules N (state_after means rules P t Y) [] Q)) (sym (after-append means.step means.reply means.foreign rules K s (c ∷ []) Y))
       ∙ ap (λ v. takes_before (c ∷ Y) (feed means rules (start_after means rules K s (c ∷ Y)) v [] Q)) (sym (state_beyond-append K s (c ∷ []) Y))
 
-  -- a feed takes a beginning of the queue's text
+  -- a feed takes a prefix of the queue's text
   pub feed-parts : (K : Start) (s : S) (X Q : List ℕ) → (feed means rules K s X Q).taken ++ (feed means rules K s X Q).left ≡ Q
   unfolding feed
   feed-parts K s X [] = refl

@@ -113,7 +113,7 @@ module _ {X S H : Type 0} (means : Means X S H) (rules : Rules) where
         ∙ takes_before-twice read.front item (fed N u new.text);
   }
 
-  -- an item that was taken is a beginning of what a feed takes
+  -- an item that was taken is a prefix of what a feed takes
   pub record IsTaken (L : Start) (t : S) (item rest : List ℕ) : Type 0 where
     pub more : List ℕ
     pub parts : (feed means rules L t [] (item ++ rest)).taken ≡ item ++ more
@@ -228,7 +228,7 @@ module _ {X S H : Type 0} (means : Means X S H) (rules : Rules) where
       ∙ ap (λ v. start_after means rules L v (item ++ is_taken.more)) (sym read.state)
       ∙ after-append means.step means.reply means.foreign rules L t item is_taken.more
 
-  -- a start is what is open and how characters come in
+  -- a start is an open item and how characters come in
   pub moved-after : (N K : Start) (s : S) (X : List ℕ) → N.opened ≡ (start_after means rules K s X).opened → N.last_start_tag ≡ (start_after means rules K s X).last_start_tag → N.input ≡ input_after K.input X → N ≡ start_after means rules K s X
   moved-after N K s X opened last input = rw (← opened, ← last, ← input) refl
 
@@ -263,7 +263,7 @@ module _ {X S H : Type 0} (means : Means X S H) (rules : Rules) where
     stopped = rw (told_beyond-after means rules K s read.front item, ← read.state, ← read.position) stops;
   }
 
-  -- what is left after an item is an end of the text
+  -- what is left after an item is a suffix of the text
   pub end-after : (K L : Start) (old mid new : TextQueue) (s t : S) (item : List ℕ) → HasRead K L old mid s t → Takes mid new item → IsEndOf new.text old.text
   end-after K L old mid new s t item read taken = record {
     front = read.front ++ item;

@@ -1,4 +1,4 @@
--- Characters that tell nothing leave the sink as it is, and lead to what is open after them.
+-- Characters that tell nothing leave the sink as it is, and lead to the item open after them.
 use Rattle.std.proofs.Common.{◌≡◌, ◌≢◌, ◌⊎◌, inl, inr, ℕ, ◌<◌, ◌+◌, ◌^◌, zero, suc, false, List, [], ◌∷◌, ◌++◌, Ok, Err, refl, ap, sym, ◌∙◌, subst, arith, length, length-append, take}
 use Rattle.std.specs.Prelude.{All, encode_utf8_all}
 use Rattle.std.specs.Str.{chars}
@@ -89,7 +89,7 @@ takes-quietly x rules K L old new bytes takes quiet none last input =
     by zero q e = inr (chars-nil, e refl)
     by (suc n) q e = inl (q (λ zero. cc))
 
--- and where it was refused
+-- and if it was refused
 pub stops-quietly : {T : Type 0} (rules : Rules) (K L : Start) (old new : TextQueue) (text : List ℕ) → Takes old new text → StopsAtCharacter rules K text
     → TakesQuietly {T = T} rules (Err Memory) K L old new
 stops-quietly rules K L old new text takes stops = record {
@@ -195,7 +195,7 @@ module _ {X S H : Type 0} (means : Means X S H) (rules : Rules) where
       HasRead-stops means rules Memory K L old mid mid s t t [] read (record { text = refl; handed_in = refl; taken = omega arith })
       (record { more = (feed means rules L t [] mid.text).taken; parts = refl }) tt (Memory-at_once means.step means.faulted t _)
 
-  -- and leaves what follows the character
+  -- and leaves the text after the character
   pub leaves-quietly : {T : Type 0} (K L N : Start) (old mid new : TextQueue) (s t : S) → HasRead means rules K L old mid s t
       → TakesQuietly {T = T} rules (Err Memory) L N mid new → RefusedAfter means rules Memory K s [] old.text new.text t
   leaves-quietly K L N old mid new s t read takes =

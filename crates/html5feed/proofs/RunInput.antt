@@ -19,7 +19,7 @@ with_line_feeds-run (c ∷ run) all =
     rw (ne_eqb c carriage_return (All-head (λ d. d ≢ carriage_return) c run all))
     (ap (λ l. c ∷ l) (with_line_feeds-run run (All-tail (λ d. d ≢ carriage_return) c run all)))
 
--- such characters come in as they are, where none is dropped
+-- such characters come in as they are, when none is dropped
 pub normalised-run : (I : Input) (run : List ℕ) → I.after_carriage_return ≡ false → I.drops_byte_order_mark ≡ false → All (λ c. c ≢ carriage_return) run
     → normalised I run ≡ run
 unfolding normalised without_dropped_first

@@ -39,7 +39,7 @@ use Rattle.html5feed.proofs.Pauses.{NoTagMessages, first_pause-no_tags, no_tag_m
 use Rattle.html5states.specs.Telling.{IsToldAs}
 use Rattle.html5states.proofs.Tellings.{concat-encoded}
 
--- a character that is no part of a line break
+-- a character that is not part of a line break
 pub record IsOrdinary (c : ℕ) : Type 0 where
   pub no_line_feed : c ≢ line_feed
   pub no_carriage_return : c ≢ carriage_return
@@ -62,7 +62,7 @@ ordinary-no_returns run all = All-weaker IsOrdinary (λ c. c ≢ carriage_return
 pub normalised-ordinary : (I : Input) (run : List ℕ) → I.after_carriage_return ≡ false → I.drops_byte_order_mark ≡ false → All IsOrdinary run → normalised I run ≡ run
 normalised-ordinary I run line_break start all = normalised-run I run line_break start (ordinary-no_returns run all)
 
--- the line stays where none is a LF
+-- the line stays if none is a LF
 line_after-ordinary : (I : Input) (before : List ℕ) (c : ℕ) → IsOrdinary c → line_after I (before ++ c ∷ []) ≡ line_after I before
 unfolding line_after
 line_after-ordinary I before c o =

@@ -1,4 +1,5 @@
--- A character after what is held of a reference, or of what may begin a keyword: it is held too, or it decides.
+-- A character after the held text of a reference, or of what may begin a keyword: it is held too, or it
+-- decides.
 use Rattle.std.proofs.Common.{◌≡◌, ℕ, ◌≤◌, ◌+◌, Bool, true, false, List, [], ◌∷◌, ◌++◌, refl, ap, sym, ◌∙◌, Some, None, Result, Ok, length-append, arith}
 use Rattle.std.specs.Prelude.{◌==◌, ◌<◌, ◌^◌, if◌then◌else◌}
 use Rattle.std.proofs.lemmas.Bool.{false≢true, eqb-true, and_parts}
@@ -110,7 +111,7 @@ module _ (rules : Rules) (foreign is_in : Bool) (held : List ℕ) (opened : Open
   unfolding with_reference
   held_len-held = rw inside (omega (arith, length-append held (c ∷ [])))
 
--- what is held stays, whatever is open beside it
+-- the held text stays, whatever is open beside it
 pub held_len-same : (is_in : Bool) (held : List ℕ) (opened later : Open) → is_in ≡ true
     → held_len (with_reference is_in held later) ≤ held_len (with_reference is_in held opened) + 1
 unfolding with_reference
@@ -118,7 +119,7 @@ held_len-same is_in held opened later inside = rw inside (omega arith)
 
 -- the end of input
 
--- where nothing is undecided it decides nothing
+-- when nothing is undecided it decides nothing
 pub end-none : (rules : Rules) (opened : Open) → is_undecided_open opened ≡ false → (late_at_end_of rules opened ≡ []) × (open_at_end_of rules opened ≡ opened)
 unfolding late_at_end_of open_at_end_of
 end-none rules (Between mode) none = (refl, refl)
@@ -145,7 +146,7 @@ pub end-reference : (rules : Rules) (is_in : Bool) (held : List ℕ) (opened : O
 unfolding with_reference open_at_end_of
 end-reference rules is_in held opened inside = rw inside refl
 
--- where nothing is undecided, a character decides nothing
+-- when nothing is undecided, a character decides nothing
 
 module _ {X S H : Type 0} (means : Means X S H) (count : X → ℕ) (rules : Rules) (line c : ℕ) (x : X) (K : Start) where
   pub reads-plain : is_undecided_open K.opened ≡ false → ReadsUndecided means count rules line c (Ok false) x x K K

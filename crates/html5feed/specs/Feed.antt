@@ -22,7 +22,7 @@ reply_in bytes Done = KeepOn
 reply_in bytes (Script handle) = RunScript handle
 reply_in bytes (EncodingIndicator text) = SwitchEncoding (bytes text)
 
--- the beginning of the queue's text that one feed takes, the rest that it leaves, and the reply that it hands on
+-- the prefix of the queue's text that one feed takes, the rest that it leaves, and the reply that it hands on
 pub record Feed (H : Type 0) : Type 0 where
   pub taken : List ℕ
   pub left : List ℕ
@@ -47,7 +47,7 @@ module _ {X S H : Type 0} (means : Means X S H) where
   abbrev pub told_at_end : Rules → Start → S → List ℕ → List Message
   told_at_end rules K s text = drop (length (messages_so_far means rules K s text)) (all_messages means rules K s text)
 
-  -- the first reply to some messages that pauses, or to keep on where none does
+  -- the first reply to some messages that pauses, or to keep on if none does
   unfoldable pub first_pause : S → List Message → Reply H
   first_pause s [] = KeepOn
   first_pause s (m ∷ M) =
@@ -62,11 +62,11 @@ module _ {X S H : Type 0} (means : Means X S H) where
   feed rules K s text [] = record { taken = []; left = []; answer = KeepOn }
   feed rules K s text (c ∷ queue) = up_to_pause (pause_at rules K s text c) c queue (feed rules K s (text ++ c ∷ []) queue)
 
--- what is left of a text is an end of it
+-- what is left of a text is a suffix of it
 pub record IsEndOf (left text : List ℕ) : Type 0 where
   pub front : List ℕ
   pub parts : text ≡ front ++ left
 
--- at most two characters were taken for each that left the queue. What is held of a reference before and after counts, too.
+-- at most two characters were taken for each that left the queue. Held characters of a reference count too, before and after.
 abbrev pub IsLinear : ℕ → TextQueue → ℕ → TextQueue → Type 0
 IsLinear held old held_after new = (new.taken + held_after) + 2 * length new.text ≤ (old.taken + held) + 2 * length old.text

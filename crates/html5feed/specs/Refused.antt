@@ -1,4 +1,4 @@
--- What a refused feed leaves: which beginning of the queue's text is gone, and how much of what it tells was sent.
+-- What a refused feed leaves: which prefix of the queue's text is gone, and how much of what it tells was sent.
 use Rattle.std.specs.Prelude.{◌≡◌, ◌≤◌, ◌⊎◌, ℕ, false, List, ◌++◌, length, All}
 use Rattle.html5ever_interface.specs.Sink.{Means}
 use Rattle.html5reading.specs.Reading.{state_after, start_after}
@@ -14,7 +14,7 @@ pub record IsGoodRun (opened : Open) (run : List ℕ) : Type 0 where
   pub quoted : is_unquoted opened ≡ false
   pub good : All (λ c. is_bad_character c ≡ false) run
 
--- a run that is read at once. No first character may be dropped, and where errors are exact there is none in the run.
+-- a run that is read at once. No first character may be dropped, and if errors are exact there is none in the run.
 pub record IsRun (rules : Rules) (K : Start) (run : List ℕ) : Type 0 where
   pub good : (rules.exact ≡ false) ⊎ IsGoodRun K.opened run
   pub past_line_break : K.input.after_carriage_return ≡ false
@@ -27,7 +27,7 @@ IsItem rules K item = (length item ≤ 1) ⊎ IsRun rules K item
 
 module _ {X S H : Type 0} (means : Means X S H) (rules : Rules) where
   -- after `text` a feed of `queue` was refused. The sink was sent all that the characters `front` tell. The feed stopped within
-  -- what the item after them tells, and what follows that item is left.
+  -- the messages of the item after them, and the text after that item is left.
   pub record RefusedAfter (e : TokenizerError) (K : Start) (s : S) (text queue left : List ℕ) (t : S) : Type 0 where
     pub front : List ℕ
     pub item : List ℕ

@@ -17,14 +17,14 @@ use Rattle.markup5ever.specs.NamedReferences.{NamedReference}
 abbrev pub rules_with : {Q Z : Type 0} → Teller Q Z → List NamedReference → Rules
 rules_with teller references = record { exact = teller.exact_errors; references = references }
 
--- "Named character reference state": what is held is no number, and ends with a semicolon
+-- "Named character reference state": the held text is not a number, and ends with a semicolon
 pub record IsEndedName (held : List ℕ) : Type 0 where
   pub no_number : first_or held None ≢ Some number_sign
   pub ends : held ≡ take (length held - 1) held ++ semicolon ∷ []
 
 module _ {X S H : Type 0} (means : Means X S H) (count : X → ℕ) where
-  -- the character c, read where `old` stands and `before` is the sink. The answer is `Ok true` where c belongs to what is held,
-  -- and `Ok false` where it decides that, or where nothing is undecided: then c is still to be read.
+  -- the character c, read where `old` stands and `before` is the sink. The answer is `Ok true` if c belongs to the held text,
+  -- and `Ok false` if it decides that, or if nothing is undecided: then c is still to be read.
   pub record ReadsUndecided (rules : Rules) (line c : ℕ) (result : Result Bool TokenizerError) (before after : X) (old new : Start) : Type 0 where
     pub tells : Tells means.step means.faulted result (means.state before)
         (on_line line (tokens_of_late (brought_at rules (means.foreign (means.state before)) old.opened c).settled)) (means.state after)

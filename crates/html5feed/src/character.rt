@@ -133,7 +133,7 @@ fn emit_tag<S: TokenSink<Token<A>>, A: Allocator + Copy>(
     }
 }
 
-// Reads a character in the state that is open, where nothing is undecided.
+// Reads a character in the state that is open, when nothing is undecided.
 #[inline(always)]
 fn read_opened<S: TokenSink<Token<A>>, A: Allocator + Copy>(
     alloc: A,

@@ -9,10 +9,10 @@ use std::simd::prelude::*;
 // How many bytes are looked at in one step.
 const BLOCK: usize = 16;
 
-// How many are of a text that is shorter than a block.
+// How many in a text that is shorter than a block.
 const HALF: usize = 8;
 
-// How many are of one that is shorter than half a block.
+// How many in one that is shorter than half a block.
 const QUARTER: usize = 4;
 
 /// How the characters of a stream come in: the line that was reached, and whether the next character
@@ -149,7 +149,7 @@ fn line_feeds_in_few(bytes: &[u8]) -> u64
     found
 }
 
-// How many line feeds a text has, by the blocks of so many lanes that it begins and ends with, which may overlap.
+// How many line feeds a text has, by the blocks of this many lanes that it begins and ends with, which may overlap.
 #[inline(always)]
 fn line_feeds_in_ends<const LANES: usize>(bytes: &[u8]) -> u64
     requires lanes { LANES < 64 }
@@ -162,8 +162,8 @@ fn line_feeds_in_ends<const LANES: usize>(bytes: &[u8]) -> u64
         + line_feeds_in_block::<LANES>(bytes, last, LANES - last)
 }
 
-// How many line feeds a block of so many lanes has after its first bytes, whose own were counted. All bytes are looked at
-// at once.
+// How many line feeds a block of this many lanes has after its first bytes, whose own were counted. All bytes are
+// looked at at once.
 #[inline(always)]
 fn line_feeds_in_block<const LANES: usize>(bytes: &[u8], from: usize, counted: usize) -> u64
     requires lanes { LANES < 64 }

@@ -113,7 +113,7 @@ impl<A: Allocator + Copy> Position<A> {
         self.input.line()
     }
 
-    /// Sends what the end of input tells of what is open.
+    /// Sends what the end of input tells of the open item.
     pub fn emit_end_of_input<S: TokenSink<Token<A>>>(
         &mut self,
         alloc: A,
@@ -226,7 +226,7 @@ fn name_or_empty<A: Allocator>(alloc: A, name: Option<String<A>>) -> String<A>
     }
 }
 
-// Whether nothing is open in the state, where no reference is open and this is held of a CDATA section.
+// Whether nothing is open in the state, when no reference is open and this is held of a CDATA section.
 #[inline(always)]
 fn is_between(state: State, held: &str) -> bool
     ensures { result ≡ is_between state (chars held.now) }
@@ -239,7 +239,7 @@ fn is_between(state: State, held: &str) -> bool
     }
 }
 
-// Whether the state is that after a `<` that may begin markup, where no reference is open.
+// Whether the state is that after a `<` that may begin markup, when no reference is open.
 fn is_after_less_than<A: Allocator>(opened: &Opened<A>) -> bool
     ensures { result ≡ is_after_less_than (opened_of opened.now) }
 {

@@ -21,7 +21,7 @@ use markup5ever::buffer_queue::BufferQueue;
 use markup5ever::tokenizer_result::TokenizerResult;
 use std::alloc::Allocator;
 
-// Sends the run of text with which the queue's text begins, and that takes so many bytes. The run leaves
+// Sends the run of text with which the queue's text begins, and that takes this many bytes. The run leaves
 // the queue even after a refusal.
 #[inline(always)]
 fn emit_waiting_run<S: TokenSink<Token<A>>, A: Allocator + Copy>(
@@ -125,7 +125,7 @@ fn read_waiting_quietly<A: Allocator + Copy>(
     }
 }
 
-/// Reads what waits in the queue, up to the first tag whose reply pauses.
+/// Reads the queued text, up to the first tag whose reply pauses.
 pub fn read_queue<S: TokenSink<Token<A>>, A: Allocator + Copy>(
     alloc: A,
     sink: &mut S,

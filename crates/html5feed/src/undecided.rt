@@ -27,8 +27,8 @@ use html5states::teller::Teller;
 use markup5ever::data::NamedReferences;
 use std::alloc::{AllocError, Allocator};
 
-// Whether the sink says that the content is foreign. The sink is asked only where the character may
-// belong to the keyword of a CDATA section.
+// Whether the sink says that the content is foreign. It asks the sink only if the character may belong to the keyword
+// of a CDATA section.
 fn asked_about_foreign<S: TokenSink<Token<A>>, A: Allocator>(
     sink: &S,
     opened: &Opened<A>,
@@ -94,7 +94,7 @@ fn hold<A: Allocator>(
     held.hold(references, c)
 }
 
-// Reads a character after what is held of a reference, and answers whether it belongs to the
+// Reads a character after the held text of a reference, and answers whether it belongs to the
 // reference. Else the reference is decided, and the character is still to be read.
 fn read_reference<S: TokenSink<Token<A>>, A: Allocator + Copy>(
     teller: &mut Teller<'_, S, A>,
@@ -116,7 +116,7 @@ fn read_reference<S: TokenSink<Token<A>>, A: Allocator + Copy>(
     Ok(ends)
 }
 
-// The same for what may begin a keyword. The sink is asked where that may be the keyword of a CDATA
+// The same for what may begin a keyword. It asks the sink if that may be the keyword of a CDATA
 // section.
 fn read_keyword<S: TokenSink<Token<A>>, A: Allocator + Copy>(
     teller: &mut Teller<'_, S, A>,

@@ -10,7 +10,7 @@ use Rattle.html5reading.proofs.ReadingLemmas.{told-trace, after-opened, after-la
 use Rattle.html5reading.proofs.Traces.{Trace, trace, with_messages}
 
 module _ {X S H : Type 0} (means : Means X S H) (rules : Rules) where
-  -- read with what follows it it tells these messages, and that
+  -- read with the text after it, it tells these messages, and then those of that text
   pub tells-before : (Z : List ℕ) (K : Start) (s : S) (Y : List ℕ) (M : List Message) (later : Start)
       → messages (told means.step means.reply means.foreign rules K s (Y ++ Z)) ≡ M ++ messages (told means.step means.reply means.foreign rules later (stepped means.step s M) Z)
       → after means.step means.reply means.foreign rules K s (Y ++ Z) ≡ after means.step means.reply means.foreign rules later (stepped means.step s M) Z

@@ -1,4 +1,4 @@
--- What is proved of a CDATA section, as it is written.
+-- What is proved of a CDATA section as source text.
 pub mod Steps
 pub mod Reading
 pub mod Forms

@@ -1,4 +1,4 @@
--- What is proved of a comment, as it is written.
+-- What is proved of a comment as source text.
 pub mod Text
 pub mod Steps
 pub mod Held

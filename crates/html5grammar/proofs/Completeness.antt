@@ -170,7 +170,7 @@ same-pushed (a ∷ d ∷ A) [] c e = absurd (nil≢cons (sym (cons_rest e)))
 same-pushed (a ∷ A) (b ∷ B) c e = ap (λ l. a ∷ l) (same-pushed A B c (cons_rest e)) ∙ ap (λ d. d ∷ B) (cons_first e)
 
 module _ {X S H : Type 0} (means : Means X S H) (rules : Rules) where
-  -- what stands first in a text
+  -- what comes first in a text
   pub data Next (K : Start) (s : S) (text : List ℕ) : Type 0 where
     NoText : normalised K.input text ≡ [] → Next K s text
     One : (Y Z : List ℕ) (M : List Message) (later : Start) → text ≡ Y ++ Z → Item means rules Z K s Y M later → nothing_open later.opened ≡ true
@@ -201,7 +201,7 @@ module _ {X S H : Type 0} (means : Means X S H) (rules : Rules) where
   pub composed : HasNext → (K : Start) (s : S) (X : List ℕ) → nothing_open K.opened ≡ true → Composed means rules K s X
   composed next K s X clean = composed-within next (suc (length (normalised K.input X))) K s X clean (omega arith)
 
-  -- ---- what stands first, by the first characters
+  -- ---- what comes first, by the first characters
 
   shorter : (n : ℕ) (a : ℕ) (A B : List ℕ) → length B < length (a ∷ A ++ B)
   shorter n a A B = omega (arith, length-append (a ∷ A) B)
@@ -414,7 +414,7 @@ module _ {X S H : Type 0} (means : Means X S H) (rules : Rules) where
   next-raw_form K s X raw name T (OpenEnd tag last ends has_parts is_open parts) starts e =
       Cut _ _ (OpenRawEnd raw name tag last (record { starts = starts; ends = ends; has_parts = has_parts; is_open = is_open; text = e ∙ parts }))
 
-  -- a tag, and what follows it, is the next item
+  -- a tag is the next item, whatever the text after it
   next-tag_by : (K : Start) (s : S) (X : List ℕ) (kind : TagKind) (c : ℕ) (rest : List ℕ) (parts : List Part) (tail : List ℕ) → is_letter c ≡ true → list_all in_tag_name rest ≡ true → can_follow InName parts ≡ true
       → Ending (place_after_parts InName parts) tail → K.opened ≡ Between Data → normalised K.input X ≡ opening kind ++ (c ∷ rest ++ (flat_map part_text parts ++ tail)) → Next K s X
   unfolding one_tag.is_written one_tag.is_open_written one_tag.open_written

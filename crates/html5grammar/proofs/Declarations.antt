@@ -1,4 +1,4 @@
--- What stands after `<!` and has no `>`: a keyword that only the end decides, and a bogus comment.
+-- The text after `<!` that has no `>`: a keyword that only the end decides, and a bogus comment.
 use Rattle.std.proofs.Common.{◌≡◌, inl, inr, ℕ, Bool, true, false, List, [], ◌∷◌, ◌++◌, length, drop, refl, ap, sym, ◌∙◌, subst}
 use Rattle.std.specs.Prelude.{◌==◌, ◌&&◌, ◌||◌, not, codes, nat_eq, if◌then◌else◌}
 use Rattle.std.specs.Char.{to_ascii_lowercase}
@@ -33,9 +33,9 @@ use Rattle.html5grammar.specs.Declarations.{may_begin, IsOpenKeyword, IsOpenBogu
 use Rattle.html5grammar.proofs.Comment.Forms.{begins-parts}
 use Rattle.html5grammar.proofs.Telling.{TellsAll, tells-trace}
 
--- ---- beginnings of keywords
+-- ---- prefixes of keywords
 
--- a beginning of what begins a word begins it too
+-- a prefix of what begins a word begins it too
 pub begins-front : (word a b : List ℕ) → starts_with nat_eq word (a ++ b) ≡ true → starts_with nat_eq word a ≡ true
 begins-front word a b h =
     let later : List ℕ = drop (length (a ++ b)) word in
@@ -100,7 +100,7 @@ decides-open begins before (c ∷ text) h none =
 
 -- ---- what is sent
 
--- what is held tells nothing as the content of a bogus comment
+-- the held text tells nothing as the content of a bogus comment
 spelled-held : (exact : Bool) (input : Input) (before held rest content : List ℕ) → held ++ rest ≡ content → list_all is_good held ≡ true
     → spelled_messages exact input before (spell_bogus exact content) ≡ spelled_messages exact input (before ++ held) (spell_bogus exact rest)
 spelled-held exact input before held rest content parts good =

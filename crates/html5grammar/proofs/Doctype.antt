@@ -1,4 +1,4 @@
--- What is proved of a doctype, as it is written.
+-- What is proved of a doctype as source text.
 pub mod Steps
 pub mod Parts
 pub mod Held

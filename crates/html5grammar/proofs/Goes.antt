@@ -1,4 +1,4 @@
--- Characters that tell what they spell, and lead on from what is open.
+-- Characters that tell what they spell, and lead from one open item to the next.
 use Rattle.std.proofs.Common.{◌≡◌, ℕ, Bool, true, false, List, [], ◌∷◌, ◌++◌, refl, ap, sym, ◌∙◌, subst}
 use Rattle.std.specs.Prelude.{map}
 use Rattle.std.specs.List.{list_all}
@@ -38,7 +38,7 @@ tells_tag (Tells told later) = false
 tells_tag (TellsTag told tag) = true
 
 module _ (exact : Bool) where
-  -- each character tells what it spells, and leads on from what is open
+  -- each character tells what it spells, and leads from one open item to the next
   unfoldable pub Goes : Open → List Spelled → Open → Type 0
   Goes opened [] later = opened ≡ later
   Goes opened (here ∷ more) later =
@@ -75,7 +75,7 @@ module _ (exact : Bool) where
   tag-decided (InDoctypeKeyword held d) c told tag e = absurd (false≢true (ap tells_tag e))
   tag-decided opened c told tag e = refl
 
-  -- a run of characters that only make what is open grow
+  -- a run of characters that only make the open item grow
   pub goes-run : {X : Type 0} → (opened : X → Open) (more : X → List ℕ → X) (is_kind : ℕ → Bool) (tells : ℕ → List Told)
       → ((x : X) → more x [] ≡ x)
       → ((x : X) (c : ℕ) (run : List ℕ) → more x (c ∷ run) ≡ more (more x (c ∷ [])) run)

@@ -1,4 +1,4 @@
--- Characters that are held while they may begin a keyword: what is held of a word, and where none comes.
+-- Characters that are held while they may begin a keyword: the held text of a word, and when none comes.
 use Rattle.std.proofs.Common.{◌≡◌, ℕ, ◌+◌, ◌≤◌, ◌<◌, zero, suc, Bool, true, false, List, [], ◌∷◌, ◌++◌, take, length, length-append, refl, ap, sym, ◌∙◌, arith, subst}
 use Rattle.std.specs.Prelude.{◌==◌, ◌&&◌, not, cond, map, nat_eq, nat_le, nat_lt, count_by, if◌then◌else◌}
 use Rattle.std.specs.Char.{to_ascii_lowercase}
@@ -45,7 +45,7 @@ plain-byte : (c : ℕ) → c < 128 → (c == null) ≡ false → value_bytes c �
 unfolding value_bytes shown encode
 plain-byte c small other = rw (other, lt-ltb c 128 small) refl
 
--- texts that are a beginning of a word, by what is compared of each character
+-- texts that are a prefix of a word, by what is compared of each character
 module _ (compared : ℕ → ℕ) (is_kind : ℕ → Bool) (plain : (c : ℕ) → is_kind (compared c) ≡ true → IsPlainCharacter c) where
   pub plain-beginning : (text word : List ℕ) (n : ℕ) → list_all is_kind word ≡ true → pointwise nat_eq (map compared text) (take n word) ≡ true → IsPlain text
   plain-beginning [] word n kind h = record { bytes = refl; lines = refl; good = refl }
@@ -82,7 +82,7 @@ plain-letter c h =
     let range = lower-range c (nat_lt c 65) (nat_lt c 91) h in
     plain-between c range.0 range.1
 
--- a beginning of a word of letters, in any case
+-- a prefix of a word of letters, in any case
 pub plain-word : (text word : List ℕ) → list_all (is_between 97 122) word ≡ true → begins_with (lower_case text) word ≡ true → IsPlain text
 plain-word text word letters h = plain-beginning to_ascii_lowercase (is_between 97 122) plain-letter text word (length (lower_case text)) letters h
 
@@ -91,12 +91,12 @@ unfolding line_after
 line-plain input before held plain =
     rw (sum_by-append (λ (c : ℕ). cond (c == line_feed) 1 0) before held, plain.lines) (omega arith)
 
--- ---- beginnings of words
+-- ---- prefixes of words
 
 pub begins-word : (word rest : List ℕ) → begins_with word (word ++ rest) ≡ true
 begins-word word rest = ap (pointwise nat_eq word) (take_at word rest (length word) refl) ∙ (bytes_decides word word).1 refl
 
--- a beginning is not the whole
+-- a prefix is not the whole
 pub no_whole : (front : List ℕ) (c : ℕ) (rest : List ℕ) → bytes_eq front (front ++ c ∷ rest) ≡ false
 no_whole front c rest =
     let more : length (c ∷ rest) ≡ 1 + length rest = omega arith in
@@ -104,7 +104,7 @@ no_whole front c rest =
     let e : length front ≡ length (front ++ c ∷ rest) = ap length (same_text front (front ++ c ∷ rest) (sym h)) in
     omega (arith, e, length-append front (c ∷ rest), more))
 
--- a word with which a text doesn't begin is none of its beginnings
+-- a word with which a text doesn't begin is not one of its prefixes
 pub no_beginning : (word content front rest : List ℕ) → begins_with word content ≡ false → content ≡ front ++ rest → bytes_eq front word ≡ false
 no_beginning word content front rest h split =
     false_from_ne_true (bytes_eq front word) (λ e. false≢true (sym h
@@ -122,7 +122,7 @@ none_with (z ∷ text) (y ∷ word) x (suc n) h =
     let p = and_parts (not (x == y)) (list_all (λ z. not (x == z)) word) h in
     ap (λ t. nat_eq z y && t) (none_with text word x n p.1) ∙ and-false (nat_eq z y)
 
--- ---- what is held of a text, by a test of beginnings
+-- ---- the held text, by a test of prefixes
 
 pub while-parts : (begins : List ℕ → Bool) (before text : List ℕ) → run_while begins before text ++ after_while begins before text ≡ text
 unfolding run_while after_while
@@ -144,7 +144,7 @@ begins-while begins before (c ∷ text) h =
       | false ↦ λ e. ap begins (append-nil before) ∙ h
     ] refl
 
--- the character after what is held decides, be it a `>`, with which nothing begins
+-- the character after the held text decides, be it a `>`, with which nothing begins
 pub decides-while : (begins : List ℕ → Bool) → ((text : List ℕ) → begins (text ++ greater_than ∷ []) ≡ false) → (before text : List ℕ)
     → next_is (λ d. not (begins ((before ++ run_while begins before text) ++ d ∷ []))) (after_while begins before text ++ greater_than ∷ []) ≡ true
 unfolding run_while after_while

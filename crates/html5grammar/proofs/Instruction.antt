@@ -1,4 +1,4 @@
--- What is proved of a processing instruction, as it is written.
+-- What is proved of a processing instruction as source text.
 pub mod Reading
 pub mod Collected
 mod Cases

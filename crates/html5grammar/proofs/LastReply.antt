@@ -20,7 +20,7 @@ use Rattle.html5reading.proofs.Traces.{brought-tells, trace_brought, trace, trac
 use Rattle.html5ever_interface.specs.Token.Reply.{KeepOn}
 
 module _ {S H : Type 0} (step : S → Told → ℕ → S) (reply : S → Told → ℕ → Reply H) where
-  -- the reply to the last message is asked after all before it
+  -- the sink replies to the last message after all before it
   last_reply-tokens : (s : S) (line : ℕ) (tokens : List Told) (token : Told)
       → last_reply step reply s (on_line line (tokens ++ token ∷ [])) ≡ reply (stepped step s (on_line line tokens)) token line
   unfolding last_reply stepped

@@ -21,8 +21,8 @@ use Rattle.html5reading.proofs.ReadingLemmas.{told-trace, after-opened, reading-
 use Rattle.html5reading.proofs.Traces.{brought-tells, trace_brought, Trace, trace, trace_here, with_messages, messages-append}
 
 module _ (rules : Rules) where
-  -- each character tells what it spells, decides nothing that stands before it, and leads on from what is open, whatever the sink
-  -- answers
+  -- each character tells what it spells, decides nothing that stands before it, and leads from one open item to the next,
+  -- whatever the sink answers
   unfoldable pub Leads : Open → List Spelled → Open → Type 0
   Leads opened [] later = opened ≡ later
   Leads opened (here ∷ more) later =

@@ -1,4 +1,4 @@
--- What is proved of raw text, as it is written.
+-- What is proved of the source of raw text.
 pub mod Steps
 pub mod Reading
 pub mod Items

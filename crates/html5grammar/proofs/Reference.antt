@@ -1,4 +1,4 @@
--- What is proved of a character reference, as it is written.
+-- What is proved of a character reference as source text.
 pub mod Reading
 pub mod Collected
 pub mod Within

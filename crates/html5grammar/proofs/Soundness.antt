@@ -296,7 +296,7 @@ module _ {X S H : Type 0} (means : Means X S H) (rules : Rules) where
   nothing-end (RawText raw name) = refl
   nothing-end Cdata = refl
 
-  -- what is held of an undecided reference is all of the text
+  -- the held text of an undecided reference is all of the text
   found-open : (F : List ℕ) → is_none (deciding_in rules.references F) ≡ true → found_in rules false F ≡ reference rules false F None
   found-open F undecided =
       let none : after_while (is_undecided rules.references) [] F ≡ [] = first_none (after_while (is_undecided rules.references) [] F) undecided in
@@ -410,7 +410,7 @@ module _ {X S H : Type 0} (means : Means X S H) (rules : Rules) where
       Leads-append rules (Between mode) (Between mode) (Between mode) (record { character = c; told = text_told rules.exact mode c } ∷ []) (spell (text_told rules.exact mode) run)
       (leads-character rules mode c p.0) (leads-run mode run p.1)
 
-  -- a character of a text of Data, after what is told first
+  -- a character of a text of Data, after the tokens that are told first
   data-at : (before : List Told) (c : ℕ) (l : Bool) → (c == less_than) ≡ l → not (c == ampersand) ≡ true
       → data_step rules.exact before c ≡ Tells (before ++ (if l then [] else text_told rules.exact Data c)) (opened_after_less_than l)
   unfolding data_step

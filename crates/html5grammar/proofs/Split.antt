@@ -1,4 +1,4 @@
--- A beginning of the normalised text is the normalised text of a beginning.
+-- A prefix of the normalised text is the normalised text of a prefix.
 use Rattle.std.proofs.Common.{◌≡◌, ℕ, Bool, true, false, List, [], ◌∷◌, ◌++◌, refl, ap, sym, ◌∙◌, subst}
 use Rattle.std.specs.Prelude.{◌==◌, if◌then◌else◌}
 use Rattle.std.proofs.lemmas.Bool.{false≢true}

@@ -1,4 +1,4 @@
--- What is proved of a tag, as it is written.
+-- What is proved of a tag as source text.
 pub mod Steps
 pub mod Attributes
 pub mod Stops

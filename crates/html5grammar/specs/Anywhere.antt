@@ -46,7 +46,7 @@ module _ {X S H : Type 0} (means : Means X S H) where
     abbrev pub TellsByItself : Start → S → List ℕ → List Message → Start → Type 0
     TellsByItself K s Y M later = (Z : List ℕ) → TellsBefore Z K s Y M later
 
--- ---- references, which what follows them decides
+-- ---- references, which the text after them decides
 
 -- "Character reference state": whether c after a reference decides it, and is no part of it. A number that has its semicolon is
 -- decided.

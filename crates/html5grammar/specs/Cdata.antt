@@ -1,4 +1,4 @@
--- One CDATA section as it is written, and what it tells.
+-- One CDATA section as source text, and what it tells.
 use Rattle.std.specs.Prelude.{◌≡◌, ℕ, Bool, true, List, [], ◌∷◌, ◌++◌, ◌==◌, ◌||◌, ◌&&◌, not, codes, if◌then◌else◌}
 use Rattle.std.specs.List.{list_all}
 use Rattle.html5ever_interface.specs.Sink.{Message, on_line}
@@ -18,7 +18,7 @@ use Rattle.html5reading.specs.Start.Open.{Between}
 
 -- ---- how a section is written
 
--- "CDATA section state" to "CDATA section end state": a section as it is written
+-- "CDATA section state" to "CDATA section end state": a section as source text
 pub record WrittenCdata : Type 0 where
   -- whether it begins with `<![CDATA[`: else it is read from inside a section on
   pub has_opening : Bool
@@ -76,11 +76,11 @@ spell_end is_ended last =
     if is_ended then spell_silent (codes "]]") ++ record { character = greater_than; told = texts last } ∷ []
     else []
 
--- what stands after the opening, which tells nothing
+-- the part after the opening, which tells nothing
 abbrev pub spell_cdata : WrittenCdata → List Spelled
 spell_cdata cdata = spell_pieces cdata.pieces ++ (spell_silent cdata.last ++ spell_end cdata.is_ended cdata.last)
 
--- "CDATA section state", at the end: the end of input tells the last piece where no `]]>` did, and that is an error
+-- "CDATA section state", at the end: the end of input tells the last piece when no `]]>` did, and that is an error
 abbrev pub told_at_end : Bool → Bool → List ℕ → List Told
 told_at_end exact is_ended last =
     if is_ended then End ∷ [] else texts last ++ end_error_in exact state.CdataSection ∷ End ∷ []

@@ -1,4 +1,4 @@
--- One comment as it is written, and what it tells.
+-- One comment as source text, and what it tells.
 use Rattle.std.specs.Prelude.{◌≡◌, ℕ, Bool, true, false, List, [], ◌∷◌, ◌++◌, ◌==◌, ◌||◌, ◌&&◌, not, nat_eq, length, flat_map, codes, if◌then◌else◌}
 use Rattle.std.specs.List.{starts_with, list_all}
 use Rattle.html5ever_interface.specs.Sink.{Message, on_line}
@@ -36,7 +36,7 @@ pub data Opening : Type 0 where
   -- `<!`
   ExclamationMark : Opening
 
--- a comment as it is written
+-- a comment as source text
 pub data WrittenComment : Type 0 where
   -- `<!--`, the content and the end
   Proper : List ℕ → Ending → WrittenComment
@@ -126,7 +126,7 @@ null_state before =
     else if after_one_dash before then state.CommentEndDash
     else state.Comment
 
--- "Comment state": the characters of a comment, each with its errors, by what stands before it in the comment
+-- "Comment state": the characters of a comment, each with its errors, by the text before it in the comment
 unfoldable pub spell_content : Bool → List ℕ → List ℕ → List Spelled
 spell_content exact before [] = []
 spell_content exact before (c ∷ content) =
@@ -154,7 +154,7 @@ spell_odd exact [] = []
 spell_odd exact (c ∷ content) =
     record { character = c; told = error_in exact state.EndTagOpen c ∷ null_error exact state.BogusComment c } ∷ spell_bogus exact content
 
--- the messages of a comment. Where no keyword stands after `<!`, that is an error on the line of its `!`. What could have begun
+-- the messages of a comment. When no keyword stands after `<!`, that is an error on the line of its `!`. What could have begun
 -- one tells nothing, so the error comes first.
 unfoldable pub messages_of : Bool → Input → WrittenComment → List Message
 messages_of exact input (Proper content ending) =

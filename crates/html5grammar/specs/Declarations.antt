@@ -1,4 +1,4 @@
--- What stands after `<!` where the text ends before a `>`: a keyword that is not decided, a bogus comment, or a doctype.
+-- The text after `<!` if it ends before a `>`: a keyword that is not decided, a bogus comment, or a doctype.
 use Rattle.std.specs.Prelude.{◌≡◌, ◌&&◌, ◌||◌, ℕ, Bool, true, false, List, [], ◌∷◌, ◌++◌, flat_map, codes, Option, None, Some, if◌then◌else◌}
 use Rattle.std.specs.List.{list_all}
 use Rattle.html5ever_interface.specs.Sink.{Message, on_line}
@@ -32,7 +32,7 @@ use Rattle.html5reading.specs.Tag.{null_error}
 unfoldable pub may_begin : Bool → List ℕ → Bool
 may_begin foreign text = begins_keyword text || (foreign && begins_cdata text)
 
--- "Markup declaration open state", at the end: the text Y is `<!` and a beginning of a keyword, but not the whole of one
+-- "Markup declaration open state", at the end: the text Y is `<!` and a prefix of a keyword, but not the whole of one
 pub record IsOpenKeyword (K : Start) (foreign : Bool) (Y : List ℕ) (held : List ℕ) : Type 0 where
   pub starts : K.opened ≡ Between Data
   pub opens : can_open foreign ExclamationMark held ≡ true
@@ -92,7 +92,7 @@ open_doctype_messages exact input word space (Named first rest later afterwards)
     spelled_messages exact input [] (spell_name exact word space first rest later)
     ++ messages_after_open_name exact input (opening word space ++ (first ∷ rest ++ later)) (told_after_name (flat_map name_bytes (first ∷ rest)) afterwards) afterwards
 
--- "Bogus DOCTYPE state": the state that the error of the end names. There is none where a rest is skipped.
+-- "Bogus DOCTYPE state": the state that the error of the end names. There is none if a rest is skipped.
 abbrev pub rest_state : State → List ℕ → Option State
 rest_state named [] = Some named
 rest_state named (c ∷ rest) = None

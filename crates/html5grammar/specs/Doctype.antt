@@ -1,12 +1,12 @@
--- One doctype as it is written, and what it tells. Written right that is `<!doctype`, white space, a name, maybe white space and
+-- One doctype as source text, and what it tells. Written right that is `<!doctype`, white space, a name, maybe white space and
 -- `public` or `system` with identifiers in quotes, and `>`. But each text is one that is `<!` and `doctype` in any case, then
 -- what has no `>`, and then `>`: the rest after what is right is skipped.
 --
 -- From the top down (below, each part stands before the whole that has it):
 --   doctype      `<!`, the word, white space, the content, `>`
---   content      nothing (`NoName`); or a name, white space, and what stands after them (`Named`)
---   after that   a rest (`NoKeyword`); or `public` or `system`, white space, and what stands where its identifier can
---   identifier   its quote, a run, the quote again, white space, and what stands after them (`Closed`); the same without its second
+--   content      nothing (`NoName`); or a name, white space, and what comes after them (`Named`)
+--   after that   a rest (`NoKeyword`); or `public` or `system`, white space, and what comes at the place of its identifier
+--   identifier   its quote, a run, the quote again, white space, and what comes after them (`Closed`); the same without its second
 --                quote (`Unclosed`); or a rest (`Missing`). After a public identifier that of the system can stand, after that of
 --                the system only a rest
 --   rest         what is skipped, up to the `>`
@@ -35,13 +35,13 @@ use Rattle.html5grammar.specs.RawText.{next_is}
 
 -- ---- how a doctype is written
 
--- what stands where an identifier can, with what can stand after it. A rest is skipped; it may be empty.
+-- what comes at the place of an identifier, with what can stand after it. A rest is skipped; it may be empty.
 pub data Identifier (Afterwards : Type 0) : Type 0 where
   -- none, but a rest
   Missing : List ℕ → Identifier Afterwards
   -- a quote and the identifier, which the `>` cuts off
   Unclosed : Quotes → List ℕ → Identifier Afterwards
-  -- the identifier in its quotes, white space, and what stands after that
+  -- the identifier in its quotes, white space, and what comes after that
   Closed : Quotes → List ℕ → List ℕ → Afterwards → Identifier Afterwards
 
 -- after the identifier of the system stands a rest
@@ -52,19 +52,19 @@ SystemIdentifier = Identifier (List ℕ)
 abbrev pub PublicIdentifier : Type 0
 PublicIdentifier = Identifier SystemIdentifier
 
--- "After DOCTYPE name state": what stands after a name and white space
+-- "After DOCTYPE name state": what comes after a name and white space
 pub data RestAfterName : Type 0 where
   -- no keyword, but a rest
   NoKeyword : List ℕ → RestAfterName
-  -- `public` in any case, white space, and what stands where its identifier can
+  -- `public` in any case, white space, and what comes at the place of its identifier
   PublicKeyword : List ℕ → List ℕ → PublicIdentifier → RestAfterName
   -- `system` likewise
   SystemKeyword : List ℕ → List ℕ → SystemIdentifier → RestAfterName
 
--- "Before DOCTYPE name state": what stands after `doctype` and white space
+-- "Before DOCTYPE name state": what comes after `doctype` and white space
 pub data Content : Type 0 where
   NoName : Content
-  -- the first character of the name, the rest of it, white space, and what stands after that
+  -- the first character of the name, the rest of it, white space, and what comes after that
   Named : ℕ → List ℕ → List ℕ → RestAfterName → Content
 
 -- "DOCTYPE state" to "Bogus DOCTYPE state": after `<!` the word `doctype` in any case, white space, the content, and `>`
@@ -75,7 +75,7 @@ pub record WrittenDoctype : Type 0 where
 
 -- ---- its text
 
--- the text of an identifier, and of what stands after it
+-- the text of an identifier, and of what comes after it
 abbrev pub identifier_text : {B : Type 0} → (B → List ℕ) → Identifier B → List ℕ
 identifier_text text_after (Missing rest) = rest
 identifier_text text_after (Unclosed quotes run) = quote_mark quotes ∷ run
@@ -85,7 +85,7 @@ identifier_text text_after (Closed quotes run space afterwards) = quote_mark quo
 abbrev pub system_text : SystemIdentifier → List ℕ
 system_text identifier = identifier_text (λ rest. rest) identifier
 
--- the text of a public identifier, and of what stands after it
+-- the text of a public identifier, and of what comes after it
 abbrev pub public_text : PublicIdentifier → List ℕ
 public_text identifier = identifier_text system_text identifier
 
@@ -100,7 +100,7 @@ abbrev pub content_text : Content → List ℕ
 content_text NoName = []
 content_text (Named first rest space afterwards) = (first ∷ rest ++ space) ++ after_name_text afterwards
 
--- what stands before the content
+-- the text before the content
 abbrev pub opening : List ℕ → List ℕ → List ℕ
 opening word space = codes "<!" ++ (word ++ space)
 
@@ -191,7 +191,7 @@ has_public_quirks (Missing rest) = true
 has_public_quirks (Unclosed quotes run) = true
 has_public_quirks (Closed quotes run space system) = has_system_quirks system
 
--- the doctype that is sent, by its name and what stands after it
+-- the doctype that is sent, by its name and what comes after it
 abbrev pub told_after_name : List ℕ → RestAfterName → DoctypeOf
 told_after_name name (NoKeyword []) = record { name = Some name; public_id = None; system_id = None; force_quirks = false }
 told_after_name name (NoKeyword (c ∷ rest)) = record { name = Some name; public_id = None; system_id = None; force_quirks = true }
@@ -230,12 +230,12 @@ abbrev pub spell_rest : Bool → State → DoctypeOf → List ℕ → List Spell
 spell_rest exact named d [] = spell_end [] d
 spell_rest exact named d (c ∷ rest) = spell_odd exact named d (c ∷ rest)
 
--- the first where no white space stands between, and else the second
+-- the first when no white space stands between, and else the second
 abbrev pub after_space : {X : Type 0} → List ℕ → X → X → X
 after_space [] direct spaced = direct
 after_space (c ∷ space) direct spaced = spaced
 
--- an error where no white space stands between
+-- an error when no white space stands between
 abbrev pub direct_error : List ℕ → Told → List Told
 direct_error space error = where_true (after_space space true false) error
 
@@ -250,13 +250,13 @@ abbrev pub between_state : List ℕ → State
 between_state space = after_space space (state.AfterDoctypeIdentifier Public) state.BetweenDoctypePublicAndSystemIdentifiers
 
 -- "DOCTYPE public identifier (double-quoted) state" and its three others: the identifier and its first quote, which is an error
--- where no white space stands before it
+-- when no white space stands before it
 abbrev pub spell_begun : Bool → DoctypeIdKind → State → List ℕ → Quotes → List ℕ → List Spelled
 spell_begun exact kind named space quotes run =
     record { character = quote_mark quotes; told = direct_error space (error_in exact named (quote_mark quotes)) }
     ∷ spell (null_error exact (identifier_state quotes kind)) run
 
--- "Before DOCTYPE public identifier state" and "Before DOCTYPE system identifier state": what stands where an identifier can,
+-- "Before DOCTYPE public identifier state" and "Before DOCTYPE system identifier state": what comes at the place of an identifier,
 -- after white space
 abbrev pub spell_identifier : {B : Type 0} → Bool → DoctypeIdKind → State → DoctypeOf → List ℕ → (List ℕ → B → List Spelled) → Identifier B → List Spelled
 spell_identifier exact kind named d space spell_after (Missing rest) = spell_odd exact named d rest
@@ -265,23 +265,23 @@ spell_identifier exact kind named d space spell_after (Unclosed quotes run) =
 spell_identifier exact kind named d space spell_after (Closed quotes run later afterwards) =
     spell_begun exact kind named space quotes run ++ (spell_silent (quote_mark quotes ∷ later) ++ spell_after later afterwards)
 
--- "After DOCTYPE system identifier state": what stands after the identifier of the system
+-- "After DOCTYPE system identifier state": what comes after the identifier of the system
 abbrev pub spell_after_system : Bool → DoctypeOf → List ℕ → List ℕ → List Spelled
 spell_after_system exact d space rest = spell_rest exact (state.AfterDoctypeIdentifier System) d rest
 
--- "Between DOCTYPE public and system identifiers state": what stands after the public identifier
+-- "Between DOCTYPE public and system identifiers state": what comes after the public identifier
 abbrev pub spell_after_public : Bool → DoctypeOf → List ℕ → SystemIdentifier → List Spelled
 spell_after_public exact d space (Missing []) = spell_end [] d
 spell_after_public exact d space system =
     spell_identifier exact System (between_state space) d space (spell_after_system exact d) system
 
--- "After DOCTYPE public keyword state" and "After DOCTYPE system keyword state": what stands after a keyword
+-- "After DOCTYPE public keyword state" and "After DOCTYPE system keyword state": what comes after a keyword
 abbrev pub spell_wanted : {B : Type 0} → Bool → DoctypeIdKind → DoctypeOf → List ℕ → (List ℕ → B → List Spelled) → Identifier B → List Spelled
 spell_wanted exact kind d space spell_after identifier =
     spell_silent space
     ++ spell_identifier exact kind (keyword_state kind space) d space spell_after identifier
 
--- "After DOCTYPE name state": what stands after the name and white space
+-- "After DOCTYPE name state": what comes after the name and white space
 abbrev pub spell_after_name : Bool → DoctypeOf → RestAfterName → List Spelled
 spell_after_name exact d (NoKeyword rest) = spell_rest exact state.AfterDoctypeName d rest
 spell_after_name exact d (PublicKeyword keyword space identifier) =
@@ -297,11 +297,11 @@ spell_name exact word space first rest later =
     ++ (record { character = first; told = direct_error space (error_in exact state.Doctype first) ++ null_error exact state.BeforeDoctypeName first }
     ∷ spell (null_error exact state.DoctypeName) rest ++ spell_silent later)
 
--- "After DOCTYPE name state": the longest beginning of a rest that is a beginning of a keyword
+-- "After DOCTYPE name state": the longest prefix of a rest that is a prefix of a keyword
 abbrev pub held_of : List ℕ → List ℕ
 held_of rest = run_while begins_doctype_keyword [] rest
 
--- what follows that
+-- the text after that
 abbrev pub after_held_of : List ℕ → List ℕ
 after_held_of rest = after_while begins_doctype_keyword [] rest
 

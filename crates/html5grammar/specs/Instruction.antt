@@ -1,4 +1,4 @@
--- One processing instruction as it is written, and what it tells. The standard has a bogus comment in its place.
+-- One processing instruction as source text, and what it tells. The standard has a bogus comment in its place.
 use Rattle.std.specs.Prelude.{◌≡◌, ℕ, Bool, true, List, [], ◌∷◌, ◌++◌, flat_map, codes, if◌then◌else◌}
 use Rattle.std.specs.List.{list_all}
 use Rattle.html5ever_interface.specs.Sink.{Message, on_line}
@@ -17,9 +17,9 @@ use Rattle.html5reading.specs.Tag.{null_error}
 
 -- ---- how an instruction is written
 
--- an instruction as it is written
+-- an instruction as source text
 pub record WrittenInstruction : Type 0 where
-  -- what stands after `<?`
+  -- the text after `<?`
   pub content : List ℕ
   -- whether it ends with `>`
   pub is_ended : Bool

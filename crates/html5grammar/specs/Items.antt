@@ -1,5 +1,5 @@
--- A text as a sequence of items as they are written, followed by at most one unfinished item. The standard's "Tokenization", by
--- what is written and not by states.
+-- A text as a sequence of items in source form, followed by at most one unfinished item. The standard's "Tokenization", by source
+-- form and not by states.
 use Rattle.std.specs.Prelude.{◌≡◌, ◌==◌, ◌&&◌, ◌||◌, not, nat_eq, ℕ, Bool, true, false, List, [], ◌∷◌, ◌++◌, length, codes, encode_utf8, flat_map, take, drop, Option, if◌then◌else◌}
 use Rattle.html5ever_interface.specs.Sink.{Means, Message, stepped, on_line}
 use Rattle.html5ever_interface.specs.Token.{Told}
@@ -46,7 +46,7 @@ use Rattle.std.specs.Str.{bytes_eq}
 abbrev pub end_line : Input → List ℕ → ℕ
 end_line input Y = line_after (input_after input Y) []
 
--- "Data state", "PLAINTEXT state", the states of raw text and "CDATA section state", at the end: what the end tells where nothing
+-- "Data state", "PLAINTEXT state", the states of raw text and "CDATA section state", at the end: what the end tells when nothing
 -- is open. In escaped script data and within a CDATA section it is an error.
 abbrev pub nothing_at_end : Bool → Mode → List Told
 nothing_at_end exact Data = End ∷ []

@@ -1,4 +1,4 @@
--- Raw text as it is written, without `&` in RCDATA, and what it tells.
+-- The source of raw text, without `&` in RCDATA, and what it tells.
 use Rattle.std.specs.Prelude.{◌≡◌, ℕ, Bool, true, false, List, [], ◌∷◌, ◌++◌, ◌==◌, ◌&&◌, not, nat_eq, length, Option, None, Some, codes, if◌then◌else◌}
 use Rattle.std.specs.List.{list_all}
 use Rattle.std.specs.Str.{bytes_eq}
@@ -39,7 +39,7 @@ pub data RawItem : Type 0 where
   -- none, and such a character.
   Switch : List ℕ → ℕ → RawItem
 
--- raw text: its items, and the end tag that ends it, where there is one
+-- raw text: its items, and the end tag that ends it, if there is one
 pub record WrittenRaw : Type 0 where
   pub items : List RawItem
   pub end_tag : Option WrittenTag

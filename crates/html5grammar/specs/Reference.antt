@@ -1,4 +1,4 @@
--- One character reference as it is written, and what it tells.
+-- One character reference as source text, and what it tells.
 use Rattle.std.specs.Prelude.{◌≡◌, ℕ, Bool, true, false, List, [], ◌∷◌, ◌++◌, ◌&&◌, not, nat_eq, length, map, codes, encode_utf8, encode_utf8_all, Option, None, Some, if◌then◌else◌}
 use Rattle.std.specs.Char.{is_ascii_digit, is_ascii_hexdigit}
 use Rattle.std.specs.List.{list_all}
@@ -19,7 +19,7 @@ use Rattle.markup5ever.specs.NamedReferences.{NamedReference, characters_of_name
 
 -- ---- how a reference is written
 
--- "Character reference state": a reference as it is written
+-- "Character reference state": a reference as source text
 pub data WrittenReference : Type 0 where
   -- an ampersand alone, which stands for itself
   Ampersand : WrittenReference

@@ -1,4 +1,4 @@
--- One tag as it is written, with references in its values, and what it tells. A value is any run up to its end. What it shows is
+-- One tag as source text, with references in its values, and what it tells. A value is any run up to its end. What it shows is
 -- the run with its references decoded.
 use Rattle.std.specs.Prelude.{◌≡◌, ℕ, Bool, true, false, List, [], ◌∷◌, ◌++◌, ◌==◌, ◌||◌, ◌&&◌, not, flat_map, codes, if◌then◌else◌, zero, suc, Option, None, Some}
 use Rattle.std.specs.List.{list_all}
@@ -45,7 +45,7 @@ pub data Part : Type 0 where
   -- an attribute: its name likewise, the white space before `=` and after it, and the value
   Attribute : ℕ → List ℕ → List ℕ → List ℕ → Value → Part
 
--- "Tag name state" to "Self-closing start tag state": a tag as the first character of its name, the rest, and what stands between
+-- "Tag name state" to "Self-closing start tag state": a tag as the first character of its name, the rest, and the parts between
 -- the name and `>`
 pub record WrittenTag : Type 0 where
   pub kind : TagKind
@@ -138,7 +138,7 @@ is_value (InSingleQuotes run) = list_all (is_in_value SingleQuoted) run
 is_value (Bare []) = true
 is_value (Bare (c ∷ run)) = not (c == quotation_mark) && (not (c == apostrophe) && list_all (is_in_value Unquoted) (c ∷ run))
 
--- whether a part can stand at a place, as it is written
+-- whether a part can stand at a place, as source text
 abbrev pub can_stand : Place → Part → Bool
 can_stand place (Blank c) = takes_blank place && is_white_space c
 can_stand place Solidus = takes_solidus place
@@ -157,7 +157,7 @@ is_written tag = is_letter tag.first && (list_all in_tag_name tag.rest && can_fo
 
 -- ---- references, by the whole text after the `&`
 
--- "Character reference state": what is held of the text F
+-- "Character reference state": the held part of the text F
 abbrev pub held_in : List NamedReference → List ℕ → List ℕ
 held_in references F = run_while (is_undecided references) [] F
 
@@ -171,7 +171,7 @@ found_in rules v F = reference rules v (held_in rules.references F) (deciding_in
 
 -- ---- its attributes: lists of them have the last one first
 
--- a reference in a value ends with the value at the latest, so what stands after the value is the same as its end
+-- a reference in a value ends with the value at the latest, so the text after the value is the same as its end
 abbrev pub found_in_value : Rules → AttrValueKind → List ℕ → Found
 found_in_value rules kind run = found_in rules true (run ++ quote_of kind ∷ [])
 

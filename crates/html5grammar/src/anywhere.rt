@@ -1,4 +1,4 @@
-//! Items of a text as they are written, wherever they stand: what each tells by itself, after any text
+//! Items of a text in source form, wherever they stand: what each tells by itself, after any text
 //! that leads to where it is read, and before any text.
 #![tactic(auto)]
 

@@ -1,4 +1,4 @@
-//! The grammar: items as they are written, and texts as sequences of them. The definitions are in specs/;
+//! The grammar: items in source form, and texts as sequences of them. The definitions are in specs/;
 //! here are its two laws, `sound` and `each_text`, and in `anywhere` those of single items.
 //!
 //! Internal to `html5ever`: it has no code that runs. Contracts of that crate cite its words.
@@ -44,15 +44,14 @@ pub fn each_text<S: TokenSink<Token<A>>, A: Allocator>()
 {}
 
 /// Take `<!`, `doctype` in any case, characters other than `>`, and `>`. Each such text is one doctype,
-/// written out. So what is said of one doctype is said of all.
+/// written out. So what holds of one doctype holds of all.
 pub fn each_doctype()
     ensures { (word text : List ℕ) → bytes_eq (lower_case word) (codes "doctype") ≡ true
         → list_all in_skipped_rest text ≡ true → IsDoctypeText word text }
 {}
 
 /// Each text in which `]]>` stands nowhere is that of one CDATA section, written out, between its
-/// `<![CDATA[` and its `]]>`, or without one of them or both. So what is said of one section is said
-/// of all.
+/// `<![CDATA[` and its `]]>`, or without one of them or both. So what holds of one section holds of all.
 pub fn each_cdata()
     ensures { (has_opening is_ended : Bool) (text : List ℕ) → occurs (codes "]]>") text ≡ false
         → IsCdataText has_opening is_ended text }

@@ -90,7 +90,7 @@ log_start = codes "{\"$schema\":\"https://json.schemastore.org/sarif-2.1.0.json\
 abbrev pub log_end : List ℕ
 log_end = codes "\n]}]}\n"
 
--- before a result, where there is one before it or not
+-- before a result, by whether there is one before it
 abbrev pub before_result : Bool → List ℕ
 before_result false = log_start
 before_result true = codes ",\n"
@@ -100,7 +100,7 @@ unfoldable pub results_of : Bool → List ℕ → List Located → List ℕ
 results_of found file [] = []
 results_of found file (l ∷ more) = before_result found ++ (text_of (result_json file l) ++ results_of true file more)
 
--- in the end, where there is a result or not
+-- in the end, by whether there is a result
 abbrev pub log_ended : Bool → List ℕ
 log_ended false = log_start ++ log_end
 log_ended true = log_end

@@ -17,11 +17,11 @@ text_of json = print (json_tokens json)
 abbrev pub line_of : Json → List ℕ
 line_of json = text_of json ++ codes "\n"
 
--- the line of a token, with the name of its file, where there is one
+-- the line of a token, with the name of its file, if there is one
 abbrev pub token_line : Option (List ℕ) → Told → ℕ → List ℕ
 token_line file told line = line_of (json_of_token file told line)
 
--- the line of a run of text, where there is one
+-- the line of a run of text, if there is one
 abbrev pub run_line : Option (List ℕ) → List ℕ → List ℕ
 run_line file [] = []
 run_line file (byte ∷ bytes) = token_line file (Text (byte ∷ bytes)) 0

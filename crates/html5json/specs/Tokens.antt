@@ -10,7 +10,7 @@ use Rattle.json.specs.Json.{Json, null, boolean, number, string, array, object, 
 use Rattle.json.specs.Token.{Token, key, string as string_token}
 use Rattle.markup5ever.specs.Names.{AttributeOf}
 
--- a text, or null where there is none
+-- a text, or null if there is none
 abbrev pub json_of_option : Option (List ℕ) → Json
 json_of_option None = null
 json_of_option (Some text) = string text
@@ -56,7 +56,7 @@ doctype_members doctype =
     member (codes "system_id") (json_of_option doctype.system_id) (
     member (codes "force_quirks") (boolean doctype.force_quirks) no_members)))
 
--- the standard's code of a parse error by its message, where it has one
+-- the standard's code of a parse error by its message, if it has one
 abbrev pub code_word : List ℕ → Option (List ℕ)
 code_word message = option_map code_name (code_of_message message)
 
@@ -77,7 +77,7 @@ token_members (Instruction text) line = on_line (codes "instruction") line (text
 token_members (Doctype doctype) line = on_line (codes "doctype") line (doctype_members doctype)
 token_members End line = on_line (codes "end_of_page") line no_members
 
--- a file that members are of, before them, where it is named
+-- a file that members are of, before them, if it is named
 abbrev pub of_file : Option (List ℕ) → Members → Json
 of_file None members = object members
 of_file (Some file) members = object (member (codes "file") (string file) members)

@@ -104,9 +104,9 @@ fn finding_lines(alloc: Global, file: &str, found: &[Located<'_>]) -> Result<Vec
     Ok(lines)
 }
 
-/// For programs: an object of JSON a line. Its members are the file, the line and the columns by characters and by UTF-16
-/// code units, the bytes from which on and up to which it stands, the code, of what, and what a misspelled name was meant
-/// for, or null.
+/// For programs: an object of JSON a line. Its members are the file, the line, and the columns by characters and by
+/// UTF-16 code units. Then come the bytes from which on and up to which it stands, the code, of what, and what a
+/// misspelled name was meant for, or null.
 #[derive(Drop)]
 pub struct JsonFindings;
 

@@ -13,8 +13,8 @@ use html5stream::{StreamError, read_tags};
 use markup5ever::data::NamedReferences;
 use std::alloc::{AllocError, Allocator, Global};
 
-/// Prints the links of the tags that it takes, an object of JSON a line: the number of the line on which
-/// the tag ends, and where the link leads, or the link as it is written.
+/// Prints the links of the tags that it takes, an object of JSON a line. It has the number of the line
+/// on which the tag ends, and where the link leads, or the unresolved link.
 #[derive(Drop)]
 pub struct JsonLinks<W, A: Allocator = Global> {
     pub alloc: A,

@@ -11,8 +11,8 @@ use html5stream::{StreamError, read_tokens};
 use markup5ever::data::NamedReferences;
 use std::alloc::{Allocator, Global};
 
-/// Prints the tokens that it takes, an object of JSON a line, with the name of their file where there is one. A run of text is one object, and a parse error
-/// within it stands before it.
+/// Prints the tokens that it takes, an object of JSON a line, with the name of their file if there is one. A run of
+/// text is one object, and a parse error within it stands before it.
 #[derive(Drop)]
 pub struct JsonTokens<W, A: Allocator = Global> {
     pub alloc: A,

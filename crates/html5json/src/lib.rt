@@ -1,5 +1,5 @@
-//! The tokens and the links of pages as JSON, an object a line, printed as the pages arrive; and what is found in pages as
-//! JSON, an object a line, or as a log of SARIF.
+//! The tokens and links of pages as JSON, an object a line, printed as the pages arrive; and the findings in pages as
+//! JSON, an object a line, or as a SARIF log.
 #![tactic(auto)]
 
 pub mod findings;

@@ -24,7 +24,7 @@ pub(crate) fn ended<A: Allocator>(writer: Writer<A>) -> Result<Vec<u8, A>, Alloc
     Ok(lines)
 }
 
-// The line of a run of text, where there is one.
+// The line of a run of text, if there is one.
 fn run_line<A: Allocator>(alloc: A, file: Option<&str>, run: &str) -> Result<Vec<u8, A>, AllocError>
     ensures { IfOk result (λ lines. lines.items ≡ run_line (option_map (λ name. name.now) file.entry) run.now) }
 {
@@ -54,7 +54,7 @@ fn with_token<A: Allocator, B: Allocator>(
     ended(writer)
 }
 
-/// The lines of a run of text and of the token after it, with the name of their file, where there is one. An
+/// The lines of a run of text and of the token after it, with the name of their file, if there is one. An
 /// empty run has none.
 pub fn token_lines<A: Allocator, B: Allocator>(
     alloc: A,
@@ -70,7 +70,7 @@ pub fn token_lines<A: Allocator, B: Allocator>(
     with_token(run_line(alloc, file, run)?, file, token, line)
 }
 
-/// The line of a link, where it leads from these bases, with the name of its file, where there is one.
+/// The line of a link, where it leads from these bases, with the name of its file, if there is one.
 pub fn link_line<A: Allocator>(
     alloc: A,
     line: u64,

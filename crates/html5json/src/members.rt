@@ -49,7 +49,7 @@ pub(crate) fn write_option<A: Allocator, B: Allocator>(
     }
 }
 
-// Begins an object, with the name of its file where there is one.
+// Begins an object, with the name of its file if there is one.
 pub(crate) fn begin_of_file<A: Allocator>(
     writer: &mut Writer<A>,
     file: Option<&str>,

@@ -173,7 +173,7 @@ fn with_result(
     Ok(written(writer))
 }
 
-// Appends what stands before a result, where there is one before it or not.
+// Appends the text before a result, by whether another stands before it.
 fn push_before(bytes: &mut Vec<u8>, has_found: bool) -> Result<(), AllocError>
     ensures { OnOk result (bytes.new.items ≡ bytes.old.items ++ before_result has_found) }
 {
@@ -202,7 +202,7 @@ fn results_of(
     Ok(bytes)
 }
 
-// The end of the log, where there is a result or not.
+// The end of the log, by whether there is a result.
 fn log_ended(alloc: Global, has_found: bool) -> Result<Vec<u8>, AllocError>
     ensures { IfOk result (λ bytes. bytes.items ≡ log_ended has_found) }
 {

@@ -139,7 +139,7 @@ fn write_doctype<A: Allocator, B: Allocator>(
     end_with_flag(writer, "force_quirks", doctype.force_quirks)
 }
 
-// The standard's code of a parse error by its message, where it has one.
+// The standard's code of a parse error by its message, if it has one.
 fn code_word(message: &str) -> Option<&'static str>
     ensures { option_map (λ code. code.now) result ≡ code_word message.now }
 {

@@ -5,7 +5,7 @@ use Rattle.std.specs.List.{find, list_all, list_any}
 use Rattle.std.specs.Option.{option_or}
 use Rattle.std.specs.Str.{bytes_eq}
 
--- what is left of two names after the longest beginning that they share
+-- what is left of two names after the longest prefix that they share
 abbrev pub rests : List ℕ → List ℕ → List ℕ × List ℕ
 rests [] other = ([], other)
 rests (a ∷ name) [] = (a ∷ name, [])
@@ -13,17 +13,17 @@ rests (a ∷ name) (b ∷ other) = if a == b then rests name other else (a ∷ n
 
 -- ---- how the rests of two names may differ
 
--- the first two characters are swapped, and what follows is the same
+-- the first two characters are swapped, and the rest is the same
 abbrev pub is_swapped : List ℕ → List ℕ → Bool
 is_swapped (a ∷ b ∷ rest) (c ∷ d ∷ other) = (a == d) && (b == c) && bytes_eq rest other
 is_swapped rest other = false
 
--- the first has one character more, and what follows is the same
+-- the first has one character more, and the rest is the same
 abbrev pub has_one_more : List ℕ → List ℕ → Bool
 has_one_more [] other = false
 has_one_more (a ∷ rest) other = bytes_eq rest other
 
--- the first characters are others, and what follows is the same
+-- the first characters are others, and the rest is the same
 abbrev pub has_one_other : List ℕ → List ℕ → Bool
 has_one_other (a ∷ rest) (b ∷ other) = bytes_eq rest other
 has_one_other rest other = false

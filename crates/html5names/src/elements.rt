@@ -160,9 +160,9 @@ pub fn is_known_element(name: &str) -> bool
     is_listed(&ELEMENTS, name)
 }
 
-/// The element that was meant by a misspelled name: the first listed one of which two neighbouring characters are
-/// swapped, or else the first of which one character is missing, one is another, or there is one more. Nothing is meant
-/// by a name that is listed, that has fewer than three characters, or others than ASCII letters and digits.
+/// The element that was meant by a misspelled name: the first listed one with two neighbouring characters swapped, or
+/// else the first with one character missing, changed or added. Nothing is meant by a name that is listed, that has
+/// fewer than three characters, or others than ASCII letters and digits.
 pub fn meant_element(name: &str) -> Option<&'static str>
     ensures { option_map (λ meant. meant.now) result ≡ meant_element name.now }
 {

@@ -2,10 +2,10 @@
 //!
 //! `is_known_element` and `is_known_attribute` say whether a name is listed: by proof whether it is one of the names in
 //! specs/Elements and specs/Attributes. `meant_element` and `meant_attribute` answer the name that a misspelled one was
-//! meant for, as `table` for `tabel`: by proof the first of the list of which two neighbouring characters are swapped, or
-//! else, where both names have four characters at least, the first of which one character is missing, one is another, or
-//! there is one more (`meant_among` of specs/Slips). What these slips are is proved of names as they are written, too
-//! (`swaps_are_written`, `near_names_are_written`).
+//! meant for, as `table` for `tabel`. By proof that is the first of the list with two neighbouring characters swapped.
+//! Else, where both names have four characters at least, it is the first with one character missing, changed or added
+//! (`meant_among` of specs/Slips). What these slips are is proved of whole names, too (`swaps_are_written`,
+//! `near_names_are_written`).
 //!
 //! Tested, and not proved: that these lists are the standard's.
 //!

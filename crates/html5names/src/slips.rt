@@ -4,7 +4,7 @@ ghost use Rattle.std.specs.Char.{is_ascii_alphanumeric};
 ghost use Rattle.std.specs.List.{list_all};
 ghost use Rattle.html5names.specs.Slips.{has_one_more, differs_by_one, has_one_other, is_near, is_swap_of, is_swapped, may_be_slip, rests};
 
-// What is left of two names after the longest beginning that they share.
+// What is left of two names after the longest prefix that they share.
 #[tactic(auto, using(crate::proofs::Rests::first_ends, crate::proofs::Rests::second_ends, crate::proofs::Rests::apart))]
 fn rests<'n>(name: &'n [u8], other: &'n [u8]) -> (&'n [u8], &'n [u8])
     ensures { (result.0.now, result.1.now) ≡ rests name.now other.now }
@@ -15,7 +15,7 @@ fn rests<'n>(name: &'n [u8], other: &'n [u8]) -> (&'n [u8], &'n [u8])
     }
 }
 
-// Whether the first two characters are swapped, and what follows is the same.
+// Whether the first two characters are swapped, and the rest is the same.
 fn is_swapped(rest: &[u8], other: &[u8]) -> bool
     ensures { result ≡ is_swapped rest.now other.now }
 {
@@ -25,7 +25,7 @@ fn is_swapped(rest: &[u8], other: &[u8]) -> bool
     }
 }
 
-// Whether the first has one character more, and what follows is the same.
+// Whether the first has one character more, and the rest is the same.
 fn has_one_more(rest: &[u8], other: &[u8]) -> bool
     ensures { result ≡ has_one_more rest.now other.now }
 {
@@ -35,7 +35,7 @@ fn has_one_more(rest: &[u8], other: &[u8]) -> bool
     }
 }
 
-// Whether the first characters are others, and what follows is the same.
+// Whether the first characters are others, and the rest is the same.
 fn has_one_other(rest: &[u8], other: &[u8]) -> bool
     ensures { result ≡ has_one_other rest.now other.now }
 {

@@ -41,7 +41,7 @@ made-more before after item adds opens limits items made = record {
   no_comment = adds.no_comment made.no_comment;
 }
 
--- the end tags of what is open
+-- the end tags of the open elements
 pub made-all : (before : NestedPage) (page : List Piece) (items : List Item) → Adds before.pieces page (end_tags before.opened) → IsMadeOf before items
     → IsFinished before.limit page items
 unfolding normal_above
@@ -59,7 +59,7 @@ pub nests-error : (error : WriteError) (before after : NestedPage) (item : Item)
 nests-error error before after item same =
     record { added = tt; opened = tt; limit = ap (λ (p : NestedPage). p.limit) same; made = tt; unchanged = same }
 
--- the end tags of what is open
+-- the end tags of the open elements
 pub ends-open : (old new : List (List ℕ)) (name : List ℕ) → old ≡ name ∷ drop 1 old → new ≡ drop 1 old → end_tags old ≡ EndTag name ∷ end_tags new
 ends-open old new name is rest = ap end_tags is ∙ ap (λ l. EndTag name ∷ end_tags l) (sym rest)
 

@@ -23,7 +23,7 @@ front-twice (d ∷ a) (c ∷ b) (Text more ∷ items) = ap (λ x. Text x ∷ ite
 front-twice (d ∷ a) (c ∷ b) (StartTag name attributes ∷ items) = refl
 front-twice (d ∷ a) (c ∷ b) (EndTag name ∷ items) = refl
 
--- a text that is told character by character
+-- a text that is emitted character by character
 same-text : (text : List ℕ) (items others : List Item) → whole_texts items ≡ whole_texts others
     → whole_texts (flat_map items_of_token (map (λ c. ToldText (encode_utf8 c)) text) ++ items) ≡ in_front (encode_utf8_all text) (whole_texts others)
 unfolding whole_texts in_front

@@ -24,7 +24,7 @@ pub record Adds (before after : List Piece) (added : List TreeItem) : Type 0 whe
   pub items : items_of after ≡ items_of before ++ added
   pub no_comment : has_no_comment before ≡ true → has_no_comment after ≡ true
 
--- what is written for an item, so that it fits above the open elements, and what is open after it
+-- the output for an item, so that it fits above the open elements, and the elements open after it
 pub record AddsFitted (before after : List Piece) (was now : Nested) (item : TreeItem) : Type 0 where
   pub added : Adds before after (fitted was.limit was.opened item)
   pub opened : now.opened ≡ open_after_fitted was.limit was.opened item

@@ -1,5 +1,5 @@
--- The items of a page: of the pieces that it is written of, and of what a sink is told where it is read. Names, values and texts are the bytes of
--- their UTF-8, as they are in tokens.
+-- The items of a page: of the pieces that it is written of, and of the messages that a sink receives when it is read. Names, values and texts are
+-- the bytes of their UTF-8, as they are in tokens.
 use Rattle.std.specs.Prelude.{ℕ, Bool, true, false, List, [], ◌∷◌, flat_map, map, encode_utf8_all}
 use Rattle.std.specs.List.{list_all}
 use Rattle.html5ever_interface.specs.Token.{Told}
@@ -35,7 +35,7 @@ is_no_comment other = true
 unfoldable pub has_no_comment : List Piece → Bool
 has_no_comment pieces = list_all is_no_comment pieces
 
--- ---- what a sink is told
+-- ---- the messages of a sink
 
 abbrev pub attribute_told : AttributeOf → Attribute
 attribute_told a = record { name = a.name.local; value = a.value }

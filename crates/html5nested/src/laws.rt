@@ -25,9 +25,9 @@ use html5write::Writer;
 use html5write::laws::whole_text;
 use std::alloc::Allocator;
 
-/// A page that is written of pieces, read by itself with any table by any sink that keeps on after their tags:
-/// what it tells has the items of the pieces, where texts that stand side by side are one (`items`). If
-/// they all fit, and no piece is a comment, the tree that is built of what is told is their nesting (`tree`).
+/// A page of pieces, read by itself with any table by any sink that keeps on after their tags. Its messages have the
+/// items of the pieces, where adjacent texts are one (`items`). If they all fit, and no piece is a comment, the tree
+/// that is built of the messages is their nesting (`tree`).
 pub fn tree_of_written_page<S: TokenSink<Token<A>>, A: Allocator>()
     ensures items { (rules : Rules) (K : Start) (s : S.State) (pieces : List pieces.Piece)
         → IsReadBack {S = S.State} rules K S.means.reply pieces
@@ -43,11 +43,11 @@ pub fn tree_of_written_page<S: TokenSink<Token<A>>, A: Allocator>()
     tree_of_fitting();
 }
 
-/// The same of a part of a page, wherever it is put in Data (`html5write::laws::all_pieces` says what it tells
-/// there), and whatever is open there: in a host (`IsHost`) its items are built in place, if they fit above the
-/// open elements and close all that they open, and nothing else: as they are read, where a newline straight after the start
-/// tag of a `pre` is ignored (`as_read`), or as they stand if there is none (`in_place`). Its open elements, insertion mode,
-/// form element pointer and foster parenting are afterwards what they were (`back`).
+/// The same of a part of a page, wherever it is put in Data (`html5write::laws::all_pieces` says what it tells there),
+/// and whatever is open there. In a host (`IsHost`) its items are built in place, if they fit above the open elements
+/// and close all that they open, and nothing else. They are built as they are read, where a newline straight after the
+/// start tag of a `pre` is ignored (`as_read`), or as they stand if there is none (`in_place`). Its open elements,
+/// insertion mode, form element pointer and foster parenting are afterwards what they were (`back`).
 pub fn tree_of_written_part()
     ensures items { (exact : Bool) (input : Input) (pieces : List pieces.Piece)
         → whole_texts (items_told (proper (pieces_messages exact input pieces))) ≡ whole_texts (items_of pieces) }
@@ -74,9 +74,9 @@ pub fn fitting_pieces_are_markup<S: TokenSink<Token<A>>, A: Allocator>()
         → FollowsStandard {S = S.State} S.means.reply → KeepsOn {S = S.State} S.means.reply pieces }
 {}
 
-/// The page of a nested writer at its end (`IsFinished`, which `NestedWriter::finish` gives): all of it fits, with
-/// no more elements open than the limit, and the tree that is built of what it tells is the nesting of what
-/// the normaliser makes of the items that were handed in.
+/// The page of a nested writer at its end (`IsFinished`, which `NestedWriter::finish` gives). All of it fits, with no
+/// more elements open than the limit. The tree that is built of its messages is the nesting of the normaliser's output
+/// for the items that were handed in.
 pub fn tree_of_nested_page<S: TokenSink<Token<A>>, A: Allocator>()
     ensures fits { (limit : ℕ) (pieces : List pieces.Piece) (items : List Item) → IsFinished limit pieces items
         → all_fit [] (items_of pieces) ≡ true }

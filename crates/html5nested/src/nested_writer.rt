@@ -14,13 +14,14 @@ use std::alloc::{Allocator, Global};
 use std::marker::Model;
 use std::mem;
 
-/// A page that is written tag by tag and text by text, so that all of it fits: a browser builds it as it is nested.
+/// A page that is written tag by tag and text by text, so that all of it fits: a browser builds it with the same
+/// nesting.
 #[derive(Drop)]
 pub struct NestedWriter<A: Allocator = Global> {
     alloc: A,
     page: Writer<A>,
     nesting: Nesting<A>,
-    // What is open after an item, until what is written for it stands on the page.
+    // The elements open after an item, until its output stands on the page.
     spare: Nesting<A>,
 }
 
@@ -33,7 +34,7 @@ impl<A: Allocator> Model for NestedWriter<A> {
 }
 
 impl<A: Allocator + Copy> NestedWriter<A> {
-    /// Nothing is written yet. At most so many elements will be open.
+    /// Nothing is written yet. At most this many elements will be open.
     pub fn new(alloc: A, limit: usize) -> NestedWriter<A>
         ensures page { result ≡ nothing_written limit }
         ensures made { IsMadeOf result [] }

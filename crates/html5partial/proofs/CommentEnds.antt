@@ -19,7 +19,7 @@ comment_ends text others has =
       | false ↦ λ e. (cc, refl)
     ] has
 
--- after a character that is no dash no dash stands last, and no mark
+-- after a character that is not a dash no dash stands last, and no mark
 pub ends_in_dash-none : (text : List ℕ) (c : ℕ) → c ≢ hyphen → ends_in (text ++ value_bytes c) (codes "-") ≡ false
 ends_in_dash-none text c other =
     let last : LastByte c (value_bytes c) = value_bytes-last c in

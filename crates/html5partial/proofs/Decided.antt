@@ -1,4 +1,4 @@
--- Where a reference is not decided, or what may begin a keyword, and where nothing is undecided.
+-- When a reference is not decided, or what may begin a keyword, and when nothing is undecided.
 use Rattle.std.proofs.Common.{◌≡◌, ◌≢◌, ℕ, suc, ◌≤◌, ◌+◌, Bool, true, false, List, [], ◌∷◌, refl, ap, sym, ◌∙◌, None, Some, string_bytes, arith}
 use Rattle.std.specs.Prelude.{◌==◌, length, not}
 use Rattle.std.specs.Str.{chars}
@@ -23,7 +23,7 @@ pub record IsDecided (opened : Open) : Type 0 where
   pub no_keyword : is_keyword_open opened ≡ false
   pub nothing_held : held_len opened ≡ 0
 
--- where nothing is undecided, neither a reference nor a keyword is open, and nothing is held
+-- when nothing is undecided, neither a reference nor a keyword is open, and nothing is held
 pub is_decided : (opened : Open) → is_undecided_open opened ≡ false → IsDecided opened
 is_decided (Between mode) h = record { no_reference = refl; no_keyword = refl; nothing_held = refl }
 is_decided LessThan h = record { no_reference = refl; no_keyword = refl; nothing_held = refl }
@@ -60,7 +60,7 @@ section-holds : (held : List ℕ) → (is_undecided_open (open_cdata held) ≡ f
 section-holds [] = (refl, refl)
 section-holds (c ∷ held) = (refl, refl)
 
--- a keyword is open where what is held may begin one, and no state is that of a reference
+-- a keyword is open if the held text may begin one, and no state is that of a reference
 state-holds : {Z : Type 0} → (q : State) (at : Opened Z)
     → (is_undecided_open (open_of q at) ≡ holds_keyword_in q (string_bytes at.comment)) × (is_reference (open_of q at) ≡ false)
 state-holds state.Data at = (refl, refl)
@@ -157,7 +157,7 @@ with_reference-out held opened = refl
 pub with_reference-false : (is_in : Bool) (held : List ℕ) (opened : Open) → is_in ≡ false → with_reference is_in held opened ≡ opened
 with_reference-false is_in held opened out = rw out (with_reference-out held opened)
 
--- where nothing is undecided, none is open
+-- when nothing is undecided, none is open
 pub with_reference-none : (is_in : Bool) (held : List ℕ) (opened : Open) → is_undecided_open (with_reference is_in held opened) ≡ false
     → (later : Open) → with_reference is_in held later ≡ later
 unfolding with_reference
@@ -194,7 +194,7 @@ undecided-keyword is_in held q at out undecided =
     let same = with_reference-false is_in held (open_of q at) out in
     ap is_keyword_open same ∙ keyword-undecided (open_of q at) (state-no_reference q at) ∙ sym (ap is_undecided_open same) ∙ undecided
 
--- runs are read where none is
+-- runs are read when none is
 none≢some : {X : Type 0} {x : X} → None ≡ Some x → ⊥
 none≢some e = cc
 
@@ -203,7 +203,7 @@ unfolding with_reference
 no_reference-run true held opened run r = absurd (none≢some r.has_runs)
 no_reference-run false held opened run r = refl
 
--- what is held beside a state
+-- the held text beside a state
 pub held_len-beside : (is_in : Bool) (held : List ℕ) (opened later : Open) → is_in ≡ false → held_len later ≤ held_len opened + 1
     → held_len (with_reference is_in held later) ≤ held_len (with_reference is_in held opened) + 1
 unfolding with_reference

@@ -1,4 +1,4 @@
--- What is held of a reference: how it goes on with one more character, and which characters decide it.
+-- The held text of a reference: how it goes on with one more character, and which characters decide it.
 use Rattle.std.proofs.Common.{◌≡◌, ℕ, ◌<◌, ◌≤◌, Bool, true, false, ◌&&◌, ◌||◌, List, [], ◌∷◌, ◌++◌, length, Option, None, Some, refl, sym, ap, ◌∙◌, subst, Bor, arith}
 use Rattle.std.specs.Prelude.{◌≢◌, ◌==◌, All, MatchOption}
 use Rattle.std.specs.Char.{is_ascii_alphanumeric}

@@ -31,7 +31,7 @@ declaration-goes_on foreign held c later step = record {
   };
 }
 
--- a character after `<!` that belongs to no keyword ends what is held
+-- a character after `<!` that belongs to no keyword ends the held text
 pub declaration-ends : (foreign : Bool) (held : List ℕ) (c : ℕ)
     → ((exact : Bool) → declaration_step exact foreign held c ≡ record { settled = declaration_error exact held; here = bogus_comment_step exact held [] c })
     → EndsKeyword foreign (InDeclaration held) c
@@ -60,7 +60,7 @@ doctype_keyword-goes_on foreign (first ∷ held) d c later holds step = record {
   };
 }
 
--- a character after a doctype's name that belongs to no keyword ends what is held
+-- a character after a doctype's name that belongs to no keyword ends the held text
 pub doctype_keyword-ends : (foreign : Bool) (held : List ℕ) (d : DoctypeOf) (c : ℕ)
     → ((exact : Bool) → doctype_keyword_step exact held d c ≡ record { settled = keyword_error exact held; here = skipped_step exact [] (with_quirks d) c })
     → EndsKeyword foreign (InDoctypeKeyword held d) c
@@ -123,7 +123,7 @@ keyword-end rules (InDeclaration held) keyword = refl
 keyword-end rules (InDoctypeKeyword held d) keyword = refl
 keyword-end rules other keyword = absurd (false≢true keyword)
 
--- where the later is what is open after no keyword
+-- where the later is open after no keyword
 module _ (rules : Rules) (opened later : Open) (keyword : is_keyword_open opened ≡ true) (is : later ≡ open_at_end_of rules opened) where
   pub end-decided : is_undecided_open later ≡ false
   end-decided = ap is_undecided_open is ∙ keyword-end rules opened keyword
@@ -140,6 +140,6 @@ module _ (is_in : Bool) (held : List ℕ) (opened : Open) (keyword : is_keyword_
   pub keyword-opened : is_keyword_open opened ≡ true
   keyword-opened = (keyword-out is_in held opened keyword).1
 
-  -- what is open is what the state says, before and after it
+  -- the open item is that of the state, before and after it
   pub beside : (later : Open) → with_reference is_in held later ≡ later
   beside later = with_reference-false is_in held later no_reference-keyword

@@ -38,7 +38,7 @@ test-is r xs ys test =
       ] test.0
     ] refl
 
--- a character after what is held of a word: the next of the word, another, or one after its end
+-- a character after the held text of a word: the next of the word, another, or one after its end
 
 pub starts-next : (word held : List ℕ) (c : ℕ) → slice_get word (length held) ≡ Some c → starts_with nat_eq word held ≡ starts_with nat_eq word (held ++ c ∷ [])
 starts-next [] [] c e = cc
@@ -179,7 +179,7 @@ pub no_doctype_keyword-high : (exact : Bool) (held : List ℕ) (d : DoctypeOf) (
     → doctype_keyword_step exact held d c ≡ record { settled = keyword_error exact held; here = skipped_step exact [] (with_quirks d) c }
 no_doctype_keyword-high exact held d c high = no_doctype_keyword exact held d c (inr (omega (arith, high)))
 
--- what is held after a name
+-- the held text after a name
 pub held_len-after_name : (held : List ℕ) (d : DoctypeOf) → held_len (after_doctype_name held d) ≡ length held
 held_len-after_name [] d = refl
 held_len-after_name (c ∷ held) d = refl

@@ -24,7 +24,7 @@ use Rattle.markup5ever.specs.NamedReferences.{NamedReference, begins_name}
 abbrev IsPlain : ℕ → Type 0
 IsPlain c = (number_sign ≤ c) × (c ≤ 0x7A)
 
--- ---- a name that begins with a text begins with each beginning of it
+-- ---- a name that begins with a text begins with each prefix of it
 
 starts-front : (name text rest : List ℕ) → starts_with nat_eq name (text ++ rest) ≡ true → starts_with nat_eq name text ≡ true
 starts-front name text rest starts =
@@ -45,7 +45,7 @@ no_number-front : (held : List ℕ) (c : ℕ) (text : List ℕ) → IsNoNumber (
 no_number-front [] c text other = other
 no_number-front (d ∷ held) c text other = other
 
--- where a name begins with what is held and a text, each character of the text is held, too
+-- if a name begins with the held text and a text, each character of the text is held, too
 pub holds-each : (references : List NamedReference) (held text : List ℕ) → IsNoNumber (held ++ text) → begins_name references (held ++ text) ≡ true → All IsPlain text
     → HoldsEach references held text
 unfolding HoldsEach
@@ -156,7 +156,7 @@ module _ (references : List NamedReference) (text : List ℕ) (letters bytes : �
         rest_utf8 = IsUtf8-drop text 1 utf8 (IsCharBoundary-from_take text 1 utf8 within (IsUtf8-from_ascii (take 1 text) ascii));
       }
 
--- ---- as the function finds it: where nothing is held, and where nothing more is
+-- ---- as the function finds it: when nothing is held, and when nothing more is
 
 pub where-refused : {T E : Type 0} (P : Type 0) (r : Result T E) → P → IfErr r (λ e. P)
 where-refused P (Ok x) p = tt

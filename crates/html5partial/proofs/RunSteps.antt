@@ -34,7 +34,7 @@ value_bytes-run (c ∷ run) all =
     rw (ne_eqb c null (All-head (λ c. c ≢ null) c run all))
     (ap (λ l. encode_utf8 c ++ l) (value_bytes-run run (All-tail (λ c. c ≢ null) c run all)))
 
--- an empty run leaves open what is open
+-- an empty run leaves the open item as it is
 pub opened_after_run-nil : (opened : Open) → opened_after_run opened [] ≡ opened
 opened_after_run-nil (Between mode) = refl
 opened_after_run-nil LessThan = refl
@@ -108,7 +108,7 @@ other_run_ends-after (InDoctypeKeyword held doctype) others c has out = refl
 other_run_ends-after (InCdata text) others c has out = refl
 other_run_ends-after (InReference stand held) others c has out = refl
 
--- a character that ends no run is none of the characters that end one
+-- a character that ends no run is not among the characters that end one
 no : (others : List ℕ) (c : ℕ) → ¬ Contains (run_ends others) c → (k e : ℕ) → k < length (run_ends others) → get_or (run_ends others) k c ≡ e → (c == e) ≡ false
 no others c out k e within is = ne_eqb c e (λ same. out (k, within, is ∙ sym same))
 

@@ -1,4 +1,4 @@
--- "Character reference state": where a reference stands, what is held of one, and what it comes to.
+-- "Character reference state": where a reference stands, the held text of one, and what it comes to.
 use Rattle.std.specs.Prelude.{◌≡◌, ◌≢◌, ◌≤◌, ◌==◌, ℕ, Bool, true, List, [], ◌∷◌, ◌++◌, All, Option, None, Some, length, take, drop, if◌then◌else◌}
 use Rattle.std.specs.Char.{is_ascii_alphanumeric}
 use Rattle.std.specs.List.{list_all}
@@ -29,13 +29,12 @@ stand_of (InTag (InValue kind) tag) = InAttribute kind tag
 stand_of (Between mode) = InText mode
 stand_of other = InText Data
 
--- "Hexadecimal character reference state" and "Decimal character reference state": what stands after `#` are digits of the base
--- alone
+-- "Hexadecimal character reference state" and "Decimal character reference state": the text after `#` is digits of the base alone
 abbrev pub IsNumberHeld : List ℕ → Type 0
 IsNumberHeld [] = Unit {0}
 IsNumberHeld (c ∷ text) = c ≡ number_sign → is_number text ≡ true
 
--- "Named character reference state" and the numeric ones: what is held is letters, digits, `#` and `;`, and maybe letters and
+-- "Named character reference state" and the numeric ones: the held text is letters, digits, `#` and `;`, and maybe letters and
 -- digits alone
 pub record IsHeld (held : List ℕ) (is_alphanumeric : Bool) : Type 0 where
   pub plain : All (λ c. (number_sign ≤ c) × (c ≤ 0x7A)) held
@@ -55,8 +54,8 @@ pub record BeginsInAscii (text : List ℕ) : Type 0 where
   pub ascii : IsAscii (take 1 text)
   pub rest_utf8 : IsUtf8 (drop 1 text)
 
--- "Named character reference state": a text begins with so many letters and digits, and so many bytes of it are these with a
--- semicolon after them or with none, where a name of the table begins so. They are none where no name does.
+-- "Named character reference state": a text begins with this many letters and digits, and this many bytes of it are these with a
+-- semicolon after them or with none, where a name of the table begins so. Both are 0 if no name does.
 pub record IsNameFront (references : List NamedReference) (text : List ℕ) (letters bytes : ℕ) : Type 0 where
   pub within : bytes ≤ length text
   pub parts : bytes ≢ 0 → take bytes text ≡ take letters text ++ (if bytes == letters then [] else semicolon ∷ [])

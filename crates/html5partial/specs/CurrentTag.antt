@@ -1,4 +1,4 @@
--- What a tokenizer keeps of what is open, in the words of the grammar.
+-- The open item that a tokenizer keeps, in the words of the grammar.
 use Rattle.std.specs.Prelude.{ℕ, Bool, true, false, List, [], ◌∷◌, string_bytes}
 use Rattle.std.specs.Str.{chars}
 use Rattle.html5ever_interface.specs.Token.{DoctypeOf, doctype_of}
@@ -41,8 +41,9 @@ last_name_of at = string_bytes at.last_start_tag
 abbrev pub letters_of : {Z : Type 0} → Opened Z → List ℕ
 letters_of at = chars (string_bytes at.letters)
 
--- what is open in each state, with what is kept of what was begun. In a comment its text says which of the standard's states it
--- is. So the other states of comments, and of CDATA sections, are never set: each stands for a comment, too.
+-- what is open in each state, with what the tokenizer keeps of what was begun. In a comment its text says which of the
+-- standard's states it is. So the other states of comments, and of CDATA sections, are never set: each stands for a comment,
+-- too.
 abbrev pub open_of : {Z : Type 0} → State → Opened Z → Open
 open_of state.Data at = Between Data
 open_of state.Plaintext at = Between Plain

@@ -8,7 +8,7 @@ use Rattle.html5reading.specs.Start.Quotes.{DoubleQuotes, SingleQuotes}
 use Rattle.html5partial.specs.declared.doctypes.Quotes.{Quotes as RustQuotes}
 use Rattle.html5partial.specs.declared.doctypes.Quotes.TheVariants.{Double, Single}
 
--- the text so far, which is empty where none was begun
+-- the text so far, which is empty if none was begun
 abbrev pub begun_text : Option (List ℕ) → List ℕ
 begun_text None = []
 begun_text (Some text) = text

@@ -22,13 +22,12 @@ is_keyword_open (InDeclaration held) = true
 is_keyword_open (InDoctypeKeyword held doctype) = true
 is_keyword_open other = false
 
--- "Markup declaration open state": whether the sink is asked at a character. It is asked where the character belongs to the keyword
--- of a CDATA section.
+-- "Markup declaration open state": whether a character asks the sink. It does if it belongs to the keyword of a CDATA section.
 abbrev pub asks : Open → ℕ → Bool
 asks (InDeclaration held) c = begins_cdata (held ++ c ∷ [])
 asks other c = false
 
--- whether a keyword is not decided, by the state and what is held
+-- whether a keyword is not decided, by the state and the held text
 abbrev pub holds_keyword_in : State → List ℕ → Bool
 holds_keyword_in state.MarkupDeclarationOpen held = true
 holds_keyword_in state.AfterDoctypeName held = not (length held == 0)
@@ -39,7 +38,7 @@ pub record BelongsTo (rules : Rules) (foreign : Bool) (opened : Open) (c : ℕ) 
   pub here : (brought_at rules foreign opened c).here ≡ Tells [] later
   pub good : is_bad_character c ≡ false
 
--- the character decides, and is then read as what is open after that says
+-- the character decides, and is then read by the item open after that
 pub record Decides (rules : Rules) (foreign : Bool) (opened : Open) (c : ℕ) (later : Open) : Type 0 where
   pub here : (brought_at rules foreign opened c).here ≡ step_at rules.exact later c
   pub decided : is_undecided_open later ≡ false

@@ -1,4 +1,4 @@
-//! What is held of a character reference until it is decided, and its longest name.
+//! The held text of a character reference until it is decided, and its longest name.
 #![tactic(auto)]
 
 ghost use Rattle.std.specs.Prelude.{◌≡◌, ◌≢◌, ◌≤◌, ◌<◌, ◌||◌, ◌&&◌, ◌==◌, ℕ, ◌∷◌, [], ◌++◌, true, false, All, Option, Some, None, IfOk, IfErr, OnOk, MatchOption, length, take, drop, slice_index, string_bytes, if◌then◌else◌};
@@ -16,7 +16,7 @@ use markup5ever::data::NamedReferences;
 use std::alloc::{AllocError, Allocator, Global};
 use std::marker::Model;
 
-/// What stands after the `&` of a reference that is not decided.
+/// The text after the `&` of an undecided reference.
 #[derive(Drop)]
 pub struct CharRef<A: Allocator = Global> {
     held: String<A>,
@@ -71,7 +71,7 @@ impl<A: Allocator> CharRef<A> {
         self.is_alphanumeric = true;
     }
 
-    /// What is held.
+    /// The held text.
     pub fn text(&self) -> &str
         ensures text { result.now ≡ self.now }
         ensures plain { All (λ c. (number_sign ≤ c) × (c ≤ 0x7A)) self.now }
@@ -79,7 +79,7 @@ impl<A: Allocator> CharRef<A> {
         &self.held
     }
 
-    /// What stands after the `#` of a number, where a number is held.
+    /// The text after the `#` of a number, if a number is held.
     pub fn number(&self) -> Option<&str>
         ensures { MatchOption result (first_or self.now None ≢ Some number_sign)
             (λ number. (self.now ≡ number_sign ∷ number.now) × (is_number number.now ≡ true)) }
@@ -112,9 +112,10 @@ impl<A: Allocator> CharRef<A> {
         self.hold_name(references, c)
     }
 
-    /// Right after the `&`, holds all the letters and digits with which a text begins, where a name of the
-    /// table begins with them, and the semicolon after them, where one begins with that, too. Answers how
-    /// many bytes it holds. They are none where something is held, so a text is searched once for each `&`.
+    /// Right after the `&`, holds all the letters and digits with which a text begins, if a name of the
+    /// table begins with them. It holds the semicolon after them, if one begins with that, too. Answers
+    /// how many bytes it holds. They are none if something is held, so a text is searched once for each
+    /// `&`.
     #[inline(never)]
     pub fn hold_front(
         &mut self,
@@ -203,7 +204,7 @@ fn is_semicolon_at(text: &str, at: usize) -> bool
     at < text.len() && text.as_bytes()[at] == b';'
 }
 
-// How many bytes of a text are held at once, where it begins with so many letters and digits.
+// How many bytes of a text are held at once, where it begins with this many letters and digits.
 fn front_len<A: Allocator>(references: &NamedReferences<A>, text: &str, letters: usize) -> usize
     requires within { letters ≤ length text.now }
     requires letters { list_all is_ascii_alphanumeric (take letters text.now) ≡ true }
@@ -257,7 +258,7 @@ pub fn longest_name<A: Allocator>(references: &NamedReferences<A>, text: &str) -
     longest_by_beginnings(references, text)
 }
 
-// The longest name with which the text begins, by its beginnings, as long as a name begins so.
+// The longest name with which the text begins, by its prefixes, as long as a name begins so.
 fn longest_by_beginnings<A: Allocator>(references: &NamedReferences<A>, text: &str) -> Option<Named>
     requires { IsAscii text.now }
     ensures { IsNamed text.now result (longest_name references.now text.now) }

@@ -1,4 +1,4 @@
-//! The standard's "Markup declaration open state": what stands after `<!`. That is the keyword of a
+//! The standard's "Markup declaration open state": the text after `<!`. That is the keyword of a
 //! comment, of a doctype or, in foreign content, of a CDATA section. Else it is a bogus comment.
 #![tactic(auto, unfolding(html5reading::specs::Machine::declaration_step, html5reading::specs::Machine::declaration_answer_step, html5reading::specs::Comment::begins_keyword, html5reading::specs::Comment::begins_cdata))]
 

@@ -41,7 +41,7 @@ impl Quotes {
     }
 }
 
-/// Appends a character to a text, or begins one with it where there is none.
+/// Appends a character to a text, or begins one with it if there is none.
 pub fn option_push<A: Allocator>(
     alloc: A,
     text: &mut Option<String<A>>,

@@ -7,7 +7,7 @@ use thiserror::Error;
 /// Why a call of the tokenizer stopped. After each of these every further call is refused.
 #[derive(Clone, Copy, Debug, PartialEq, Eq, Error)]
 pub enum TokenizerError {
-    /// A growth was refused: the sink was sent a beginning of what was due.
+    /// Memory ran out: until then the sink received a prefix of the correct output.
     #[error("out of memory")]
     Memory,
     /// The sink faulted at a token, or at its end: it is as its own contract says of that fault.

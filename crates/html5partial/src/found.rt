@@ -29,7 +29,7 @@ fn goes_on(next: Option<char>) -> bool
     next.is_some_and(|c| c == '=' || c.is_ascii_alphanumeric())
 }
 
-/// Whether such a name is no reference before this text and what follows it.
+/// Whether such a name is not a reference before this text and the character after it.
 pub fn goes_on_with(text: &str, next: Option<char>) -> bool
     requires { IsAscii text.now }
     ensures { result ≡ goes_on (first_or text.now next) }
@@ -47,7 +47,7 @@ pub fn is_ended(name: &str) -> bool
     name.ends_with(';')
 }
 
-/// How many characters the semicolon of a number takes: none where it has no semicolon.
+/// How many characters the semicolon of a number takes: none if it has no semicolon.
 pub fn semicolon_len(next: Option<char>) -> usize
     ensures { result ≡ semicolon_len next }
 {

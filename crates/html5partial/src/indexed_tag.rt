@@ -31,7 +31,7 @@ const FEW: usize = 16;
 pub struct IndexedTag<A: Allocator = Global> {
     // A tag, always.
     token: Token<A>,
-    // Where there are many attributes, their names.
+    // If there are many attributes, their names.
     names: BTreeSet<String<A>, A>,
     is_indexed: bool,
 }

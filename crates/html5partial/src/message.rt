@@ -20,7 +20,7 @@ pub fn is_bad(c: char) -> bool
         || code % 0x1_0000 >= 0xFFFE
 }
 
-// A text that begins so, with room for so many bytes more.
+// A text that begins so, with room for this many bytes more.
 fn begun<A: Allocator>(alloc: A, beginning: &str, more: usize) -> Result<String<A>, AllocError>
     ensures { IfOk result (λ text. string_bytes text ≡ beginning.now) }
 {

@@ -7,7 +7,7 @@ ghost use Rattle.html5reading.specs.Reference.{is_number, is_x, base_of, after_x
 
 use markup5ever::data::c1_replacement;
 
-// The base of what stands after a number's `#`.
+// The base of the text after a number's `#`.
 fn base_of(number: &str) -> u32
     ensures base { result ≡ base_of number.now }
     ensures bounds { (10 ≤ result) × (result ≤ 16) }
@@ -25,7 +25,7 @@ fn is_x(c: char) -> bool
     matches!(c, 'x' | 'X')
 }
 
-/// Whether the character goes on with what stands after a number's `#`.
+/// Whether the character goes on with the text after a number's `#`.
 pub fn continues_number(number: &str, c: char) -> bool
     requires { is_number number.now ≡ true }
     ensures goes_on { result ≡ is_number (number.now ++ c ∷ []) }
@@ -41,7 +41,7 @@ pub fn continues_number(number: &str, c: char) -> bool
     }
 }
 
-// The digits of what stands after a number's `#`.
+// The digits of the text after a number's `#`.
 fn digits_of(number: &str) -> &str
     ensures { result.now ≡ after_x number.now }
 {
@@ -71,7 +71,7 @@ pub struct Number {
     pub low_bits: u32,
 }
 
-/// The value of what stands after a number's `#`.
+/// The value of the text after a number's `#`.
 pub fn number_value(number: &str) -> Number
     requires { is_number number.now ≡ true }
     ensures value { result.value ≡ min (number_value number.now) 0x11_0000 }

@@ -18,7 +18,7 @@ pub struct Opened<A: Allocator = Global> {
     /// The standard's temporary buffer: in raw text the letters after `</`, or after the `<` of escaped
     /// script data.
     pub letters: String<A>,
-    /// The name whose end tag ends raw text, that of the last start tag. The empty name is none.
+    /// The name whose end tag ends raw text, that of the last start tag. It is empty if there is none.
     pub last_start_tag: String<A>,
 }
 

@@ -8,7 +8,7 @@ use std::alloc::{AllocError, Allocator, Global};
 /// Of how many attributes of a tag the texts are kept.
 const MANY: usize = 16;
 
-/// From more bytes than this on, the memory of a text is let go.
+/// From more bytes than this on, the memory of a text is freed.
 const LONG: usize = 256;
 
 /// Texts that are kept for their memory alone.
@@ -25,7 +25,7 @@ impl<A: Allocator + Copy> Spares<A> {
         }
     }
 
-    /// An empty text, with the memory of one that was kept, where there is one.
+    /// An empty text, with the memory of one that was kept, if there is one.
     pub fn take(&mut self, alloc: A) -> Result<String<A>, AllocError>
         ensures { IfOk result (λ text. string_bytes text ≡ []) }
     {
@@ -40,7 +40,7 @@ impl<A: Allocator + Copy> Spares<A> {
 }
 
 impl<A: Allocator> Spares<A> {
-    // Keeps a text, where it is short and there is room.
+    // Keeps a text, if it is short and there is room.
     fn keep(&mut self, text: String<A>) {
         if text.capacity() <= LONG && self.texts.len() < self.texts.capacity() {
             let _ = self.texts.push(text);

@@ -31,7 +31,7 @@ pub fn begun_tag<A: Allocator + Copy>(alloc: A, kind: TagKind) -> Tag<A>
     }
 }
 
-// Leaves no attributes, and keeps the memory of their texts. Where there are none, as mostly, nothing is called.
+// Leaves no attributes, and keeps the memory of their texts. If there are none, as mostly, nothing is called.
 #[inline(always)]
 fn clear<A: Allocator>(attributes: &mut Vec<Attribute<A>, A>, spares: &mut Spares<A>)
     ensures { map attribute_of attributes.new.items ≡ [] }

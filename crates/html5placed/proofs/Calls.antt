@@ -51,7 +51,7 @@ module _ (v s : PlacedSessionOf) (is : v ≡ s) (t : PlacedSessionOf) (d : Decod
       subst (λ x. LosesPage x t bytes) is
       (record { over = over; written = λ K page stands. first-within v K page stands t.records bytes text rest parts utf8 (subst (λ l. StopsWithin placed_step (reading_in v) v.records t.records (chars l)) same_text stops) })
 
-  -- up to bytes that are no UTF-8
+  -- up to bytes that are not UTF-8
   pub front-parts : EndsAtFault v.decoder d (v.decoder.held ++ bytes) text → (rest : List ℕ) × (v.decoder.held ++ bytes ≡ text ++ rest)
   front-parts ends =
       let all : List ℕ = v.decoder.held ++ bytes in

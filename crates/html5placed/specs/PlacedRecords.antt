@@ -39,7 +39,7 @@ pub record PlacedWriting : Type 0 where
   pub bytes : List ℕ
   -- how many of these bytes were taken
   pub taken : ℕ
-  -- where the last token ended that is no error
+  -- where the last token other than an error ended
   pub passed : ℕ
 
 -- nothing was written
@@ -50,7 +50,7 @@ nothing_written = record { bytes = []; taken = 0; passed = 0 }
 abbrev pub waiting : PlacedWriting → List ℕ
 waiting w = drop w.taken w.bytes
 
--- so many bytes more were taken
+-- this many bytes more were taken
 abbrev pub after_taking : PlacedWriting → ℕ → PlacedWriting
 after_taking w count = record w { taken = w.taken + count }
 

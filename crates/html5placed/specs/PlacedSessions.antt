@@ -37,7 +37,7 @@ reading_with reader references = (reader_with reader references).reading
 abbrev pub reading_in : PlacedSessionOf → Reading
 reading_in s = reading_with s.reader s.references
 
--- how many bytes are held where so many more come: what was read since the last token ended, and what waits, as a u64 counts
+-- how many bytes are held if this many more come: those read since the last token ended, and those that wait, as a u64 counts
 abbrev pub held_with : PlacedSessionOf → ℕ → ℕ
 held_with s more = place_after (place_after (s.reader.marks.to - s.records.passed) (length (waiting s.records))) more
 
@@ -92,7 +92,7 @@ pub record LosesPage (old new : PlacedSessionOf) (bytes : List ℕ) : Type 0 whe
   pub over : is_over new ≡ true
   pub written : (K : Start) (page : List ℕ) → StandsIn old K page → WrittenFirst (reading_in old).rules K (page ++ bytes) new.records.bytes
 
--- whatever follows them, the bytes are no UTF-8: those before the place were read, and their place is said
+-- whatever follows them, the bytes are not UTF-8: those before the place were read, and their place is reported
 pub record SaysFault (old new : PlacedSessionOf) (bytes : List ℕ) (place : ℕ) : Type 0 where
   pub refused : IsNeverUtf8 (old.decoder.held ++ bytes)
   pub valid_len : ℕ

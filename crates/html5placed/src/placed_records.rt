@@ -19,7 +19,7 @@ pub struct PlacedRecords<A: Allocator = Global> {
     // What was written: its first `skipped` bytes were taken.
     written: Vec<u8, A>,
     skipped: usize,
-    // Where the last token ended that is no error.
+    // Where the last token other than an error ended.
     passed: usize,
     taken: Log,
 }
@@ -61,7 +61,7 @@ fn push_whole<A: Allocator>(
     }
 }
 
-// Where the last token ended that is no error, after this one.
+// Where the last token other than an error ended, after this one.
 fn passed_after<A: Allocator>(passed: usize, token: &Token<A>, end: usize) -> usize
     ensures { result ≡ if is_error (told_by token.now) then passed else end }
 {
@@ -84,7 +84,7 @@ impl<A: Allocator> PlacedRecords<A> {
         }
     }
 
-    /// Where the last token ended that is no error: what stands after it may belong to the next one.
+    /// Where the last token other than an error ended: the bytes after it may belong to the next one.
     pub fn passed(&self) -> usize
         ensures { result ≡ self.now.passed }
     {
@@ -99,7 +99,7 @@ impl<A: Allocator> PlacedRecords<A> {
         rest_of(&self.written, self.skipped)
     }
 
-    /// Takes so many bytes of what waits.
+    /// Takes this many of the waiting bytes.
     pub fn skip(&mut self, count: usize)
         requires { count ≤ length (waiting self.old) }
         ensures { self.new ≡ after_taking self.old count }
@@ -109,7 +109,7 @@ impl<A: Allocator> PlacedRecords<A> {
         skip_front(&mut self.written, &mut self.skipped, count);
     }
 
-    /// Takes as many bytes of what waits as there is room for, and copies them. It answers how many. A record may be cut
+    /// Takes as many waiting bytes as there is room for, and copies them. It answers how many. A record may be cut
     /// in two: what is left of it comes first at the next call.
     pub fn take(&mut self, into: &mut [u8]) -> usize
         ensures count { result ≡ min (length into.old) (length (waiting self.old)) }

@@ -95,7 +95,7 @@ fn read_end<A: Allocator + Copy>(
 }
 
 impl<A: Allocator> PlacedSession<A> {
-    /// Whether nothing more is read: a call failed, or the page has ended. What was written can still be taken.
+    /// Whether nothing more is read: a call failed, or the page has ended. The records can still be taken.
     pub fn is_over(&self) -> bool
         ensures { result ≡ is_over self.now }
     {
@@ -164,7 +164,7 @@ impl<A: Allocator + Copy> PlacedSession<A> {
         }
     }
 
-    /// A session at the start of another page, by the same table and limit. What was written and not taken is gone.
+    /// A session at the start of another page, by the same table and limit. Records that were not taken are gone.
     pub fn restart(self, opts: TokenizerOpts<A>) -> PlacedSession<A>
         requires { CanStart opts.initial_state }
         ensures stands { StandsIn result (start_of (options_of opts)) [] }
@@ -188,8 +188,8 @@ impl<A: Allocator + Copy> PlacedSession<A> {
         next
     }
 
-    /// Whether a piece of so many bytes is within the limit (`set_limit`). What is held counts: the bytes that were read since
-    /// the last token ended that is no error, and the records that wait.
+    /// Whether a piece of this many bytes is within the limit (`set_limit`). Held bytes count: those read since the
+    /// last token other than an error ended, and the records that wait.
     pub fn has_room(&self, more: usize) -> bool
         ensures { result ≡ has_room self.now more }
     {
@@ -232,7 +232,7 @@ impl<A: Allocator + Copy> PlacedSession<A> {
         (session, result)
     }
 
-    // Reads the front of a piece, up to bytes that are no UTF-8, and says their place.
+    // Reads the front of a piece, up to bytes that are not UTF-8, and says their place.
     fn feed_front(mut self, bytes: &[u8]) -> (PlacedSession<A>, Result<(), SessionError>)
         requires refused { IsNeverUtf8 (self.decoder.held ++ bytes.now) }
         requires going_on { is_over self ≡ false }
@@ -257,10 +257,10 @@ impl<A: Allocator + Copy> PlacedSession<A> {
 
     /// Takes a piece of the page, cut anywhere, and reads on.
     ///
-    /// Where bytes of the piece are no UTF-8, whatever follows, those before them are read, and then the answer is `NotUtf8`:
-    /// they are not taken, nor what stands after them, and the next feed goes on with what is to stand in their place. After
-    /// `Memory` the session is as it was, or it is over and the piece is lost. That is also the answer where the places of
-    /// the page no longer fit in a `usize`.
+    /// Where bytes of the piece are not UTF-8, whatever follows, those before them are read, and then the answer is
+    /// `NotUtf8`. Neither the invalid bytes nor those after them are taken, and the next feed goes on with what is to
+    /// stand in their place. After `Memory` the session is as it was, or it is over and the piece is lost. That is also
+    /// the answer where the places of the page no longer fit in a `usize`.
     pub fn feed(mut self, bytes: &[u8]) -> (PlacedSession<A>, Result<(), SessionError>)
         ensures feeds { OnOk result.1 (Feeds self result.0 bytes.now) }
         ensures refused { IfErr result.1 (λ error. FeedRefused self result.0 bytes.now error) }

@@ -198,7 +198,7 @@ plain-more bytes i d inside before here =
     ap (list_all is_plain) (take_more bytes i d inside) ∙ list_all-append is_plain (take i bytes) (get_or bytes i d ∷ [])
     ∙ ap (λ b. b && (is_plain (get_or bytes i d) && true)) before ∙ ap (λ b. b && true) here
 
--- a text that begins with plain bytes: what follows is a text, and these are its first characters
+-- a text that begins with plain bytes: the rest is a text, and these are its first characters
 pub plain-front : (run rest : List ℕ) → list_all is_plain run ≡ true → IsUtf8 (run ++ rest) → IsUtf8 rest × (chars (run ++ rest) ≡ run ++ chars rest)
 plain-front [] rest plain utf8 = (utf8, refl)
 plain-front (c ∷ run) rest plain utf8 =

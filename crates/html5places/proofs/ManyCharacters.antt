@@ -72,9 +72,9 @@ module _ {S : Type 0} (step : S → Placed → S) where
       (part-later step h0 h i (placed_by r0.rules B before a) (placed_by r0.rules B (before ++ a) b) (placed_by r0.rules B ((before ++ a) ++ b) rest)
       one.handler part)
 
--- ---- what waits in the sink
+-- ---- tokens that wait in the sink
 
--- after nothing waited, what waits is what was kept
+-- if nothing waited before, the kept tokens wait
 pub waiting-all : (tokens placed : List Placed) → handed_on waits tokens placed ≡ tokens ++ placed
 unfolding handed_on
 waiting-all tokens [] = sym (append-nil tokens)
@@ -91,7 +91,7 @@ to-from rules K s before (c ∷ text) =
     let len = length-append (encode_utf8 c) (encode_utf8_all text) in
     omega (arith, more, one, len)
 
--- a reading stands so many bytes after where it began
+-- a reading stands this many bytes after where it began
 pub to-stands : (r : Reading) (B : Beginning) (before : List ℕ) → StandsAfter r B before → r.marks.to ≡ B.marks.to + place_after before
 to-stands r B before there = ap (λ (m : Marks). m.to) there.marks ∙ to-from r.rules B.start B.marks [] before
 

@@ -212,7 +212,7 @@ module _ (rules : Rules) where
       place-more : (before : List ℕ) (c : ℕ) → place_after (base ++ (before ++ c ∷ [])) ≡ place_after (base ++ before) + length (encode_utf8 c)
       place-more before c = ap place_after (one-more before c) ∙ place_after-more (base ++ before) c
 
-      -- the run begins after some beginning of the text
+      -- the run begins after some prefix of the text
       run-past : (s t : Marks) (before : List ℕ) (c : ℕ) → Known s before → (t.text ≡ s.text) ⊎ (t.text ≡ s.to + length (encode_utf8 c))
           → (text : List ℕ) × (run : List ℕ) × (base ++ (before ++ c ∷ []) ≡ text ++ run) × (t.text ≡ place_after text)
       run-past s t before c known (inl same) = (

@@ -162,7 +162,7 @@ steps-if_true : (inside within : Bool) (mode : Mode) (c : ℕ) (test : Bool) (p 
 steps-if_true inside within mode c true p q f g = f refl
 steps-if_true inside within mode c false p q f g = g
 
--- also what stands in the mode is text where no markup is open
+-- also what stands in the mode is text when no markup is open
 module _ (exact : Bool) (mode : Mode) (c : ℕ) where
   keeps-place : (place : Place) → KeepsRun (place_error exact place c)
   unfolding place_error
@@ -380,7 +380,7 @@ module _ (exact : Bool) (mode : Mode) (c : ℕ) where
       steps-if true true mode c (is_letter c) _ _ (steps-within true mode c _ _ keeps-none refl)
       (steps-if true true mode c (ends_raw_text name letters c) _ _ (steps-tag_name_end _) (steps-raw true true (raw_of kind) name _ (keeps-texts (less_than ∷ solidus ∷ letters)) raw_mode))
 
--- each step where nothing is undecided
+-- each step when nothing is undecided
 module _ (exact : Bool) (c : ℕ) where
   -- a letter after `<` begins the name of a tag
   steps-letter : is_letter c ≡ true → Steps true false Data c (tag_name_step exact (begun StartTag) c)

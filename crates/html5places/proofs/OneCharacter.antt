@@ -20,7 +20,7 @@ use Rattle.html5places.proofs.Pieces.{marks_from-one, marks_of-append, placed_fr
 use Rattle.html5places.proofs.SameReplies.{all-same, so_far-same, start-same}
 use Rattle.html5places.proofs.Stepping.{stepped-handler, stepped-marks}
 
--- ---- what is told, by the standard's replies
+-- ---- messages, by the standard's replies
 
 -- from where the text before leads, a character tells what it tells after that text
 told-here : (rules : Rules) (K : Start) (before : List ℕ) (c : ℕ)
@@ -74,7 +74,7 @@ sink_means = placed_means kept waits
 abbrev IsAfter : {X : Type 0} → Tokenizing X → Start → List ℕ → Type 0
 IsAfter t K before = t.position ≡ start_after standard t.rules K tt before
 
--- the tokenizer is another one, but for the places that its sink knows
+-- the tokenizer is another one, except for the places that its sink knows
 pub record IsMoved (t0 t : Reader) (there : Marks) : Type 0 where
   pub position : t.position ≡ t0.position
   pub rules : t.rules ≡ t0.rules

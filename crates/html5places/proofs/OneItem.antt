@@ -153,7 +153,7 @@ module _ (rules : Rules) (table : IsTable rules.references) (P : Start) (closed 
       raw-second rules second_line (led rules P less_than).last_start_tag second (kind_of raw) name
       (second-within (InRaw (AfterLessThan (kind_of raw)) name) (opened-first (RawText raw name) starts))
 
-  -- ---- an item that doesn't depend on what follows it
+  -- ---- an item that doesn't depend on the text after it
 
   on_line-length : (line : ℕ) (tokens : List Told) → length (on_line line tokens) ≡ length tokens
   on_line-length line tokens = length-map tokens (λ (token : Told). record { token = token; line = line })
@@ -173,7 +173,7 @@ module _ (rules : Rules) (table : IsTable rules.references) (P : Start) (closed 
       ∙ (by_itself []).leads P tt [] (after-nil standard.step standard.reply standard.foreign rules P tt) refl
       ∙ after-nil standard.step standard.reply standard.foreign rules later tt
 
-  -- where no markup is open after it, it is the whole of the text, which is closed
+  -- when no markup is open after it, it is the whole of the text, which is closed
   alone : (Y Z : List ℕ) (M : List Message) (later : Start) → X ≡ Y ++ Z → (Y ≡ [] → ⊥) → ((rest : List ℕ) → Item standard rules rest P tt Y M later)
       → start_after standard rules P tt Y ≡ later → is_inside later.opened ≡ false → WholeItem
   alone [] Z M later e some item leads outside = absurd (some refl)
@@ -578,7 +578,7 @@ module _ (rules : Rules) (table : IsTable rules.references) (closed : Bool) wher
   first-item _ _ _ _ _ spans (Last K s X M E one) =
       inr (record { tells = M; ends = E; item = one; at_end = (tells-items standard rules K s X M E table (Last K s X M E one)).at_end })
 
-  -- read from a start where nothing is open
+  -- read from a start with nothing open
   pub is-item : (K : Start) (X : List ℕ) (spans : Spans rules K closed X) → nothing_open K.opened ≡ true
       → WholeItem rules table K closed X spans ⊎ CutItem rules table K closed X spans
   is-item K X spans clean =

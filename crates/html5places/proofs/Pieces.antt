@@ -58,7 +58,7 @@ module _ (rules : Rules) (B : Beginning) where
       placed_from-append rules B.start (marks_of rules B before) before a b
       ∙ ap (λ s. placed_by rules B before a ++ placed_from rules B.start s (before ++ a) b) (sym (marks_of-append before a))
 
-  -- of a piece that tells no token, each beginning tells none
+  -- of a piece that tells no token, each prefix tells none
   pub has_no_token : (before a b : List ℕ) → has_token (placed_by rules B before (a ++ b)) ≡ false → has_token (placed_by rules B before a) ≡ false
   has_no_token before a b none =
       first _ _ (sym (list_any-append (λ (p : Placed). not (is_error p.token)) (placed_by rules B before a) (placed_by rules B (before ++ a) b))

@@ -16,7 +16,7 @@ use Rattle.html5reading.specs.Start.{Start, Rules}
 module _ {X Y S T H : Type 0} (means : Means X S H) (other : Means Y T H)
     (replies : (s : S) (t : T) (told : Told) (line : ℕ) → means.reply s told line ≡ other.reply t told line)
     (asks : (s : S) (t : T) → means.foreign s ≡ other.foreign t) where
-  -- what is sent at a character and after it, where what follows is the same
+  -- what is sent at a character and after it, if the rest is the same
   here-same : (rules : Rules) (K : Start) (rest : S → List ℕ → Slice → Read) (rest_of_other : T → List ℕ → Slice → Read)
       → ((s : S) (t : T) (name : List ℕ) (later : Slice) → rest s name later ≡ rest_of_other t name later)
       → (s : S) (t : T) (last before : List ℕ) (c : ℕ) (here : Here Slice)
@@ -101,7 +101,7 @@ module _ {X Y S T H : Type 0} (means : Means X S H) (other : Means Y T H)
   unfolding told
   so_far-same rules K s t text = ap (λ E. messages (take_while (λ (e : Event). is_character e.decided_by) E)) (reading-same rules K s t text)
 
-  -- what follows is read from the same start
+  -- the rest is read from the same start
   pub start-same : (rules : Rules) (K : Start) (s : S) (t : T) (text : List ℕ) → start_after means rules K s text ≡ start_after other rules K t text
   start-same rules K s t text =
       ap (λ (r : Read). record { opened = r.opened; last_start_tag = r.last_start_tag; input = input_after K.input text }) (read-same rules K s t text)

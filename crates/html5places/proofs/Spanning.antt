@@ -176,7 +176,7 @@ module _ (rules : Rules) where
       ap (λ (R : Start). in_markup R.opened) (after-cons rules P less_than (d ∷ a))
       ∙ stays-prefix (led rules P less_than) d a z (subst (λ l. StaysIn rules (led rules P less_than) (d ∷ l)) e stays)
 
-  -- what stands before the last character
+  -- the text before the last character
   before-last : (m : List ℕ) (c : ℕ) (a z : List ℕ) → m ++ c ∷ [] ≡ a ++ z → (z ≡ [] → true ≡ false) → (y : List ℕ) × (m ≡ a ++ y)
   before-last m c [] z e some = (m, refl)
   before-last [] c (d ∷ a) z e some = absurd (false≢true (sym (some (none a z (cons_rest e)))))

@@ -156,7 +156,7 @@ module _ (rules : Rules) (K : Start) (base : List ℕ) (W : List ℕ → List �
           written = λ h. markup.written;
         }
 
-    -- the last that is told there
+    -- the last message there
     last-one : (s : Marks) (told : Told) (line : ℕ) (text run : List ℕ) → before ≡ text ++ run → s.text ≡ place_after text → AreAt s
         → (is_markup told ≡ true → MarkupHere s told line) → All (StandsBy whole) (handed s told line)
     last-one s (Text text') line text run front text_place at markup = All-nil (StandsBy whole)
@@ -170,7 +170,7 @@ module _ (rules : Rules) (K : Start) (base : List ℕ) (W : List ℕ → List �
     last-one s (Instruction text') line text run front text_place at markup = one-of (placed_of s (Instruction text') line) (markup-stands s (Instruction text') line at refl (markup refl))
     last-one s (Doctype doctype) line text run front text_place at markup = one-of (placed_of s (Doctype doctype) line) (markup-stands s (Doctype doctype) line at refl (markup refl))
 
-    -- all that is told there, where the last may end a run
+    -- all messages there, where the last may end a run
     last-all : (s : Marks) (M : List Message) (m : Message) (text run : List ℕ) → before ≡ text ++ run → s.text ≡ place_after text → AreAt s → KeepRun M
         → ((t : Marks) → t.text ≡ s.text → t.begun ≡ s.begun → is_markup m.token ≡ true → MarkupHere t m.token m.line)
         → All (StandsBy whole) (all_handed s (M ++ m ∷ []))
@@ -191,7 +191,7 @@ module _ (rules : Rules) (K : Start) (base : List ℕ) (W : List ℕ → List �
       leads-there : (inside : Inside rules K base s before) → at rules K before ≡ at rules K (inside.front ++ less_than ∷ inside.more)
       leads-there inside = ap (at rules K) inside.parts
 
-      -- what stands before the item that is open
+      -- the text before the open item
       whole-front : (inside : Inside rules K base s before) → base ++ before ≡ inside.text ++ (inside.run ++ less_than ∷ inside.more)
       whole-front inside =
           ap (λ l. base ++ l) inside.parts
@@ -355,7 +355,7 @@ all-between rules K text clean =
     (piece-between rules K [] no_marks (begins-first K clean) [] text)
     (end-between rules K [] no_marks (begins-first K clean) text)
 
--- what stands between characters ends within the text
+-- a token that stands between characters ends within the text
 pub ends-within : (whole : List ℕ) (p : Placed) → StandsBetween whole p → p.places.end ≤ place_after whole
 ends-within whole p stands =
     let parts : whole ≡ (stands.before ++ (stands.run ++ stands.item)) ++ stands.rest =

@@ -13,7 +13,7 @@ use Rattle.html5places.proofs.Pieces.{has_no_token, has_token-append, placed_by-
 use Rattle.html5places.proofs.HandingOn.{place-after}
 use Rattle.html5places.proofs.ManyCharacters.{reads-append, reads-none, stops-append}
 
--- of a text a beginning was read, and these bytes are left
+-- of a text a prefix was read, and these bytes are left
 pub record HasRead {S : Type 0} (step : S → Placed → S) (t0 t : Reader) (h0 h : S) (text rest : List ℕ) : Type 0 where
   pub front : List ℕ
   pub parts : chars text ≡ front ++ chars rest
@@ -63,14 +63,14 @@ module _ {S : Type 0} (step : S → Placed → S) where
 
 -- ---- up to a token
 
--- of a text so many bytes were read, and none of their characters told a token
+-- of a text this many bytes were read, and none of their characters told a token
 pub record HasReadQuietly {S : Type 0} (step : S → Placed → S) (t0 t : Reader) (h0 h : S) (text rest : List ℕ) (count : ℕ) : Type 0 where
   pub has : HasRead step t0 t h0 h text rest
   pub within : count ≤ length text
   pub left : drop count text ≡ rest
   pub quiet : TellsToken (reading_of t0) has.front false
 
--- so many bytes lie within the text
+-- this many bytes lie within the text
 count-within : (text rest later : List ℕ) (count c : ℕ) → count ≤ length text → drop count text ≡ rest → rest ≡ encode_utf8 c ++ later
     → count + len_utf8 c ≤ length text
 count-within text rest later count c within left bytes =
@@ -90,7 +90,7 @@ front-taken text rest front count utf8 utf8_rest within left parts =
     ∙ ap (λ l. chars (take count text) ++ chars l) left in
     append_cancel_right (chars (take count text)) front (chars rest) (sym split ∙ parts)
 
--- what stands before the last of some characters
+-- the text before the last of some characters
 front-same : (a b : List ℕ) (x y : ℕ) → a ++ x ∷ [] ≡ b ++ y ∷ [] → a ≡ b
 front-same [] [] x y e = refl
 front-same [] (d ∷ []) x y e = absurd (nil≢cons (cons_rest e))

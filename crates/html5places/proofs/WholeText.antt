@@ -56,7 +56,7 @@ module _ {S : Type 0} (step : S → Placed → S) (r q : Reading) (R : Rules) (K
       (subst (λ l. IsPart step h (placed_by r.rules B [] text ++ l) j) (append-nil last)
       (part-later step h i j (placed_by r.rules B [] text) last [] one.handler (stops B text one.stands))))
 
--- a reader that is not over refuses a text that fits for want of memory alone, or because the handler did
+-- a reader that is not over refuses a text that fits only when out of memory, or because the handler did
 pub refuses-by : {T : Type 0} (r : Result T PlaceError) (e : PlaceError) (over : Bool) (len : ℕ) → r ≡ Err e → over ≡ false → len < 2 ^ 64
     → (r ≡ Err Failed) ↔ (over ≡ true) → (r ≡ Err TooLong) ↔ ((over ≡ false) × (2 ^ 64 ≤ len))
     → (e ≡ Memory) ⊎ (e ≡ Handler)

@@ -56,7 +56,7 @@ marks_after s other = record s { run = []; text = s.to }
 
 -- ---- the sink
 
--- what is kept of a token until it is handed on
+-- a token as kept until it is handed on
 abbrev pub placed_token : {Z : Type 0} → PlacedToken Z → Placed
 placed_token p = record { run = string_bytes p.run; token = told_by p.token; line = p.line_number; places = p.places }
 
@@ -99,6 +99,6 @@ module _ {S : Type 0} where
     end_faulted = λ s. s;
   }
 
--- what waits in the sink is its own state
+-- the tokens that wait in the sink are their own state
 abbrev pub kept : List Placed → List Placed
 kept tokens = tokens

@@ -23,7 +23,7 @@ mode_at_less_than (InRaw AfterMarkAndDash name) = RawText ScriptData name
 mode_at_less_than (InRaw (InSwitch kind letters) name) = RawText (raw_of (ScriptDataEscaped kind)) name
 mode_at_less_than other = Data
 
--- the start at such a `<`, where nothing is open
+-- the start at such a `<`, when nothing is open
 abbrev pub start_at_less_than : Start → Start
 start_at_less_than K = record K { opened = Between (mode_at_less_than K.opened) }
 

@@ -9,7 +9,7 @@ abbrev pub offset_of : Origin → ℕ
 offset_of (Source at) = at
 offset_of (PutIn text at) = at
 
--- the byte that is so many bytes further on
+-- the byte that is this many bytes further on
 abbrev pub further : Origin → ℕ → Origin
 further (Source at) count = Source (at + count)
 further (PutIn text at) count = PutIn text (at + count)

@@ -1,8 +1,8 @@
 -- Where each token of a text stands.
 --
 -- The text is read from a start, and the standard's elements choose how the text after a tag is read. What a character tells stands at that
--- character: a tag at its `>`, an error at the character that is wrong or that decides it. The token begins where its `<` stands. All that
--- is told as text between two tokens is one run; it stands from where the first token ends up to where the second begins, as it is written.
+-- character: a tag at its `>`, an error at the character that is wrong or that decides it. The token begins where its `<` stands. All text
+-- told between two tokens is one run; it stands from where the first token ends up to where the second begins, as source text.
 use Rattle.std.specs.Prelude.{ℕ, ◌+◌, ◌&&◌, not, Bool, true, false, List, [], ◌∷◌, ◌++◌, length, ◌==◌, encode_utf8, if◌then◌else◌}
 use Rattle.std.specs.List.{list_any}
 use Rattle.html5ever_interface.specs.Sink.{Means, Message}

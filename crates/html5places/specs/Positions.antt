@@ -32,7 +32,7 @@ position_after text = past_characters first_position (with_line_feeds false text
 
 -- ---- words of the proofs
 
--- the place after so many characters of ASCII that end no line
+-- the place after this many characters of ASCII that end no line
 abbrev pub along : Position → ℕ → Position
 along p count = record { line = p.line; column = min (p.column + count) highest; utf16_column = min (p.utf16_column + count) highest }
 

@@ -40,7 +40,7 @@ pub record StandsAfter (r : Reading) (B : Beginning) (before : List ℕ) : Type 
   pub position : r.position ≡ start_after standard r.rules B.start tt before
   pub marks : r.marks ≡ marks_of r.rules B before
 
--- a handler was handed a beginning of these tokens
+-- a handler was handed a prefix of these tokens
 pub record IsPart {S : Type 0} (step : S → Placed → S) (h : S) (placed : List Placed) (i : S) : Type 0 where
   pub front : List Placed
   pub back : List Placed
@@ -68,7 +68,7 @@ module _ {S : Type 0} (step : S → Placed → S) where
   abbrev pub StopsAtEnd : Reading → S → S → Type 0
   StopsAtEnd old h i = (B : Beginning) (before : List ℕ) → StandsAfter old B before → IsPart step h (placed_at_end old.rules B before) i
 
--- The part of a text that is read up to its first token: from wherever the reader stood, what stands before the last character tells
+-- The part of a text that is read up to its first token: from wherever the reader stood, the text before the last character tells
 -- errors alone.
 abbrev pub HasNoTokenBefore : Reading → List ℕ → Type 0
 HasNoTokenBefore old part =

@@ -1,6 +1,6 @@
 -- Where a token is written in its text, and by which item of the grammar.
 --
--- A text is what stands before a token's run, the run, the token's own characters, and the rest. An error and a NUL have one character,
+-- A text is the text before a token's run, the run, the token's own characters, and the rest. An error and a NUL have one character,
 -- and what the end tells has none. A tag, a comment, an instruction and a doctype have those of one item of the grammar (`Item`), or at the
 -- end of the text of an unfinished one (`Unfinished`). The first of them is `<`.
 use Rattle.std.specs.Prelude.{◌≡◌, ◌≢◌, ℕ, false, true, List, [], ◌∷◌, ◌++◌, length, encode_utf8_all}
@@ -20,7 +20,7 @@ use Rattle.html5places.specs.Placed.{Beginning, standard}
 abbrev pub place_after : List ℕ → ℕ
 place_after text = length (encode_utf8_all text)
 
--- The whole text is what stands before the run, the run, the item and the rest, and the places lie between them. So they are in order,
+-- The whole text is the text before the run, the run, the item and the rest, and the places lie between them. So they are in order,
 -- and none is within a character.
 pub record AreBetween (whole before run item rest : List ℕ) (places : Places) : Type 0 where
   pub parts : whole ≡ before ++ (run ++ (item ++ rest))
@@ -33,7 +33,7 @@ pub data IsCharacterOrEnd : List ℕ → List ℕ → Type 0 where
   AtCharacter : (c : ℕ) (rest : List ℕ) → IsCharacterOrEnd (c ∷ []) rest
   AtEnd : IsCharacterOrEnd [] []
 
--- a token stands between characters of the text, and one that is no markup at a character, or at the end
+-- a token stands between characters of the text, and one that is not markup at a character, or at the end
 pub record StandsBetween (whole : List ℕ) (p : Placed) : Type 0 where
   pub before : List ℕ
   pub run : List ℕ
@@ -54,7 +54,7 @@ pub record BeginsAfter (whole : List ℕ) (B : Beginning) : Type 0 where
 
 module _ (rules : Rules) (K : Start) where
   -- The start of an item that begins with `<`, after this text. The text may end with what is not decided, as `&lt` or `<`. The `<` ends
-  -- that as text, and is read where nothing is open.
+  -- that as text, and is read with nothing open.
   abbrev pub start_of_item : List ℕ → Start
   start_of_item before = start_at_less_than (start_after standard rules K tt before)
 
@@ -72,7 +72,7 @@ module _ (rules : Rules) (K : Start) where
     pub first : List Told
     pub is_item : Unfinished standard rules (start_of_item before) tt item tells (on_line line (first ++ token ∷ End ∷ []))
 
-  -- the one or the other, by what follows the item
+  -- the one or the other, by the text after the item
   pub data IsItemOrEnd (before item : List ℕ) (token : Told) (line : ℕ) : List ℕ → Type 0 where
     Whole : (rest : List ℕ) → IsItem before item rest token line → IsItemOrEnd before item token line rest
     CutOff : IsUnfinished before item token line → IsItemOrEnd before item token line []

@@ -16,10 +16,10 @@ pub trait PlacedHandler<T: Says> {
 
     ghost step: { State → Placed → State };
 
-    /// Takes a run, empty where there was no text, with the token after it, the number of the line that the tokenizer has
+    /// Takes a run, empty if there was no text, with the token after it, the number of the line that the tokenizer has
     /// reached, and where they stand. The token is no text: the end brings the last run. A parse error does not end a
-    /// run, and comes at once, with an empty one. An `Err` refuses what was handed, and the tokenizer stops: the state is
-    /// then unchanged.
+    /// run, and comes at once, with an empty one. An `Err` refuses what was handed, and the tokenizer stops: the state
+    /// is then unchanged.
     fn take_token(
         &mut self,
         run: &str,

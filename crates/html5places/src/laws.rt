@@ -11,16 +11,16 @@ ghost use Rattle.html5places.specs.Written.{BeginsAfter, Stands, StandsBetween, 
 ghost use Rattle.html5reading.specs.Start.{Rules, Start, nothing_open};
 ghost use Rattle.markup5ever.specs.NamedReferences.{IsTable};
 
-/// The places of the tokens of a text follow one another, but for those of errors: the run before the first token begins
-/// at the first byte, and each other one where the token before it ends.
+/// The places of the tokens of a text follow one another, except for those of errors. The run before the first token
+/// begins at the first byte, and each other one where the token before it ends.
 pub fn places_follow()
     ensures { (rules : Rules) (K : Start) (text : List ℕ) → follow 0 (placed_tokens rules K text) ≡ true }
 {}
 
-/// From a start where nothing is open, the places of each token are in order and lie between characters of the text.
+/// From a start with nothing open, the places of each token are in order and lie between characters of the text.
 ///
 /// By a table of named references, each tag, comment, instruction and doctype is one item of the grammar, from its `<`
-/// on: the characters between its places are that item, and tell the token last. At the end of the text they may be an
+/// on. The characters between its places are that item, and tell the token last. At the end of the text they may be an
 /// unfinished item, whose token the end tells.
 pub fn tokens_are_items()
     ensures between { (rules : Rules) (K : Start) (text : List ℕ) → nothing_open K.opened ≡ true
@@ -57,8 +57,8 @@ pub fn pieces_stand_in_the_text()
         → All (Stands rules K (before ++ piece)) (placed_by rules (at_first_byte K) before piece) }
 {}
 
-/// Where each stretch lies in its text, what was read is their bytes, one after the other. The byte at each place of that is
-/// the one that its origin names, and there is none where there is no origin.
+/// Where each stretch lies in its text, what was read is their bytes, one after the other. The byte at each place of
+/// that is the one that its origin names, and there is none if there is no origin.
 pub fn bytes_come_from_their_origins()
     ensures { (source : List ℕ) (put_in : ℕ → List ℕ) (stretches : List Stretch) (place : ℕ)
         → All (LiesInText source put_in) stretches

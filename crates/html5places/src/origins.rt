@@ -25,7 +25,7 @@ impl Origin {
         }
     }
 
-    // The origin of the byte that is so many bytes further on.
+    // The origin of the byte that is this many bytes further on.
     fn further(self, count: usize) -> Origin
         requires { offset_of self + count < 2 ^ 64 }
         ensures { result ≡ further self count }
@@ -40,7 +40,7 @@ impl Origin {
     }
 }
 
-/// So many bytes that were read, from this one on.
+/// This many bytes that were read, from this one on.
 #[derive(Clone, Copy, Debug, PartialEq, Eq)]
 pub struct Stretch {
     pub first: Origin,
@@ -91,7 +91,7 @@ impl<A: Allocator> Origins<A> {
         }
     }
 
-    /// Notes that so many bytes were read, from this one on. `TooLong` says that no text has so many bytes.
+    /// Notes that this many bytes were read, from this one on. `TooLong` says that no text has that many bytes.
     pub fn record(&mut self, first: Origin, len: usize) -> Result<(), PlaceError>
         ensures ok { OnOk result (self.new ≡ self.old ++ (record { first = first; len = len }) ∷ []) }
         ensures err { OnErr result (self.new ≡ self.old) }
@@ -107,7 +107,7 @@ impl<A: Allocator> Origins<A> {
         }
     }
 
-    /// Where the byte at a place of the whole text comes from. `None` where no byte was read there, as at the end.
+    /// Where the byte at a place of the whole text comes from. `None` if no byte was read there, as at the end.
     pub fn origin_of(&self, place: usize) -> Option<Origin>
         ensures { result ≡ origin_of self.now place }
     {

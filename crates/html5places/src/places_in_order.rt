@@ -10,7 +10,7 @@ ghost use Rattle.html5reading.specs.Characters.{carriage_return};
 use crate::positions::Position;
 use std::marker::Model;
 
-// The first character of a text, and what stands after it.
+// The first character of a text, and the text after it.
 fn split_first(text: &str) -> Option<(char, &str)>
     ensures some { IfSome result (λ split. chars text.now ≡ split.0 ∷ chars split.1.now) }
     ensures none { IfNone result (chars text.now ≡ []) }
@@ -29,7 +29,7 @@ fn is_plain(byte: u8) -> bool
     byte < 0x80 && byte != b'\n' && byte != b'\r'
 }
 
-// How many such bytes these begin with, of so many at most.
+// How many such bytes these begin with, of this many at most.
 fn plain_len(bytes: &[u8], limit: usize) -> usize
     ensures within { result ≤ length bytes.now }
     ensures limit { result ≤ limit }
@@ -44,7 +44,7 @@ fn plain_len(bytes: &[u8], limit: usize) -> usize
     len
 }
 
-// What stands after so many such bytes.
+// The text after this many such bytes.
 fn after_plain(text: &str, len: usize) -> &str
     requires within { len ≤ length text.now }
     requires plain { list_all is_plain (take len text.now) ≡ true }
@@ -130,7 +130,7 @@ impl<'t> Cursor<'t> {
 #[derive(Drop)]
 pub struct Positions<'t> {
     text: &'t str,
-    // The place that was asked for last.
+    // The place of the last query.
     asked: usize,
     cursor: Cursor<'t>,
 }

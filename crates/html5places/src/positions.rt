@@ -39,7 +39,7 @@ impl Position {
         }
     }
 
-    // The place after so many characters of ASCII that end no line.
+    // The place after this many characters of ASCII that end no line.
     pub(crate) fn along(self, count: usize) -> Position
         ensures { result ≡ along self count }
     {

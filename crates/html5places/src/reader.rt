@@ -153,8 +153,8 @@ impl<'r, A: Allocator + Copy> PlaceReader<'r, A> {
         Ok(())
     }
 
-    /// Reads a text on. Each token that its characters tell is handed over. After `Memory` and `Handler` the handler was
-    /// handed a beginning of these tokens.
+    /// Reads a text on. Each token that its characters tell is handed over. After `Memory` and `Handler` the handler
+    /// was handed a prefix of these tokens.
     pub fn read<H: PlacedHandler<Token<A>>>(
         &mut self,
         text: &str,
@@ -189,14 +189,14 @@ impl<'r, A: Allocator + Copy> PlaceReader<'r, A> {
     }
 
     /// Reads a text up to and with the first character after which a token other than a parse error was handed over, or
-    /// to its end, and says how many bytes that is. So a caller may go on with another text there, as `document.write`
+    /// to its end. Answers how many bytes that is. So a caller may go on with another text there, as `document.write`
     /// puts one in, or in another state.
     pub fn read_to_token<H: PlacedHandler<Token<A>>>(
         &mut self,
         text: &str,
         handler: &mut H,
     ) -> Result<usize, PlaceError>
-        // What an `Ok` says: the same as for `read`, of so many bytes of the text, which end between two characters.
+        // What an `Ok` says: the same as for `read`, of this many bytes of the text, which end between two characters.
         ensures reads { IfOk result (λ count. Reads H.step self.old.reading self.new.reading
             (H.state handler.old) (H.state handler.new) (chars (take count text.now))) }
         ensures within { IfOk result (λ count. count ≤ length text.now) }

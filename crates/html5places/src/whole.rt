@@ -30,18 +30,18 @@ fn refusal(error: PlaceError) -> TokenizerError
     }
 }
 
-/// Reads a text from the start of a stream, and hands each token but its texts to the handler, with the run of text before
-/// it and where both stand. The standard's elements choose how the text after a tag is read, and `<![CDATA[` opens no
-/// section.
+/// Reads a text from the start of a stream, and hands each token except texts to the handler, with the run of text
+/// before it and the places of both. The standard's elements choose how the text after a tag is read, and `<![CDATA[`
+/// opens no section.
 ///
-/// A tag, a comment, a processing instruction and a doctype stand from the last `<` after which markup may be open up to
-/// what tells them. A run stands from where the token before it ends up to where the next one begins, as it is written,
-/// with its references and with what tells no token, such as `</>`. What the end cuts off, such as `<p cla`, stands in the last run's place. A parse error
-/// stands at the character that is wrong, or at the one that decides it, as that after `&amp`; one that the end decides
-/// stands at the end.
+/// A tag, a comment, a processing instruction and a doctype stand from the last `<` after which markup may be open up
+/// to what tells them. A run stands from where the token before it ends up to where the next one begins. It is source
+/// text, with its references and with what tells no token, such as `</>`. What the end cuts off, such as `<p cla`,
+/// stands in the last run's place. A parse error stands at the character that is wrong, or at the one that decides it,
+/// as that after `&amp`. One that the end decides stands at the end.
 ///
-/// `Sink` says that the handler refused a token, and `Memory` that there was no memory. After either the handler was handed a
-/// beginning of the tokens.
+/// `Sink` says that the handler refused a token, and `Memory` that there was no memory. After either the handler was
+/// handed a prefix of the tokens.
 pub fn read_places<H: PlacedHandler<Token<A>>, A: Allocator + Copy>(
     alloc: A,
     references: &NamedReferences<A>,

@@ -71,7 +71,7 @@ noopener-added (Err fault) p new names none added (inl memory) = inl memory
 noopener-added (Err fault) p new names none added (inr wrong) =
     inr (ap (λ n. said_added p (noopener_said n)) none ∙ rules-err p fault (Rel (codes "noopener")) [] wrong)
 
--- a word that is none of the rules
+-- a word that is not among the rules
 pub unknown-word : (word : List ℕ) (names : List (List ℕ)) → begins_remark word ≡ false → bytes_eq word (codes "allow") ≡ false → bytes_eq word (codes "everywhere") ≡ false
     → bytes_eq word (codes "schemes") ≡ false → bytes_eq word (codes "hide") ≡ false → bytes_eq word (codes "rel") ≡ false → bytes_eq word (codes "noopener") ≡ false → bytes_eq word (codes "balance") ≡ false
     → bytes_eq word (codes "tree") ≡ false → bytes_eq word (codes "depth") ≡ false → rules_by_word word names ≡ Err UnknownRule

@@ -162,7 +162,7 @@ tree-may : (elements hidden : List (List ℕ)) → tree_fault elements hidden �
     → (list_all has_place elements && not (list_any (is_one_of hidden) implied_elements)) ≡ true
 tree-may elements hidden none = tree-passes (list_all has_place elements) (list_any (is_one_of hidden) implied_elements) none
 
--- but for what is hidden, each of them may be kept
+-- except for what is hidden, each of them may be kept
 may_keep-shown : (hidden : List (List ℕ)) (name : List ℕ) → may_keep [] name ≡ true → is_one_of hidden name ≡ false → may_keep hidden name ≡ true
 unfolding is_one_of
 may_keep-shown hidden name may shown =
@@ -308,13 +308,13 @@ sound-with_rule policy (Depth depth) sound none = record {
 pub sound-nothing : IsSound nothing_kept
 sound-nothing = record { elements = refl; own = refl; everywhere = refl; schemes = refl; hidden = refl; rel = refl; places = λ tree. absurd (false≢true tree); implied = λ tree. absurd (false≢true tree) }
 
--- ---- what follows
+-- ---- consequences
 
 pub allowed-may_keep : (policy : PolicyOf) (name : List ℕ) → IsSound policy → is_allowed policy name ≡ true → may_keep policy.hidden name ≡ true
 unfolding is_allowed
 allowed-may_keep policy name sound allowed = holds-one_of (may_keep policy.hidden) policy.elements name sound.elements allowed
 
--- an allowed element doesn't hide what stands in it
+-- an allowed element doesn't hide its content
 pub allowed-shows : (policy : PolicyOf) (name : List ℕ) → IsSound policy → is_allowed policy name ≡ true → always_hides name ≡ false
 allowed-shows policy name sound allowed =
     not-true (always_hides name) (and-left (not (always_hides name)) (not (acts_on_page name) && not (is_one_of policy.hidden name))

@@ -17,7 +17,7 @@ naming Schemes = λ name. SchemeRule name
 naming Hidden = λ name. HiddenRule name
 naming Rel = λ name. RelRule name
 
--- a call left the policy that is said, or answered the fault that is said; but memory may be wanting
+-- a call left the stated policy, or answered the stated fault; but memory may run out
 abbrev pub Adds : {T : Type 0} → Result T RuleError → Result PolicyOf RuleError → PolicyOf → Type 0
 Adds (Ok done) said new = said ≡ Ok new
 Adds (Err fault) said new = (fault ≡ Memory) ⊎ (said ≡ Err fault)

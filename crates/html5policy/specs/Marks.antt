@@ -1,4 +1,4 @@
--- Marks of names, by which most of the others are told at once.
+-- Marks of names, which tell most of the others apart at once.
 use Rattle.std.specs.Prelude.{◌≡◌, ℕ, Bool, true, false, List, ◌+◌, ◌-◌, ◌*◌, ◌%◌, length, slice_index, slice_index_or}
 use Rattle.std.specs.List.{list_all}
 use Rattle.html5policy.specs.Policy.{OwnAttribute, PolicyOf}

@@ -13,7 +13,7 @@ is_one_of names name = list_any (λ other. bytes_eq other name) names
 
 -- ---- elements
 
--- elements that are dropped with what stands in them, by each policy
+-- elements that are dropped with their content, by each policy
 unfoldable pub always_hides : List ℕ → Bool
 always_hides name =
     bytes_eq name (codes "iframe") || bytes_eq name (codes "math") || bytes_eq name (codes "noembed") || bytes_eq name (codes "noframes")
@@ -35,7 +35,7 @@ abbrev pub is_of_kind : Kind → Bool
 is_of_kind Unknown = false
 is_of_kind kind = true
 
--- whether tree construction is said of an element of this name: it is one of the 94 of html5tree
+-- whether tree construction is defined for an element of this name: it is one of the 94 of html5tree
 unfoldable pub has_place : List ℕ → Bool
 has_place name = is_of_kind (kind_of name)
 
@@ -94,7 +94,7 @@ unfoldable pub is_scheme : List ℕ → Bool
 is_scheme [] = false
 is_scheme (letter ∷ scheme) = is_ascii_lowercase letter && list_all is_scheme_byte scheme
 
--- schemes whose addresses run what stands in them, or name what a page made itself
+-- schemes whose addresses run their content, or name what a page made itself
 unfoldable pub runs_address : List ℕ → Bool
 runs_address scheme =
     bytes_eq scheme (codes "javascript") || bytes_eq scheme (codes "vbscript") || bytes_eq scheme (codes "data")

@@ -18,13 +18,14 @@ pub record PolicyOf : Type 0 where
   pub everywhere : List (List ℕ)
   -- the schemes of addresses
   pub schemes : List (List ℕ)
-  -- further elements that are dropped with what stands in them
+  -- further elements that are dropped with their content
   pub hidden : List (List ℕ)
   -- the value of `rel` that links get: words with a space between two. None get any where it is empty
   pub rel : List ℕ
   -- whether each end tag closes the innermost open element, and the end of a page those that are still open
   pub balance : Bool
-  -- whether a page is made to fit, so that a browser builds it as it is nested; and how many elements may be open then
+  -- whether a page is made to fit, so that a browser builds it with the same nesting; and how many elements may be
+  -- open then
   pub tree : Bool
   pub depth : ℕ
 
@@ -52,7 +53,7 @@ implied_elements = codes "colgroup" ∷ codes "tbody" ∷ codes "tr" ∷ codes "
 unfoldable pub is_allowed : PolicyOf → List ℕ → Bool
 is_allowed policy name = is_one_of policy.elements name
 
--- whether an element of this name is dropped with what stands in it
+-- whether an element of this name is dropped with its content
 unfoldable pub hides : PolicyOf → List ℕ → Bool
 hides policy name = always_hides name || is_one_of policy.hidden name
 

@@ -16,13 +16,13 @@ pub data RuleOf : Type 0 where
   Everywhere : List ℕ → RuleOf
   -- addresses of a scheme are kept
   Scheme : List ℕ → RuleOf
-  -- an element is dropped with what stands in it
+  -- an element is dropped with its content
   Hidden : List ℕ → RuleOf
   -- a word stands in the `rel` of links
   Rel : List ℕ → RuleOf
   -- each end tag closes the innermost open element, and the end of a page those that are still open
   Balance : RuleOf
-  -- a page is made to fit, so that a browser builds it as it is nested
+  -- a page is made to fit, so that a browser builds it with the same nesting
   Tree : RuleOf
   -- how many elements may be open then
   Depth : ℕ → RuleOf

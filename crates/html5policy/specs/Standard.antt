@@ -1,4 +1,4 @@
--- The policy where no other is given.
+-- The policy if no other is given.
 use Rattle.std.specs.Prelude.{ℕ, true, false, List, [], ◌∷◌, ◌++◌, codes}
 use Rattle.html5policy.specs.Policy.{OwnAttribute, PolicyOf, implied_elements}
 

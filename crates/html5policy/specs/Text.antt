@@ -23,7 +23,7 @@ abbrev pub is_word : List ℕ → Bool
 is_word [] = false
 is_word (byte ∷ word) = true
 
--- what stands between them
+-- the words between them
 unfoldable pub words : List ℕ → List (List ℕ)
 words line = filter is_word (slice_split is_space line)
 
@@ -99,7 +99,7 @@ rules_said (word ∷ names) = rules_by_word word names
 
 -- ---- the policy
 
--- what comes of the policy with a rule, where nothing was wrong with it
+-- the result of the next rule, if nothing was wrong with the policy so far
 abbrev pub after_rule : (PolicyOf → Result PolicyOf RuleError) → Result PolicyOf RuleError → Result PolicyOf RuleError
 after_rule later (Ok policy) = later policy
 after_rule later (Err fault) = Err fault
@@ -117,7 +117,7 @@ said_added policy (Err fault) = Err fault
 unfoldable pub line_added : PolicyOf → List ℕ → Result PolicyOf RuleError
 line_added policy line = said_added policy (rules_said (words line))
 
--- what comes of the policy with a line, which has this number
+-- the result of the next line, if nothing was wrong with the line of this number
 abbrev pub after_line : ℕ → (PolicyOf → Result PolicyOf PolicyError) → Result PolicyOf RuleError → Result PolicyOf PolicyError
 after_line number later (Ok policy) = later policy
 after_line number later (Err fault) = Err (record { line = number; fault = fault })

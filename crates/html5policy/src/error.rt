@@ -23,7 +23,7 @@ pub enum RuleError {
     /// No attribute is read with this name.
     #[error("a name that no attribute is read with")]
     AttributeName,
-    /// What stands in an element of this name is always dropped.
+    /// The content of an element of this name is always dropped.
     #[error("an element that always hides what stands in it can't be allowed")]
     HidesContent,
     /// An element of this name reloads the page, changes what its addresses are relative to, loads
@@ -39,7 +39,7 @@ pub enum RuleError {
     /// This is no scheme, or not in small letters.
     #[error("a name that is no scheme in small letters")]
     SchemeName,
-    /// An address of this scheme runs what stands in it, or names what a page made itself.
+    /// An address of this scheme runs its content, or names what a page made itself.
     #[error("a scheme whose addresses run what stands in them can't be allowed")]
     RunsAddress,
     /// By the rule `tree` an element has a place in the tree: it is one of the 94 of which html5tree speaks.

@@ -1,5 +1,5 @@
-//! What is kept of a page, as a value: elements, attributes, schemes of addresses. A policy that would
-//! let a page run anything, or be read otherwise than it was written, is refused.
+//! What a policy keeps of a page, as a value: elements, attributes, schemes of addresses. A policy
+//! that would let a page run anything, or be read otherwise than it was written, is refused.
 #![tactic(auto)]
 
 mod addresses;

@@ -31,7 +31,7 @@ pub fn is_one_of_by_guess<A: Allocator>(names: &[String<A>], guess: usize, name:
     is_one_of(names, name)
 }
 
-/// Whether an element of this name is dropped with what stands in it, by each policy.
+/// Whether an element of this name is dropped with its content, by each policy.
 #[tactic(auto, unfolding(crate::specs::Names::always_hides))]
 pub fn always_hides(name: &str) -> bool
     ensures { result ≡ always_hides name.now }
@@ -72,7 +72,7 @@ pub fn acts_on_page(name: &str) -> bool
     )
 }
 
-/// Whether tree construction is said of an element of this name.
+/// Whether tree construction is defined for an element of this name.
 #[tactic(auto, unfolding(crate::specs::Names::has_place))]
 pub fn has_place(name: &str) -> bool
     ensures { result ≡ has_place name.now }
@@ -221,7 +221,7 @@ pub fn is_scheme(scheme: &str) -> bool
     }
 }
 
-/// Whether an address of this scheme runs what stands in it, or names what a page made itself.
+/// Whether an address of this scheme runs its content, or names what a page made itself.
 #[tactic(auto, unfolding(crate::specs::Names::runs_address))]
 pub fn runs_address(scheme: &str) -> bool
     ensures { result ≡ runs_address scheme.now }

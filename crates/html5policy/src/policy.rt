@@ -1,4 +1,4 @@
-//! A policy: what is kept of a page.
+//! A policy: what it keeps of a page.
 ghost use Rattle.std.specs.Prelude.{◌≡◌, ◌⊎◌, IfErr, IfOk, Ok, Err, OnErr, OnOk, codes};
 ghost use Rattle.html5policy.specs.Policy.{hides, is_allowed, is_kept, is_named, is_rel_of_link, nothing_kept, refuses_address};
 ghost use Rattle.html5policy.specs.Rules.{IsSound, rule_added};
@@ -15,9 +15,9 @@ use crate::rules::{Rules, is_own};
 use std::alloc::{Allocator, Global};
 use std::marker::Model;
 
-/// What is kept of a page: the elements, each with its attributes, the attributes of each element, and
-/// the schemes of addresses; and which further elements are dropped with what stands in them. No rule of
-/// it lets a page run anything, or be read otherwise than it was written.
+/// What a policy keeps of a page: the elements, each with its attributes, the attributes of each element, and the
+/// schemes of addresses. It also says which further elements are dropped with their content. No rule of it lets a page
+/// run anything, or be read otherwise than it was written.
 #[derive(Drop)]
 pub struct Policy<A: Allocator = Global> {
     alloc: A,
@@ -50,7 +50,7 @@ impl<A: Allocator + Copy> Policy<A> {
         }
     }
 
-    /// Takes a rule after those that it has, where nothing is wrong with it.
+    /// Takes a rule after those that it has, if nothing is wrong with it.
     #[tactic(auto, unfolding(crate::specs::Rules::rule_added))]
     pub fn add(&mut self, rule: Rule<'_>) -> Result<(), RuleError>
         ensures added { OnOk result (rule_added self.old (rule_of rule.entry) ≡ Ok self.new) }
@@ -77,7 +77,7 @@ impl<A: Allocator> Policy<A> {
         is_one_of_by_guess(&self.rules.elements, guess, name)
     }
 
-    /// Whether an element of this name is dropped with what stands in it.
+    /// Whether an element of this name is dropped with its content.
     #[tactic(auto, unfolding(crate::specs::Policy::hides))]
     pub fn hides(&self, name: &str) -> bool
         ensures { result ≡ hides self.now name.now }
@@ -107,7 +107,7 @@ impl<A: Allocator> Policy<A> {
         self.rules.balance
     }
 
-    /// Whether a page that it keeps is made to fit, so that a browser builds it as it is nested.
+    /// Whether a page that it keeps is made to fit, so that a browser builds it with the same nesting.
     pub fn makes_tree(&self) -> bool
         ensures { result ≡ self.now.tree }
     {

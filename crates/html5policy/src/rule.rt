@@ -11,14 +11,14 @@ pub enum Rule<'t> {
     Everywhere(&'t str),
     /// Addresses of this scheme are kept.
     Scheme(&'t str),
-    /// Elements of this name are dropped with what stands in them.
+    /// Elements of this name are dropped with their content.
     Hidden(&'t str),
     /// This word stands in the `rel` of each `a` with an `href`, after those of the rules before.
     Rel(&'t str),
     /// Each end tag closes the innermost open element, and at the end of a page none is open.
     Balance,
-    /// A page is made to fit, so that a browser builds it as it is nested. It keeps the elements that a browser
-    /// makes in a table where they are left out, too: `colgroup`, `tbody`, `tr` and `td`.
+    /// A page is made to fit, so that a browser builds it with the same nesting. It keeps the elements that a
+    /// browser makes in a table where they are left out, too: `colgroup`, `tbody`, `tr` and `td`.
     Tree,
     /// How many elements may be open then.
     Depth(usize),

@@ -10,7 +10,7 @@ use crate::marks::Marks;
 use crate::rule::Rule;
 use std::alloc::{AllocError, Allocator};
 
-// How many elements may be open where no rule says it.
+// How many elements may be open if no rule says it.
 const STANDARD_DEPTH: usize = 256;
 
 /// An attribute that is kept in elements of that name.
@@ -53,7 +53,7 @@ fn push_name<A: Allocator + Copy>(
     Ok(())
 }
 
-// Appends a name where there is room for it.
+// Appends a name if there is room for it.
 fn push_within<A: Allocator>(names: &mut Vec<String<A>, A>, name: String<A>)
     requires { vec_len names.old < vec_capacity names.old }
     ensures items { names.new.items ≡ names.old.items ++ name ∷ [] }

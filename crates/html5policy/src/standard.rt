@@ -1,4 +1,4 @@
-//! The policy where no other is given.
+//! The policy if no other is given.
 ghost use Rattle.std.specs.Prelude.{◌≡◌, Ok, true, IfOk};
 ghost use Rattle.html5policy.specs.Rules.{IsSound};
 ghost use Rattle.html5policy.specs.Standard.{standard_policy};
@@ -113,7 +113,8 @@ pub fn standard_text() -> &'static str
 
 impl<A: Allocator + Copy> Policy<A> {
     /// Text, its blocks, lists and tables, links and images, with no style of their own. A page is made
-    /// to fit, so that a browser builds it as it is nested, and links get `rel="noopener noreferrer"`.
+    /// to fit, so that a browser builds it with the same nesting, and links get `rel="noopener
+    /// noreferrer"`.
     pub fn standard(alloc: A) -> Result<Policy<A>, AllocError>
         ensures standard { IfOk result (λ policy. policy ≡ standard_policy) }
         ensures sound { IfOk result (λ policy. IsSound policy) }

@@ -67,7 +67,7 @@ fn add_some<A: Allocator + Copy>(
     }
 }
 
-// Adds what is said of an element after `allow`.
+// Adds the rules for an element after `allow`.
 #[tactic(auto, unfolding(crate::specs::Text::allow_said, crate::specs::Text::rules_added))]
 fn add_element<A: Allocator + Copy>(policy: &mut Policy<A>, names: &str) -> Result<(), RuleError>
     ensures { Adds result (said_added policy.old (allow_said (words names.now))) policy.new }
@@ -81,7 +81,7 @@ fn add_element<A: Allocator + Copy>(policy: &mut Policy<A>, names: &str) -> Resu
     }
 }
 
-// Adds what is said of links.
+// Adds the rule for links.
 #[tactic(auto, unfolding(crate::specs::Text::noopener_said, crate::specs::Text::rules_added))]
 fn add_noopener<A: Allocator + Copy>(policy: &mut Policy<A>, names: &str) -> Result<(), RuleError>
     ensures { Adds result (said_added policy.old (noopener_said (words names.now))) policy.new }
@@ -92,7 +92,7 @@ fn add_noopener<A: Allocator + Copy>(policy: &mut Policy<A>, names: &str) -> Res
     }
 }
 
-// Adds what is said of end tags.
+// Adds the rule for end tags.
 #[tactic(auto, unfolding(crate::specs::Text::balance_said, crate::specs::Text::rules_added))]
 fn add_balance<A: Allocator + Copy>(policy: &mut Policy<A>, names: &str) -> Result<(), RuleError>
     ensures { Adds result (said_added policy.old (balance_said (words names.now))) policy.new }
@@ -142,7 +142,7 @@ fn add_number<A: Allocator + Copy>(policy: &mut Policy<A>, number: &str) -> Resu
     }
 }
 
-// Adds what is said of how many elements may be open.
+// Adds the rule for how many elements may be open.
 #[tactic(auto, unfolding(crate::specs::Text::depth_said, crate::specs::Text::rules_added))]
 fn add_depth<A: Allocator + Copy>(policy: &mut Policy<A>, names: &str) -> Result<(), RuleError>
     ensures { Adds result (said_added policy.old (depth_said (words names.now))) policy.new }

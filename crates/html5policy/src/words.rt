@@ -2,7 +2,7 @@
 ghost use Rattle.std.specs.Prelude.{◌≡◌, ◌<◌, [], ◌∷◌, MatchOption, length};
 ghost use Rattle.html5policy.specs.Text.{words};
 
-/// The first word of a line, and what stands after it.
+/// The first word of a line, and the text after it.
 pub fn next_word(line: &str) -> Option<(&str, &str)>
     ensures { MatchOption result (words line.now ≡ [])
         (λ found. (words line.now ≡ found.0.now ∷ words found.1.now) × (length found.1.now < length line.now)) }

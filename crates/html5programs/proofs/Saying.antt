@@ -11,12 +11,12 @@ appends-none None = tt
 appends-none (Some xs) = sym (append-nil xs)
 
 module _ {E : Type 0} (contents : E → Option (List ℕ)) (program what : List ℕ) where
-  -- where there was no memory for the line, nothing was said
+  -- if there was no memory for the line, nothing was said
   pub says-nothing : (target : E) (why : Option (List ℕ)) → IfSome why (λ why. SaysLine contents target target (message program what why))
   says-nothing target None = tt
   says-nothing target (Some why) = (0, omega arith, appends-none (contents target))
 
-  -- where it was written, or a beginning of it was
+  -- where it was written, or a prefix of it was
   says-written : {A B : Type 0} (before after : E) (line : List ℕ) (r : Result A B)
       → OnOk r (Appends (contents before) (contents after) line) → OnErr r (AppendsBeginning (contents before) (contents after) line)
       → SaysLine contents before after line

@@ -9,7 +9,7 @@ use Rattle.markup5ever.specs.NamedReferences.{NamedReference}
 use Rattle.html5programs.specs.declared.encoded.PageDecoding.{PageDecoding}
 use Rattle.html5programs.specs.declared.encoded.PageDecoding.TheVariants.{Utf8Alone, Fatal, ByPage}
 
--- the encoding that a label names, or none where no label is given
+-- the encoding that a label names, or none if no label is given
 abbrev pub IsEncodingAsked : Option (List ℕ) → Option Encoding → Type 0
 IsEncodingAsked None encoding = encoding ≡ None
 IsEncodingAsked (Some label) None = ⊥
@@ -20,7 +20,7 @@ abbrev pub IsUnknownLabel : Option (List ℕ) → Type 0
 IsUnknownLabel None = ⊥
 IsUnknownLabel (Some label) = encoding_of label ≡ None
 
--- how pages are decoded of which this encoding is said, or none, by whether bytes that are none of it are to be refused
+-- how pages are decoded with this declared encoding, or none, by whether bytes that are invalid in it are to be refused
 abbrev pub decoding_of : Bool → Option Encoding → PageDecoding
 decoding_of true None = Utf8Alone
 decoding_of true (Some encoding) = Fatal encoding
@@ -32,7 +32,7 @@ pub record IsTextIn (by : Encoding) (bytes text : List ℕ) : Type 0 where
   pub decoded : text ≡ encode_utf8_all (decoded by bytes)
 
 -- The text of a page that a source gave, by a table of references. As UTF-8 alone it is the bytes that the source had left, up to its
--- end; else it is what all of them decode to by the encoding of the page, and where errors are fatal there is none in them.
+-- end. Else it is what all of them decode to by the encoding of the page, and if errors are fatal there is none in them.
 abbrev pub IsTextOf : List NamedReference → PageDecoding → Option (List ℕ) → Option (List ℕ) → List ℕ → Type 0
 IsTextOf references Utf8Alone unread left text = Consumes unread left text × IsAtEnd left
 IsTextOf references (Fatal said) unread left text =

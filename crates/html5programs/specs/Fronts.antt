@@ -1,4 +1,4 @@
--- The name of the file that stands in front of what is printed of it. Where names don't stand in front there is none.
+-- The file's name in front of its output. There is none if names don't stand in front.
 use Rattle.std.specs.Prelude.{ℕ, Bool, true, false, List, [], ◌++◌, Option, None, Some, codes}
 
 -- before the first file
@@ -11,7 +11,7 @@ abbrev pub front_named : List ℕ → Option (List ℕ) → Option (List ℕ)
 front_named file None = None
 front_named file (Some name) = Some file
 
--- what stands in front of a line
+-- the text in front of a line
 abbrev pub in_front : Option (List ℕ) → List ℕ
 in_front None = []
 in_front (Some name) = name ++ codes ":"

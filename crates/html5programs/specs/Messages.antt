@@ -17,6 +17,6 @@ pub record Saying (E : Type 0) : Type 0 where
 abbrev pub message : List ℕ → List ℕ → List ℕ → List ℕ
 message program what why = program ++ codes ": " ++ what ++ codes ": " ++ why ++ codes "\n"
 
--- known bytes grew by a beginning of the line: by all of it, or by less where it could not be made or written
+-- known bytes grew by a prefix of the line: by all of it, or by less where it could not be made or written
 abbrev pub SaysLine : {E : Type 0} → (E → Option (List ℕ)) → E → E → List ℕ → Type 0
 SaysLine contents before after line = (n : ℕ) × (n ≤ length line) × Appends (contents before) (contents after) (take n line)

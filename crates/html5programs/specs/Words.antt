@@ -34,7 +34,7 @@ pub record Asked : Type 0 where
   pub waiting : Option (List ℕ)
   -- whether all later words are files
   pub only_files : Bool
-  -- the first word that is no option of the program, or that another must follow
+  -- the first word that is not an option of the program, or that another must follow
   pub wrong : Option (List ℕ)
 
 abbrev pub given_of : GivenOption → AskedOption
@@ -56,7 +56,7 @@ nothing_asked = record { given = []; files = []; waiting = None; only_files = fa
 
 -- ---- words, one after the other
 
--- the first wrong word is told
+-- the first wrong word is reported
 abbrev pub with_wrong : Asked → List ℕ → Asked
 with_wrong s word = if is_none s.wrong then record s { wrong = Some word } else s
 
@@ -75,7 +75,7 @@ unfoldable pub wants_word : List KnownOption → List ℕ → Option Bool
 wants_word [] option = None
 wants_word (known ∷ options) option = if bytes_eq known.name option then Some known.takes_word else wants_word options option
 
--- after a word that is no file: an option that waits for a word, a flag, or no option
+-- after a word that is not a file: an option that waits for a word, a flag, or no option
 abbrev pub with_option : Asked → List ℕ → Option Bool → Asked
 with_option s word (Some true) = record s { waiting = Some word }
 with_option s word (Some false) = with_given s word []
@@ -113,7 +113,7 @@ settled s = settled_where s s.waiting
 abbrev pub words_asked : List KnownOption → List (List ℕ) → Asked
 words_asked options words = settled (asked_after options nothing_asked words)
 
--- ---- what was asked for
+-- ---- what the words ask for
 
 -- the word that belongs to an option, where it was given
 unfoldable pub value_of : List ℕ → List AskedOption → Option (List ℕ)
@@ -127,7 +127,7 @@ has_option option asked = is_some (value_of option asked.given)
 abbrev pub label_asked : Asked → Option (List ℕ)
 label_asked asked = value_of (codes "--encoding") asked.given
 
--- whether bytes that are no UTF-8 are to be refused
+-- whether bytes that are not UTF-8 are to be refused
 abbrev pub fatal_asked : Asked → Bool
 fatal_asked asked = has_option (codes "--fatal") asked
 

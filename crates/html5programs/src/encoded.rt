@@ -25,7 +25,7 @@ pub struct UnknownLabel;
 #[derive(Clone, Copy, Debug, PartialEq, Eq)]
 pub enum PageError {
     Stream(StreamError),
-    /// The bytes from this place on, which is on this line, are none of this encoding.
+    /// The bytes from this place on, which is on this line, are invalid in this encoding.
     Bytes {
         encoding: Encoding,
         place: u64,
@@ -36,15 +36,15 @@ pub enum PageError {
 /// How the bytes of pages are decoded.
 #[derive(Clone, Copy, Debug, PartialEq, Eq)]
 pub enum PageDecoding {
-    /// As UTF-8, and bytes that are none are refused.
+    /// As UTF-8, and invalid bytes are refused.
     Utf8Alone,
-    /// By this encoding, or one that a byte order mark names, and bytes that are none of it are refused.
+    /// By this encoding, or one that a byte order mark names, and bytes that are invalid in it are refused.
     Fatal(Encoding),
-    /// By the encoding that each page is in, where this one is said of them.
+    /// By the encoding that each page is in, where this one is declared for them.
     ByPage(Option<Encoding>),
 }
 
-/// The encoding that a label names, or none where no label is given.
+/// The encoding that a label names, or none if no label is given.
 pub fn encoding_asked(label: Option<&str>) -> Result<Option<Encoding>, UnknownLabel>
     ensures known { IfOk result (IsEncodingAsked (option_map (λ label. label.now) label.entry)) }
     ensures unknown { OnErr result (IsUnknownLabel (option_map (λ label. label.now) label.entry)) }
@@ -58,7 +58,7 @@ pub fn encoding_asked(label: Option<&str>) -> Result<Option<Encoding>, UnknownLa
     }
 }
 
-/// How pages are decoded of which this encoding is said, where bytes that are none of it may be replaced or not.
+/// How pages are decoded with this declared encoding, where bytes that are invalid in it may be replaced or not.
 pub fn decoding_of(is_fatal: bool, said: Option<Encoding>) -> PageDecoding
     ensures { result ≡ decoding_of is_fatal said }
 {
@@ -95,7 +95,7 @@ fn read_of_text<S: Source>(
     }
 }
 
-// Reads a page by a filter, in the encoding that it is in. Bytes that are none of it are read as U+FFFD.
+// Reads a page by a filter, in the encoding that it is in. Bytes that are invalid in it are read as U+FFFD.
 fn read_by_page<F: Filter<W>, W: Target + Drop, S: Source>(
     alloc: Global,
     filter: F,
@@ -116,7 +116,8 @@ fn read_by_page<F: Filter<W>, W: Target + Drop, S: Source>(
     (filter, read_of_text(read, &text, encoding))
 }
 
-// Reads a page by a filter, in this encoding or in that which its byte order mark names, up to bytes that are none of it.
+// Reads a page by a filter, in this encoding or in that which its byte order mark names, up to bytes that are invalid
+// in it.
 fn read_fatally<F: Filter<W>, W: Target + Drop, S: Source>(
     alloc: Global,
     filter: F,

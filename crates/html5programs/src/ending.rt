@@ -5,7 +5,7 @@ ghost use Rattle.html5programs.specs.Ending.{status_of};
 /// How a run ends.
 #[derive(Clone, Copy, Debug, PartialEq, Eq)]
 pub enum Ending {
-    /// All was done that was asked for.
+    /// All that was asked for is done.
     Done,
     /// All was done, and something was found that the status tells, as faults of pages.
     Found,
@@ -19,7 +19,7 @@ pub enum Ending {
     NoMemory,
     /// A word is unknown, or a word is missing after it.
     WrongWord,
-    /// The word after an option is none that it takes, as a label that names no encoding.
+    /// The word after an option is not one that it takes, as a label that names no encoding.
     WrongValue,
     /// There is no table of named references.
     NoTable,
@@ -28,9 +28,9 @@ pub enum Ending {
 }
 
 impl Ending {
-    /// The status that the process ends with: 0 where all was done or nobody reads the output, 1 where
-    /// something was found, or could not be read or printed, and 2 where the words, the label of the encoding, or a file
-    /// that they name for the table or the settings, are wrong.
+    /// The status that the process ends with. 0: all was done, or nobody reads the output. 1: something was found, or
+    /// could not be read or printed. 2: the words, the label of the encoding, or a file that they name for the table or
+    /// the settings, are wrong.
     pub fn status(self) -> u8
         ensures { result ≡ status_of self }
     {

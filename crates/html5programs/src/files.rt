@@ -27,7 +27,7 @@ enum FileError {
     System(io::Error),
     #[error("{0}")]
     Stream(StreamError),
-    // The bytes from this place on, which is on this line, are none of the encoding of this name.
+    // The bytes from this place on, which is on this line, are invalid in the encoding of this name.
     #[error("line {line}: the bytes from place {place} on are no {name}")]
     Bytes {
         name: &'static str,
@@ -41,7 +41,7 @@ enum FileError {
 enum Outcome {
     // All were read.
     Read,
-    // Some were not, and it was said why.
+    // Some were not, and the reason was reported.
     Missed,
     // What the filter makes of one can't be printed.
     Stopped,
@@ -77,7 +77,7 @@ fn read_or_error(read: Result<(), PageError>, fault: Option<io::Error>) -> Resul
     }
 }
 
-// Reads what is open, and shows by the meter how much of it was read.
+// Reads the open input, and shows by the meter how much of it was read.
 fn read_input<F: Filter<W>, W: Target + Drop, R: Read, M: Meter>(
     alloc: Global,
     filter: F,
@@ -96,7 +96,7 @@ fn read_input<F: Filter<W>, W: Target + Drop, R: Read, M: Meter>(
     (filter, read_or_error(read, input.fault()))
 }
 
-// Reads a file, or standard input where it is named `-`.
+// Reads a file, or standard input if it is named `-`.
 fn read_file<F: Filter<W>, W: Target + Drop, R: Files + Alloc<A = Global> + Meters, I: Read>(
     rt: &R,
     filter: F,
@@ -185,7 +185,7 @@ fn ending_of(outcome: Outcome, is_written: bool, is_closed: bool, has_found: boo
     }
 }
 
-/// How a run ends that printed one text, which was written or not. Where it can't be printed it says why.
+/// How a run ends that printed one text, which was written or not. If it can't be printed, it says why.
 pub fn ending_of_text<O: Write, E: Target>(
     output: &Output<O>,
     is_written: bool,
@@ -200,7 +200,7 @@ pub fn ending_of_text<O: Write, E: Target>(
     ending
 }
 
-// Says why what was printed can't be written, where it can't.
+// Says why the output can't be written, if it can't.
 fn say_unprinted<O: Write, E: Target>(
     ending: Ending,
     output: &Output<O>,
@@ -215,7 +215,7 @@ fn say_unprinted<O: Write, E: Target>(
     }
 }
 
-/// Reads the files, decoded so, and prints what the filter makes of them. Where it is watched, it shows how much was read.
+/// Reads the files, decoded so, and prints what the filter makes of them. If it is watched, it shows how much was read.
 pub fn filter_files<
     F: Filter<Output<O>>,
     R: Files + Alloc<A = Global> + Meters,

@@ -34,7 +34,7 @@ pub trait Filter<W: Target + Drop>: Drop {
         ensures err { OnErr result (state self.new ≡ state self.old) };
 
     /// Reads a page, and prints what it makes of it as it arrives: of the whole page, or after an error
-    /// of a beginning of it.
+    /// of a prefix of it.
     fn read_page<R: Source>(
         self,
         alloc: Global,

@@ -65,7 +65,7 @@ impl Front {
         }
     }
 
-    /// Appends what stands in front of a line.
+    /// Appends the text in front of a line.
     pub fn push_to<A: Allocator>(&self, line: &mut Vec<u8, A>) -> Result<(), AllocError>
         ensures { OnOk result (line.new.items ≡ line.old.items ++ in_front self.now) }
     {

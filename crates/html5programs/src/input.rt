@@ -8,7 +8,7 @@ use std::io;
 use std::io::Read;
 use std::marker::Model;
 
-/// A reader as a source, which knows why a read failed, and where that is asked for the lines of what it gave.
+/// A reader as a source, which knows why a read failed, and, if asked, the lines of the bytes that it gave.
 /// It may show how much that is.
 #[derive(Drop)]
 pub struct Input<R, M> {
@@ -54,7 +54,7 @@ impl<R, M: Meter> Input<R, M> {
         }
     }
 
-    /// Shows how much it gives from here on, where there is a meter.
+    /// Shows how much it gives from here on, if there is a meter.
     pub fn begin_meter(&mut self, meter: Option<M>)
         ensures { self.new ≡ self.old }
     {

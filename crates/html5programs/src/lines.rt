@@ -10,7 +10,7 @@ use std::marker::Model;
 /// How many bytes a piece has at most.
 pub const CHUNK: usize = 4096;
 
-/// The lines of bytes that come in pieces, of which the last is kept. A number past `u64::MAX` is said to be `u64::MAX`.
+/// The lines of bytes that come in pieces, of which the last is kept. A number past `u64::MAX` counts as `u64::MAX`.
 #[derive(Drop)]
 pub struct Lines {
     piece: [u8; CHUNK],

@@ -29,7 +29,7 @@ pub struct TerminalLine {
     rt: HostRuntime,
     begun: Instant,
     count: u64,
-    // When the line was written that is shown, in milliseconds since it was begun, and 0 where none is.
+    // When the line was written that is shown, in milliseconds since it was begun, and 0 if none is.
     shown_at: u64,
 }
 

@@ -27,7 +27,7 @@ use std::fs::Files;
 use std::io::{Read, Write};
 use std::rt::Env;
 
-// The settings that the words ask for. Where there are none, it says why.
+// The settings that the words ask for. If there are none, it says why.
 fn read_settings<S: Settings, R: Files + Alloc<A = Global> + Meters, E: Target>(
     rt: &R,
     asked: &Words<'_>,
@@ -48,7 +48,7 @@ fn read_settings<S: Settings, R: Files + Alloc<A = Global> + Meters, E: Target>(
     }
 }
 
-// The settings, or that there are none, and it was said why.
+// The settings, or that there are none, and the reason was reported.
 fn settings_or_say<S: Settings, E: Target>(
     said: Result<S, S::Fault>,
     what: &str,
@@ -165,7 +165,7 @@ fn names_of<'c>(alloc: Global, choices: &[Choice<'c>]) -> Result<Vec<&'c str>, A
     Ok(names)
 }
 
-// Says what is wrong with a word that is no option of a program, or that another must follow.
+// Says what is wrong with a word that is not an option of a program, or that another must follow.
 fn say_wrong<E: Target>(
     alloc: Global,
     choices: &[Choice<'_>],
@@ -180,7 +180,7 @@ fn say_wrong<E: Target>(
     messages.say(word, no_such(alloc, "option", &names, word));
 }
 
-/// Runs a program by the words after its name: prints how it is used, its version, its settings, or what its
+/// Runs a program by the words after its name. It prints its usage, its version, its settings, or what its
 /// filter makes of the files that the words name, or else of standard input. It gives the output back, and
 /// how it ended. What a file holds that is opened by its path no contract says.
 pub fn filter_by_words<

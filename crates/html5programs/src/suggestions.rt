@@ -1,4 +1,4 @@
-//! What is said of a word that names nothing: what it may have been meant for.
+//! The error for a word that names nothing: what it may have been meant for.
 use std::alloc::{AllocError, Allocator, Global};
 use strsim::jaro;
 use thiserror::Error;
@@ -6,7 +6,7 @@ use thiserror::Error;
 // How like a word a name is that is suggested, from 0 to 1 as Jaro measures it, is more than this.
 const LIKE: f64 = 0.8;
 
-/// That a word names nothing of a kind, as an option, with a name that is like it where there is one.
+/// That a word names nothing of a kind, as an option, with a name that is like it if there is one.
 #[derive(Clone, Copy, Debug, Error)]
 pub enum NoSuch<'n> {
     #[error("no such {kind}; did you mean {name}?")]
@@ -33,7 +33,7 @@ fn nearest<'n, A: Allocator + Copy>(
     Ok(found)
 }
 
-/// What is said of a word that is none of these names.
+/// The error for a word that is not among these names.
 pub fn no_such<'n>(alloc: Global, kind: &'n str, names: &[&'n str], word: &str) -> NoSuch<'n> {
     match nearest(alloc, names, word) {
         Ok(Some(name)) => NoSuch::Like { kind, name },

@@ -33,7 +33,7 @@ pub struct Words<'w, A: Allocator = Global> {
     pub waiting: Option<&'w str>,
     /// Whether all later words are files.
     pub only_files: bool,
-    /// The first word that is no option of the program, or that another must follow.
+    /// The first word that is not an option of the program, or that another must follow.
     pub wrong: Option<&'w str>,
 }
 
@@ -92,7 +92,7 @@ impl<'w, A: Allocator + Copy> Words<'w, A> {
         Ok(())
     }
 
-    // Takes an option, or a word that is none.
+    // Takes an option, or a word that is not one.
     fn take_option(&mut self, choices: &[Choice<'_>], word: &'w str) -> Result<(), AllocError>
         ensures { OnOk result (asked_by self.new ≡ with_option (asked_by self.old) word.now (wants_word (known_options choices.now) word.now)) }
     {
@@ -176,8 +176,8 @@ impl<'w, A: Allocator> Words<'w, A> {
         &self.files
     }
 
-    /// Whether the names of files stand in front of what is printed of them: as the last option about them
-    /// says, or else where there is more than one.
+    /// Whether the names of files stand in front of their output: as the last option about them says, or
+    /// else if there is more than one.
     #[tactic(auto, unfolding(crate::specs::Words::naming_of))]
     pub fn shows_names(&self) -> bool
         ensures { result ≡ shows_names (asked_by self.now) }

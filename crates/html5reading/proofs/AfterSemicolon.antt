@@ -62,7 +62,7 @@ not_empty : (front : List ℕ) → [] ≡ front ++ semicolon ∷ [] → ⊥
 not_empty [] same = absurd cc
 not_empty (x ∷ front) same = absurd cc
 
--- where what is held ends with a semicolon, each character decides the reference
+-- if the held text ends with a semicolon, each character decides the reference
 pub undecided-after : (references : List NamedReference) (held front : List ℕ) (c : ℕ) → IsTable references → first_or held None ≢ Some number_sign → held ≡ front ++ semicolon ∷ []
     → is_undecided references (held ++ c ∷ []) ≡ false
 unfolding is_undecided

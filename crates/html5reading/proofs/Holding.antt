@@ -163,7 +163,7 @@ module _ (exact : Bool) (c : ℕ) where
   holds-doctype BetweenIdentifiers d = holds-space _ d _ (holds-system_or_end false state.BetweenDoctypePublicAndSystemIdentifiers d)
   holds-doctype Skipped d = holds-skipped [] d
 
-  -- where nothing is undecided a character holds itself at most. So a feed takes at most two characters for one.
+  -- when nothing is undecided a character holds itself at most. So a feed takes at most two characters for one.
   pub holds_at_most_one : (opened : Open) → is_undecided_open opened ≡ false → HoldsAtMostOne (step_at exact opened c)
   unfolding step_at less_than_step solidus_step comment_step instruction_step
   holds_at_most_one (Between Data) decided = holds-data []

@@ -51,7 +51,7 @@ unfolding with_line_feeds normalised without_dropped_first
 with_line_feeds-restart I b [] cr bom = refl
 with_line_feeds-restart I b (c ∷ Z) cr bom = rw (bom, cr) (with_line_feeds-first b c Z (b && (c == line_feed)) refl)
 
--- what follows a text is normalised from the start after it
+-- the rest after a text is normalised from the start after it
 normalised-cons-append : (I : Input) (c : ℕ) (X Z : List ℕ) (d : Bool) → drops_first I c ≡ d
     → with_line_feeds false (cond d (X ++ Z) (c ∷ X ++ Z))
     ≡ with_line_feeds false (cond d X (c ∷ X)) ++ with_line_feeds (ends_with_carriage_return false (c ∷ X)) Z
@@ -110,7 +110,7 @@ line_after-lines_past I before (c ∷ Y) =
     ∙ line_after-lines_past I (before ++ c ∷ []) Y
     ∙ ap (λ line. lines_past line Y) (line_after-past I before c)
 
--- the line that what follows a text starts on
+-- the line that the rest after a text starts on
 pub input_after-line_none : (I : Input) (X : List ℕ) → line_after (input_after I X) [] ≡ lines_past (line_after I []) (normalised I X)
 unfolding input_after normalised without_dropped_first with_line_feeds lines_past line_after
 input_after-line_none I [] = refl

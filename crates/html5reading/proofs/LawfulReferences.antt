@@ -75,7 +75,7 @@ lawful-texts (c ∷ characters) h =
     let parts = no_null-parts c characters h in
     (no_null-encode c parts.0, lawful-texts characters parts.1)
 
--- ---- what is held
+-- ---- the held text
 
 alphanumeric-other : (c : ℕ) → is_ascii_alphanumeric c ≡ true → (c == null) ≡ false
 alphanumeric-other c h = grind (arith, nat_tests)

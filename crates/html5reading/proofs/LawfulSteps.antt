@@ -1,4 +1,4 @@
--- Each character tells lawful tokens where what is open is fit for them, and leaves such.
+-- Each character tells lawful tokens if the open item is fit for them, and leaves one that is.
 use Rattle.std.proofs.Common.{◌≡◌, ℕ, Bool, true, false, List, [], ◌∷◌, ◌++◌, refl, zero, suc, take, not, arith}
 use Rattle.std.specs.Prelude.{◌&&◌, ◌==◌, encode_utf8, length, if◌then◌else◌}
 use Rattle.std.specs.List.{list_all}
@@ -48,7 +48,7 @@ abbrev pub IsFitStand : Stand → Type 0
 IsFitStand (InText mode) = Unit {0}
 IsFitStand (InAttribute kind tag) = IsFitTag tag
 
--- what is open is fit for what will be sent of it
+-- the open item is fit for what will be sent of it
 unfoldable pub IsFit : Open → Type 0
 IsFit (InTag place tag) = IsFitTag tag
 IsFit (InRaw (InEndName kind letters) name) = list_all is_letter letters ≡ true

@@ -1,11 +1,11 @@
--- Kinds of characters: a letter is none of others.
+-- Kinds of characters: a letter is not of another kind.
 use Rattle.std.proofs.Common.{◌≡◌, ℕ, Bool, true, false, refl, ap, sym, ◌∙◌}
 use Rattle.std.specs.Prelude.{◌==◌}
 use Rattle.std.proofs.lemmas.Bool.{eqb-true, false_from_ne_true, false≢true}
 use Rattle.html5reading.specs.Characters.{tab, line_feed, form_feed, space, solidus, greater_than, is_letter, is_white_space, null}
 use Rattle.html5reading.specs.Tag.{in_tag_name}
 
--- a character of a kind is none of another
+-- a character of a kind is not of another
 pub is_not : (is_kind : ℕ → Bool) (c d : ℕ) → is_kind d ≡ false → is_kind c ≡ true → (c == d) ≡ false
 is_not is_kind c d other member =
     false_from_ne_true (c == d) (λ e. false≢true (sym other ∙ sym (ap is_kind (eqb-true c d e)) ∙ member))

@@ -1,4 +1,4 @@
--- What is held of a name when it is decided, and what the whole text after `&` says of it.
+-- The held text of a name when it is decided, and what the whole text after `&` says of it.
 use Rattle.std.proofs.Common.{◌≡◌, ℕ, ◌+◌, ◌-◌, ◌<◌, Bool, true, false, ◌&&◌, ◌||◌, List, [], ◌∷◌, ◌++◌, take, drop, length, length-append, add-one, subst, None, Some, if◌then◌else◌, refl, sym, ap, ◌∙◌, arith, suc}
 use Rattle.std.specs.Prelude.{◌≢◌, All, IsTrue, codes}
 use Rattle.std.specs.Bool.{nat_eq}
@@ -36,7 +36,7 @@ no_number-front : (held : List ℕ) (c : ℕ) (text : List ℕ) → IsNoNumber (
 no_number-front [] c text other = other
 no_number-front (d ∷ held) c text other = other
 
--- the first character after what is held
+-- the first character after the held text
 module _ (P : List ℕ → Type 0) (held : List ℕ) (c : ℕ) (text : List ℕ) where
   pushed : P (held ++ c ∷ text) → P ((held ++ c ∷ []) ++ text)
   pushed h = subst P (sym (append_assoc held (c ∷ []) text)) h
@@ -47,7 +47,7 @@ or-left_false : (a b : Bool) → a || b ≡ false → a ≡ false
 or-left_false true b h = h
 or-left_false false b h = refl
 
--- where no name begins with one character more, the longest name stands before it
+-- when no name begins with one character more, the longest name stands before it
 longest-after : (references : List NamedReference) (held : List ℕ) (c : ℕ) (text : List ℕ) → begins_name references (held ++ c ∷ []) ≡ false
     → longest_name references (held ++ c ∷ text) ≡ longest_name references held
 longest-after references held c text none =
@@ -56,7 +56,7 @@ longest-after references held c text none =
     longest-cut references (held ++ c ∷ text) (length held) within (ap (begins_name references) cut ∙ none)
     ∙ ap (longest_name references) (take-append_seam held (c ∷ text))
 
--- the longest name that begins what is held is the longest that begins the whole text
+-- the longest name that begins the held text is the longest that begins the whole text
 pub longest-run : (references : List NamedReference) (held text : List ℕ) → IsNoNumber (held ++ text)
     → longest_name references (held ++ run_while (is_undecided references) held text) ≡ longest_name references (held ++ text)
 unfolding run_while
@@ -73,7 +73,7 @@ longest-run references held (c ∷ text) other =
           ∙ sym (longest-after references held c text (or-left_false (begins_name references (held ++ c ∷ [])) _ (sym (undecided-name references held c (no_number-front held c text other)) ∙ decides)))
     ] refl
 
--- ---- beginnings of a text that a name begins, or none
+-- ---- prefixes of a text that a name begins, or none
 
 starts-longer : (text more name : List ℕ) → starts_with nat_eq text name ≡ true → starts_with nat_eq (text ++ more) name ≡ true
 starts-longer text more name starts =
@@ -132,7 +132,7 @@ absorbed true a n h = refl
 absorbed false a true h = absurd (false≢true (h refl))
 absorbed false a false h = and-false a
 
--- where a name begins the text, what is held is the longest beginning of the text that begins a name
+-- where a name begins the text, the held text is the longest prefix of the text that begins a name
 pub held-named : (references : List NamedReference) (held text : List ℕ) → IsNoNumber (held ++ text) → is_none (longest_name references (held ++ text)) ≡ false
     → run_while (is_undecided references) held text ≡ run_while (begins_name references) held text
 unfolding run_while
@@ -149,7 +149,7 @@ held-named references held (c ∷ text) other some =
 pub odd-within : (p : ℕ → Bool) (before : List ℕ) (c : ℕ) (afterwards : List ℕ) → p c ≡ false → list_all p (before ++ c ∷ afterwards) ≡ false
 odd-within p before c afterwards odd = list_all-append p before (c ∷ afterwards) ∙ rw odd (and-false (list_all p before))
 
--- in a plain name a character that is no letter and no digit stands last
+-- in a plain name a character that is neither a letter nor a digit stands last
 plain-end : (before : List ℕ) (c : ℕ) (afterwards : List ℕ) → is_plain_name (before ++ c ∷ afterwards) ≡ true → is_ascii_alphanumeric c ≡ false → afterwards ≡ []
 unfolding is_plain_name
 plain-end before c [] plain odd = refl
@@ -190,7 +190,7 @@ unnamed-begins (x ∷ references) held c plain odd e =
     ] refl)
     (unnamed-begins references held c (All-tail (λ entry. IsTrue (is_plain_name entry.name)) x references plain) odd p.1)
 
--- where no name begins the text, what is held is its letters and digits
+-- when no name begins the text, the held text is its letters and digits
 pub held-unnamed : (references : List NamedReference) (held text : List ℕ) → ArePlain references → IsNoNumber (held ++ text) → longest_name references (held ++ text) ≡ None
     → list_all is_ascii_alphanumeric held ≡ true → run_while (is_undecided references) held text ≡ run_of is_ascii_alphanumeric text
 unfolding run_while run_of

@@ -277,7 +277,7 @@ module _ (exact : Bool) (c : ℕ) where
   no_tags-raw_place (InSwitch kind letters) name =
       no_tags-if (is_letter c) _ _ (refl, tt) (no_tags-if (ends_name c) _ _ (refl, tt) (no_tags-raw (raw_of (raw_kind.ScriptDataEscaped kind)) name [] tt))
 
-  -- where nothing is undecided a step tells no tag before the one that ends
+  -- when nothing is undecided a step tells no tag before the one that ends
   pub no_tags-step_at : (opened : Open) → NoTagsHere (step_at exact opened c)
   unfolding step_at less_than_step solidus_step instruction_step NoTagsHere NoTags
   no_tags-step_at (Between Data) = no_tags-data [] tt

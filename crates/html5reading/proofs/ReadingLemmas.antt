@@ -27,7 +27,7 @@ use Rattle.html5reading.specs.Machine.{brought_at, messages_here, opened_here, l
 use Rattle.html5reading.proofs.InputLemmas.{line_past, lines_past, normalised-append, input_after-line_none, input_after-append, input_after-line_one}
 use Rattle.html5reading.proofs.Traces.{Trace, Traces, with_messages, trace, trace_here, trace_brought, traces, messages-append, messages-map, messages-late}
 
--- where nothing is open there is a mode
+-- when nothing is open there is a mode
 pub between-mode : (opened : Open) → nothing_open opened ≡ true → (mode : Mode) × (opened ≡ Between mode)
 between-mode (Between mode) h = (mode, refl)
 between-mode LessThan h = absurd (false≢true h)

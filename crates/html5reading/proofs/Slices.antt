@@ -165,7 +165,7 @@ module _ (rules : Rules) (foreign : Bool) (c : ℕ) (text : List ℕ) where
   unfolding closing closing_step
   begins-closing errors tag self_closing = refl
 
-  -- what goes on inside a run, and what follows it
+  -- what goes on inside a run, and the text after it
   follows-run : (is_kind : ℕ → Bool) (tells : ℕ → List Told) (afterwards : List ℕ → List ℕ → Slice) (opened : Open) (next : Here Open)
       → (rest_of rules opened text ≡ with_run tells (run_of is_kind text) (afterwards (c ∷ run_of is_kind text) (after_run is_kind text)))
       → follows (afterwards [] (c ∷ text)) next
@@ -394,7 +394,7 @@ module _ (rules : Rules) (foreign : Bool) (c : ℕ) (text : List ℕ) where
   unfolding system_or_end system_or_end_step here slice_at brought rest_of
   follows-system_or_end is_direct named d = follows-if (c == greater_than) _ _ _ _ (refl, refl) (follows-wanted_identifier is_direct named System d)
 
-  -- white space, and what follows it
+  -- white space, and the text after it
   follows-space : (place : DoctypePlace) (afterwards : List ℕ → Slice) (d : DoctypeOf) (next : Here Open)
       → (rest_of rules (InDoctype place d) text ≡ with_run silent (run_of is_white_space text) (afterwards (after_run is_white_space text)))
       → follows (afterwards (c ∷ text)) next
@@ -581,7 +581,7 @@ module _ (rules : Rules) (foreign : Bool) (c : ℕ) (text : List ℕ) where
   follows-raw_place AfterMarkAndDash name = follows-after_mark_and_dash name
   follows-raw_place (InSwitch kind letters) name = follows-switch kind name letters
 
-  -- the slice that is open tells at c what the machine does, where that is no reference
+  -- the slice that is open tells at c what the machine does, where that is not a reference
   follows-tag : (place : Place) (tag : OpenTag) → follows (rest_of rules (InTag place tag) (c ∷ text)) (step_at rules.exact (InTag place tag) c)
   unfolding rest_of step_at tag_step here slice_at brought next_slice
   follows-tag InName tag = follows-tag_name tag
@@ -621,7 +621,7 @@ module _ (rules : Rules) (foreign : Bool) (c : ℕ) (text : List ℕ) where
   here-opened_in (InText mode) characters = (follows-between mode).0
   here-opened_in (InAttribute kind tag) characters = (follows-tag (InValue kind) (with_value tag characters)).0
 
-  -- after what is held of a reference, the slice brings at c what the machine brings there
+  -- after the held text of a reference, the slice brings at c what the machine brings there
   brings-after_held : (stand : Stand) (held : List ℕ) → brings (after_held rules stand held (c ∷ text))
       (if ends_number held c then record {
         settled = late_tokens stand (reference rules (in_value stand) held (Some c)) held;

@@ -1,4 +1,4 @@
--- What the sink is sent of a text is a beginning of the reading of that text and more. It is all before the first event that a
+-- What the sink is sent of a text is a prefix of the reading of that text and more. It is all before the first event that a
 -- later character decides, or the end.
 use Rattle.std.proofs.Common.{◌≡◌, ℕ, ◌≤◌, ◌+◌, suc, Bool, true, false, None, Some, List, [], ◌∷◌, ◌++◌, drop, refl, ap, sym, ◌∙◌, subst, length, length-append, arith}
 use Rattle.std.specs.Prelude.{codes, ◌&&◌, map, take_while, if◌then◌else◌, ◌-◌}

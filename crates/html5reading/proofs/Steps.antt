@@ -60,7 +60,7 @@ wanted-direct true q error x y z = refl
 wanted-direct false true error x y z = refl
 wanted-direct false false error x y z = sym (told_first-none z)
 
--- where no white space stands before an identifier its quote is an error too
+-- when no white space stands before an identifier its quote is an error too
 pub wanted_identifier_step-direct : (exact : Bool) (named : State) (kind : DoctypeIdKind) (d : DoctypeOf) (c : ℕ)
     → wanted_identifier_step exact true named kind d c
     ≡ told_first (where_true ((c == quotation_mark) || (c == apostrophe)) (error_in exact named c)) (wanted_identifier_step exact false named kind d c)

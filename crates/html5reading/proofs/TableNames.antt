@@ -120,7 +120,7 @@ longest-found (x ∷ references) name first second e =
           ] refl)
     ] refl e
 
--- a text that is no name itself begins with the names of the text without its last character
+-- a text that is not a name itself begins with the names of the text without its last character
 pub longest-push : (references : List NamedReference) (p : List ℕ) (c : ℕ) → characters_of_name references (p ++ c ∷ []) ≡ None → longest_name references (p ++ c ∷ []) ≡ longest_name references p
 unfolding longest_name characters_of_name
 longest-push [] p c e = refl
@@ -130,7 +130,7 @@ longest-push (x ∷ references) p c e =
       | false ↦ λ other is. rw (starts-push p x.name c other, longest-push references p c is) refl
     ] refl e
 
--- where no name begins with one character more, the names of the text are those up to there
+-- when no name begins with one character more, the names of the text are those up to there
 pub longest-cut : (references : List NamedReference) (text : List ℕ) (len : ℕ) → len < length text → begins_name references (take (suc len) text) ≡ false → longest_name references text ≡ longest_name references (take len text)
 unfolding longest_name begins_name
 longest-cut [] text len within other = refl
@@ -195,7 +195,7 @@ none_begins (x ∷ references) text plain odd =
 
 -- ---- the name of an entry
 
--- a table has a name that begins with each beginning of it
+-- a table has a name that begins with each prefix of it
 begins-append : (text rest : List ℕ) → starts_with nat_eq (text ++ rest) text ≡ true
 begins-append text rest =
     (starts_is Decides-eqb (text ++ rest) text (starts_with nat_eq (text ++ rest) text) refl).1 rest refl

@@ -67,9 +67,9 @@ module _ {S H : Type 0} (step : S → Told → ℕ → S) (reply : S → Told �
   trace s line last opened (c ∷ text) =
       trace_brought (λ t name later. trace t (line_past line c) name later text) s line last c (brought_at rules (foreign s) opened c)
 
--- a character decides nothing that stands before it where nothing is undecided
+-- a character decides nothing that stands before it when nothing is undecided
 
--- where nothing is undecided a character brings its step, and settles nothing
+-- when nothing is undecided a character brings its step, and settles nothing
 pub brought-step : (rules : Rules) (foreign : Bool) (opened : Open) (c : ℕ) → is_undecided_open opened ≡ false
     → brought_at rules foreign opened c ≡ record { settled = []; here = step_at rules.exact opened c }
 unfolding brought_at step_at
@@ -91,7 +91,7 @@ pub brought-tells : (rules : Rules) (foreign : Bool) (opened : Open) (c : ℕ) (
     → brought_at rules foreign opened c ≡ record { settled = []; here = h }
 brought-tells rules foreign opened c h decided e = brought-step rules foreign opened c decided ∙ rw e refl
 
--- the sink's answer decides nothing where no CDATA section can begin
+-- the sink's answer decides nothing when no CDATA section can begin
 
 pub none_without_beginning : (text : List ℕ) → begins_cdata text ≡ false → bytes_eq text cdata_keyword ≡ false
 unfolding begins_cdata
@@ -119,7 +119,7 @@ rests-of_doctypes : ⊤
 unfolding doctype before_doctype_name after_word_and_space doctype_name after_doctype_name after_doctype_name_and_space keyword_or_end doctype_keyword after_keyword identifier_after_space after_keyword_and_space identifier after_in_identifier between_identifiers after_space_between skipped_rest after_skipped_rest reference_text after_held run_while after_while run_of after_run
 rests-of_doctypes = tt
 
--- before an empty text what is open stays open
+-- before an empty text the open item stays open
 pub rest_of-nil : (rules : Rules) (opened : Open) → open_after (rest_of rules opened []).afterwards ≡ opened
 unfolding rests-of_tags rests-of_comments rests-of_doctypes
 rest_of-nil rules (Between mode) = refl

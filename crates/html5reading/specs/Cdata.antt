@@ -34,7 +34,7 @@ cdata held (c ∷ text) =
     else if c == null then one_character (texts held ++ Null ∷ []) (Between Cdata)
     else with_character [] (cdata (held ++ c ∷ []) text)
 
--- "CDATA section state": the same from c on where none is held, and `before` is sent first
+-- "CDATA section state": the same from c on when none is held, and `before` is sent first
 unfoldable pub cdata_from : List Told → ℕ → List ℕ → Slice
 cdata_from before c text =
     if c == null then one_character (before ++ Null ∷ []) (Between Cdata)

@@ -1,4 +1,4 @@
--- Comments, and what stands after `<!`. The text of a comment before a character says what that character tells.
+-- Comments, and the text after `<!`. The text of a comment before a character says what that character tells.
 -- The slices below are vocabulary of proofs: `html5grammar/specs/Comment` says how a comment is written.
 use Rattle.std.specs.Prelude.{ℕ, ◌+◌, ◌-◌, Bool, true, false, List, [], ◌∷◌, ◌++◌, ◌==◌, ◌||◌, ◌&&◌, codes, flat_map, length, nat_eq, not, take, if◌then◌else◌}
 use Rattle.std.specs.List.{ends_with, starts_with}
@@ -21,7 +21,7 @@ use Rattle.html5reading.specs.Tag.{null_error}
 abbrev pub ends_in : List ℕ → List ℕ → Bool
 ends_in text word = ends_with nat_eq text word
 
--- the text without so many last bytes
+-- the text without this many last bytes
 abbrev pub without_last : ℕ → List ℕ → List ℕ
 without_last n text = take (length text - n) text
 
@@ -106,18 +106,18 @@ bogus_comment_from exact before first c text =
 
 -- ---- after `<!`
 
--- "Markup declaration open state": the first two keywords, `doctype` in any case. What is held of them is ASCII, so its
+-- "Markup declaration open state": the first two keywords, `doctype` in any case. The held text of them is ASCII, so its
 -- characters are its bytes.
 unfoldable pub begins_keyword : List ℕ → Bool
 begins_keyword held = starts_with nat_eq (codes "--") held || starts_with nat_eq (codes "doctype") (lower_case held)
 
--- "Markup declaration open state": where no keyword comes, that is an error at the `!`, and a comment begins after that
+-- "Markup declaration open state": when no keyword comes, that is an error at the `!`, and a comment begins after that
 abbrev pub declaration_error : Bool → List ℕ → List Late
 declaration_error exact held =
     record { token = error_in exact state.MarkupDeclarationOpen exclamation_mark; back = length held + 2; is_at = true; is_held = false } ∷ []
 
 -- "Markup declaration open state": the first keyword with which the text after `<!` begins decides. Where neither of the first
--- two begins, the sink is asked at that character whether a CDATA section may begin.
+-- two begins, that character asks the sink whether a CDATA section may begin.
 unfoldable pub declaration : Bool → List ℕ → List ℕ → Slice
 declaration exact held [] = cut_off (InDeclaration held)
 declaration exact held (c ∷ text) =

@@ -127,7 +127,7 @@ unfoldable pub after_space_between : Bool → DoctypeOf → List ℕ → Slice
 after_space_between exact d [] = cut_off (InDoctype BetweenIdentifiers d)
 after_space_between exact d (c ∷ text) = system_or_end exact false state.BetweenDoctypePublicAndSystemIdentifiers d c text
 
--- "Between DOCTYPE public and system identifiers state": white space, and what follows it
+-- "Between DOCTYPE public and system identifiers state": white space, and the text after it
 unfoldable pub between_identifiers : Bool → DoctypeOf → List ℕ → Slice
 between_identifiers exact d text = with_run silent (run_of is_white_space text) (after_space_between exact d (after_run is_white_space text))
 
@@ -149,7 +149,7 @@ unfoldable pub after_keyword_and_space : Bool → DoctypeIdKind → DoctypeOf �
 after_keyword_and_space exact kind d [] = cut_off (InDoctype (BeforeIdentifier kind) d)
 after_keyword_and_space exact kind d (c ∷ text) = wanted_identifier exact false (state.BeforeDoctypeIdentifier kind) kind d c text
 
--- "Before DOCTYPE public identifier state" and "Before DOCTYPE system identifier state": white space, and what follows it
+-- "Before DOCTYPE public identifier state" and "Before DOCTYPE system identifier state": white space, and the text after it
 unfoldable pub identifier_after_space : Bool → DoctypeIdKind → DoctypeOf → List ℕ → Slice
 identifier_after_space exact kind d text =
     with_run silent (run_of is_white_space text) (after_keyword_and_space exact kind d (after_run is_white_space text))
@@ -181,7 +181,7 @@ keyword_error exact [] = []
 keyword_error exact (c ∷ held) =
     record { token = error_in exact state.AfterDoctypeName c; back = length held + 2; is_at = true; is_held = false } ∷ []
 
--- "After DOCTYPE name state": a keyword decides, or the first character by which none begins. Then what is held is dropped, and
+-- "After DOCTYPE name state": a keyword decides, or the first character by which none begins. Then the held text is dropped, and
 -- the rest is skipped.
 unfoldable pub doctype_keyword : Bool → List ℕ → DoctypeOf → List ℕ → Slice
 doctype_keyword exact held d [] = cut_off (InDoctypeKeyword held d)
@@ -202,7 +202,7 @@ keyword_or_end exact d (c ∷ text) =
     else if begins_doctype_keyword (c ∷ []) then with_character [] (doctype_keyword exact (c ∷ []) d text)
     else skipped_from exact (error_in exact state.AfterDoctypeName c ∷ []) (with_quirks d) c text
 
--- "After DOCTYPE name state": white space after the name, and what follows it
+-- "After DOCTYPE name state": white space after the name, and the text after it
 unfoldable pub after_doctype_name_and_space : Bool → DoctypeOf → List ℕ → Slice
 after_doctype_name_and_space exact d text =
     with_run silent (run_of is_white_space text) (keyword_or_end exact d (after_run is_white_space text))
@@ -235,7 +235,7 @@ unfoldable pub after_word_and_space : Bool → DoctypeOf → List ℕ → Slice
 after_word_and_space exact d [] = cut_off (InDoctype BeforeName d)
 after_word_and_space exact d (c ∷ text) = wanted_name exact [] d c text
 
--- "Before DOCTYPE name state": white space, and what follows it
+-- "Before DOCTYPE name state": white space, and the text after it
 unfoldable pub before_doctype_name : Bool → DoctypeOf → List ℕ → Slice
 before_doctype_name exact d text =
     with_run silent (run_of is_white_space text) (after_word_and_space exact d (after_run is_white_space text))

@@ -67,8 +67,8 @@ raw_end_error exact (Escaped dashes) = end_error_in exact (raw_state (Escaped da
 raw_end_error exact (DoubleEscaped dashes) = end_error_in exact (raw_state (DoubleEscaped dashes)) ∷ []
 raw_end_error exact other = []
 
--- "RCDATA less-than sign state", the end tag name states and the escape states, at the end: what is held there is text, and comes
--- first. After `<` and letters the error names double-escaped script data.
+-- "RCDATA less-than sign state", the end tag name states and the escape states, at the end: the held characters there are text,
+-- and come first. After `<` and letters the error names double-escaped script data.
 unfoldable pub told_at_raw_end : Bool → RawPlace → List Told
 told_at_raw_end exact (AfterLessThan kind) = told_after_less_than kind ++ raw_end_error exact (raw_of kind)
 told_at_raw_end exact (InEndName kind letters) = texts (less_than ∷ solidus ∷ letters) ++ raw_end_error exact (raw_of kind)
@@ -82,7 +82,7 @@ unfoldable pub told_at_doctype_end : Bool → DoctypePlace → DoctypeOf → Lis
 told_at_doctype_end exact Skipped d = Doctype d ∷ []
 told_at_doctype_end exact place d = end_error_in exact (doctype_state_at place) ∷ Doctype (with_quirks d) ∷ []
 
--- each state at the end: what the end tells of what is open. A tag without its end is an error, and is not sent.
+-- each state at the end: what the end tells of the open item. A tag without its end is an error, and is not sent.
 unfoldable pub told_at_end_of : Bool → Open → List Told
 told_at_end_of exact (Between (RawText raw name)) = raw_end_error exact raw ++ End ∷ []
 told_at_end_of exact (Between Cdata) = end_error_in exact state.CdataSection ∷ End ∷ []
@@ -100,6 +100,6 @@ told_at_end_of exact (InDoctypeKeyword held d) = []
 told_at_end_of exact (InCdata held) = texts held ++ end_error_in exact state.CdataSection ∷ End ∷ []
 told_at_end_of exact (InReference stand held) = []
 
--- all that the end tells: what it decides, and then what it tells of what is open after that
+-- all that the end tells: what it decides, and then what it tells of the item that is still open
 abbrev pub tokens_at_end : Rules → Open → List Told
 tokens_at_end rules opened = tokens_of_late (late_at_end_of rules opened) ++ told_at_end_of rules.exact (open_at_end_of rules opened)

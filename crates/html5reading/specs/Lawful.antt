@@ -33,7 +33,7 @@ pub record IsLawfulTag (tag : TagOf) : Type 0 where
   pub attributes : list_all has_no_capital (attribute_names tag.attributes) ≡ true
   pub distinct : IsDistinct bytes_eq (attribute_names tag.attributes)
 
--- a doctype's name, where it has one, has no capital
+-- a doctype's name, if it has one, has no capital
 abbrev pub IsLawfulDoctype : DoctypeOf → Type 0
 IsLawfulDoctype d = IfSome d.name (λ name. has_no_capital name ≡ true)
 

@@ -311,7 +311,7 @@ raw_place_step exact AfterMark name c = mark_step exact name c
 raw_place_step exact AfterMarkAndDash name c = mark_and_dash_step exact name c
 raw_place_step exact (InSwitch kind letters) name c = switch_step exact kind name letters c
 
--- each state where nothing is undecided
+-- each state when nothing is undecided
 unfoldable pub step_at : Bool → Open → ℕ → Here Open
 step_at exact (Between Data) c = data_step exact [] c
 step_at exact (Between Plain) c = Tells (plain_text exact c) (Between Plain)
@@ -328,7 +328,7 @@ step_at exact (InDoctype place d) c = doctype_step exact place d c
 step_at exact (InCdata held) c = cdata_step held c
 step_at exact undecided c = Tells [] undecided
 
--- "Character reference state" and those that it leads to: a character after what is held of a reference
+-- "Character reference state" and those that it leads to: a character after the held text of a reference
 unfoldable pub reference_step : Rules → Stand → List ℕ → ℕ → Brought Open
 reference_step rules stand held c =
     let found : Found = reference rules (in_value stand) held (Some c) in
@@ -343,7 +343,7 @@ declaration_answer_step exact foreign held c =
     else if foreign && begins_cdata (held ++ c ∷ []) then record { settled = []; here = Tells [] (InDeclaration (held ++ c ∷ [])) }
     else record { settled = declaration_error exact held; here = bogus_comment_step exact held [] c }
 
--- "Markup declaration open state": a character after `<!` and what is held there
+-- "Markup declaration open state": a character after `<!` and the text held there
 unfoldable pub declaration_step : Bool → Bool → List ℕ → ℕ → Brought Open
 declaration_step exact foreign held c =
     if bytes_eq (held ++ c ∷ []) (codes "--") then record { settled = []; here = Tells [] (InComment []) }
@@ -359,7 +359,7 @@ doctype_keyword_step exact held d c =
     else if begins_doctype_keyword (held ++ c ∷ []) then record { settled = []; here = Tells [] (InDoctypeKeyword (held ++ c ∷ []) d) }
     else record { settled = keyword_error exact held; here = skipped_step exact [] (with_quirks d) c }
 
--- each state: what a character brings, by the sink's answer about foreign content in the state before it. Where nothing is
+-- each state: what a character brings, by the sink's answer about foreign content in the state before it. When nothing is
 -- undecided it decides nothing that stands before it.
 unfoldable pub brought_at : Rules → Bool → Open → ℕ → Brought Open
 brought_at rules foreign (InReference stand held) c = reference_step rules stand held c

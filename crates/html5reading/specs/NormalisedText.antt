@@ -4,7 +4,7 @@ use Rattle.std.specs.Prelude.{ℕ, ◌+◌, ◌-◌, ◌^◌, min, Bool, true, f
 use Rattle.html5reading.specs.Characters.{line_feed, carriage_return, byte_order_mark}
 use Rattle.html5reading.specs.Start.{Input}
 
--- "Preprocessing the input stream": whether c is dropped where it is the first character after the start
+-- "Preprocessing the input stream": whether c is dropped if it is the first character after the start
 abbrev pub drops_first : Input → ℕ → Bool
 drops_first input c =
     (input.drops_byte_order_mark && (c == byte_order_mark)) || (input.after_carriage_return && (c == line_feed))

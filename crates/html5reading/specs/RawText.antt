@@ -122,7 +122,7 @@ after_mark_and_dash name (c ∷ text) =
     if c == hyphen then one_character (texts (c ∷ [])) (Between (RawText (Escaped TwoDashes) name))
     else cut_off (raw_text_of raw_kind.ScriptData name)
 
--- "Script data escape start state": what follows `<!`
+-- "Script data escape start state": the text after `<!`
 unfoldable pub after_mark : List ℕ → List ℕ → Slice
 after_mark name [] = cut_off (InRaw AfterMark name)
 after_mark name (c ∷ text) =
@@ -145,7 +145,8 @@ after_switch kind name letters (c ∷ text) =
     if ends_name c then one_character (texts (c ∷ [])) (raw_text_of (raw_kind.ScriptDataEscaped (switched kind letters)) name)
     else cut_off (raw_text_of (raw_kind.ScriptDataEscaped kind) name)
 
--- "Script data double escape start state" and "Script data double escape end state": letters that are text, and what follows them
+-- "Script data double escape start state" and "Script data double escape end state": letters that are text, and the text after
+-- them
 unfoldable pub switch : ScriptEscapeKind → List ℕ → List ℕ → List ℕ → Slice
 switch kind name letters text =
     let run : List ℕ = run_of is_letter text in

@@ -182,7 +182,7 @@ module _ {S H : Type 0} (step : S → Told → ℕ → S) (reply : S → Told �
   unfoldable pub told : S → List ℕ → List Event
   told s X = take_while (λ e. is_character e.decided_by) (reading s X)
 
-  -- the start of what follows X
+  -- the start after X
   abbrev pub after : S → List ℕ → Start
   after s X = record { opened = (read s X).opened; last_start_tag = (read s X).last_start_tag; input = input_after K.input X }
 
@@ -203,6 +203,6 @@ module _ {X S H : Type 0} (means : Means X S H) (rules : Rules) (K : Start) (s :
   abbrev pub state_after : List ℕ → S
   state_after text = stepped means.step s (messages_so_far text)
 
-  -- the start of what follows a text
+  -- the start after a text
   abbrev pub start_after : List ℕ → Start
   start_after text = after means.step means.reply means.foreign rules K s text

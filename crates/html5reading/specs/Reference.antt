@@ -1,4 +1,4 @@
--- Character references: `&` and a name of the table, or `&#` and a number. What is held is the longest beginning of the text
+-- Character references: `&` and a name of the table, or `&#` and a number. The held text is the longest prefix of the text
 -- after `&` that leaves the reference undecided. The character after it decides, or the end.
 -- The slices at the end are vocabulary of proofs: `html5grammar/specs/Reference` says how a reference is written.
 use Rattle.std.specs.Prelude.{ℕ, ◌+◌, ◌-◌, ◌%◌, ◌^◌, suc, Bool, true, false, List, [], ◌∷◌, ◌++◌, ◌==◌, ◌||◌, ◌&&◌, nat_lt, nat_eq, length, drop, replicate, codes, encode_utf8, map, Option, Some, None, not, flat_map, encode_utf8_all, if◌then◌else◌}
@@ -31,7 +31,7 @@ pub record Found : Type 0 where
 abbrev pub characters_in : Found → List ℕ
 characters_in found = found.first ∷ found.more
 
--- "Ambiguous ampersand state", and where nothing begins: there is no reference, and `&` is text
+-- "Ambiguous ampersand state", and when nothing begins: there is no reference, and `&` is text
 abbrev pub no_reference : List Told → Found
 no_reference errors = record { taken = 0; errors = errors; first = ampersand; more = [] }
 
@@ -43,7 +43,7 @@ error message = Error message ∷ []
 abbrev pub with_value : OpenTag → List ℕ → OpenTag
 with_value tag run = record tag { last_value = tag.last_value ++ flat_map value_bytes run }
 
--- ---- numbers: what stands after `&#`
+-- ---- numbers: the text after `&#`
 
 -- "Numeric character reference state": whether c is an `x` or `X`
 abbrev pub is_x : ℕ → Bool
@@ -59,12 +59,12 @@ abbrev pub is_digit_of : List ℕ → ℕ → Bool
 is_digit_of [] d = is_ascii_digit d
 is_digit_of (c ∷ text) d = if is_x c then is_ascii_hexdigit d else is_ascii_digit d
 
--- what stands after the `x`, where there is one
+-- the text after the `x`, if there is one
 abbrev pub after_x : List ℕ → List ℕ
 after_x [] = []
 after_x (c ∷ text) = if is_x c then text else c ∷ text
 
--- whether what stands after `&#` are digits of the base alone
+-- whether the text after `&#` is digits of the base alone
 unfoldable pub is_number : List ℕ → Bool
 is_number text = list_all (is_digit_of text) (after_x text)
 
@@ -112,7 +112,7 @@ unfoldable pub without_digits : List ℕ → Option ℕ → List ℕ
 without_digits [] None = codes "EOF after '#' in character reference"
 without_digits text next = codes "Numeric character reference without digits"
 
--- "Numeric character reference end state": the reference whose number is written, before what follows
+-- "Numeric character reference end state": the reference whose number is written, before the next character
 unfoldable pub number_reference : Bool → List ℕ → Option ℕ → Found
 number_reference exact text next =
     if has_digits text then record {
@@ -136,7 +136,7 @@ longest_name [] text = None
 longest_name (entry ∷ references) text =
     if starts_with nat_eq text entry.name then Some (longer entry (longest_name references text)) else longest_name references text
 
--- the second character of an entry, where it has one
+-- the second character of an entry, if it has one
 abbrev pub second_of : Option ℕ → List ℕ
 second_of None = []
 second_of (Some c) = c ∷ []
@@ -147,12 +147,12 @@ is_ended [] = false
 is_ended (c ∷ []) = c == semicolon
 is_ended (c ∷ d ∷ name) = is_ended (d ∷ name)
 
--- the first character of a text, or what follows it
+-- the first character of a text, or the one after it
 abbrev pub first_or : List ℕ → Option ℕ → Option ℕ
 first_or [] next = next
 first_or (c ∷ text) next = Some c
 
--- "Named character reference state": in a value a name without a semicolon is none before `=`, a letter or a digit
+-- "Named character reference state": in a value a name without a semicolon is not a reference before `=`, a letter or a digit
 abbrev pub goes_on : Option ℕ → Bool
 goes_on None = false
 goes_on (Some c) = (c == equals_sign) || is_ascii_alphanumeric c
@@ -183,7 +183,7 @@ named_reference exact in_value held next (Some entry) =
 
 -- ---- references
 
--- "Character reference state": whether what stands after `&` leaves a reference undecided
+-- "Character reference state": whether the text after `&` leaves a reference undecided
 unfoldable pub is_undecided : List NamedReference → List ℕ → Bool
 is_undecided references [] = true
 is_undecided references (c ∷ held) =
@@ -233,7 +233,7 @@ late_tokens stand found held =
 abbrev pub opened_after : Stand → Found → List ℕ → Open
 opened_after stand found held = opened_in stand (characters_in found ++ drop found.taken held)
 
--- "Character reference state", at the character after what is held
+-- "Character reference state", at the character after the held text
 unfoldable pub after_held : Rules → Stand → List ℕ → List ℕ → Slice
 after_held rules stand held [] = cut_off (InReference stand held)
 after_held rules stand held (c ∷ text) =

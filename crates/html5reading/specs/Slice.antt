@@ -27,7 +27,7 @@ pub data Afterwards : Type 0 where
   Leaves : List Told → Open → Afterwards
   -- the next character decides what is sent before it, and then this is open. `EndOfInput` says what the end decides.
   Settles : List Late → Open → Afterwards
-  -- after `<!` and what is held the next character begins no comment and no doctype. The sink is asked whether a CDATA section may
+  -- after `<!` and the held text the next character begins no comment and no doctype. It asks the sink whether a CDATA section may
   -- begin there.
   Asks : List ℕ → Afterwards
 
@@ -70,18 +70,18 @@ unfoldable pub run_of : (ℕ → Bool) → List ℕ → List ℕ
 run_of is_kind [] = []
 run_of is_kind (c ∷ text) = if is_kind c then c ∷ run_of is_kind text else []
 
--- what follows that run
+-- the text after that run
 unfoldable pub after_run : (ℕ → Bool) → List ℕ → List ℕ
 after_run is_kind [] = []
 after_run is_kind (c ∷ text) = if is_kind c then after_run is_kind text else c ∷ text
 
--- the longest run with which a text begins, where the kind is one of the run so far with what stands before it
+-- the longest run with which a text begins, where the kind is one of the run so far with the text before it
 unfoldable pub run_while : (List ℕ → Bool) → List ℕ → List ℕ → List ℕ
 run_while is_kind before [] = []
 run_while is_kind before (c ∷ text) =
     if is_kind (before ++ c ∷ []) then c ∷ run_while is_kind (before ++ c ∷ []) text else []
 
--- what follows that run
+-- the text after that run
 unfoldable pub after_while : (List ℕ → Bool) → List ℕ → List ℕ → List ℕ
 after_while is_kind before [] = []
 after_while is_kind before (c ∷ text) =

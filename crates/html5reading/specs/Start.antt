@@ -37,7 +37,7 @@ pub data Raw : Type 0 where
 pub data Mode : Type 0 where
   Data : Mode
   Plain : Mode
-  -- with the name whose end tag ends the text; the empty name is none
+  -- with the name whose end tag ends the text; it is empty if there is none
   RawText : Raw → List ℕ → Mode
   -- inside a CDATA section of which no text is held
   Cdata : Mode
@@ -50,7 +50,7 @@ pub record OpenTag : Type 0 where
   -- the attributes before the last one, without those whose name came before
   pub attributes : List AttributeOf
   pub had_duplicate_attributes : Bool
-  -- the last attribute so far: its name, which is empty where there is none, and its value
+  -- the last attribute so far: its name, which is empty if there is none, and its value
   pub last_name : List ℕ
   pub last_value : List ℕ
 
@@ -141,7 +141,7 @@ pub data Open : Type 0 where
   -- a reference that is not decided, with the characters after its `&`
   InReference : Stand → List ℕ → Open
 
--- whether nothing is open, so that what follows can be read anew
+-- whether nothing is open, so that the rest can be read anew
 abbrev pub nothing_open : Open → Bool
 nothing_open (Between mode) = true
 nothing_open other = false
@@ -176,7 +176,7 @@ pub record Input : Type 0 where
 
 pub record Start : Type 0 where
   pub opened : Open
-  -- the name of the last start tag, which is empty where there is none
+  -- the name of the last start tag, which is empty if there is none
   pub last_start_tag : List ℕ
   pub input : Input
 

@@ -168,7 +168,7 @@ value_or_next rules tag (c ∷ text) =
     if c == equals_sign then with_character [] (value_after_space rules tag text)
     else cut_off (InTag AfterAttributeName tag)
 
--- "After attribute name state": white space after an attribute's name, and what follows it
+-- "After attribute name state": white space after an attribute's name, and the text after it
 unfoldable pub after_name_and_space : Rules → OpenTag → List ℕ → Slice
 after_name_and_space rules tag text =
     with_run silent (run_of is_white_space text) (value_or_next rules tag (after_run is_white_space text))

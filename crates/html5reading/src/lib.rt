@@ -36,7 +36,7 @@ pub fn forgetting<S: TokenSink<Token<A>>, A: Allocator>()
         (state_after S.means rules K s text) rest }
 {}
 
-/// What the sink is sent of a text is a beginning of what it is sent of that text and more.
+/// What the sink is sent of a text is a prefix of what it is sent of that text and more.
 pub fn beginning<S: TokenSink<Token<A>>, A: Allocator>()
     ensures { (rules : Rules) (K : Start) (s : S.State) (text rest : List ℕ) → (later : List Message)
         × (messages_so_far S.means rules K s (text ++ rest)
@@ -53,9 +53,9 @@ pub fn told_of_a_split<S: TokenSink<Token<A>>, A: Allocator>()
 {}
 
 /// Names after an `&` that no `#` follows. When a reference is decided, the longest name that begins
-/// what is held is the longest that begins the whole text. By a table what is held is the longest
-/// beginning of the text that begins a name. Where no name begins the text, it is the text's letters
-/// and digits up to another character.
+/// the held text is the longest that begins the whole text. By a table the held text is the longest
+/// prefix of the text that begins a name. When no name begins the text, it is the text's letters and
+/// digits up to another character.
 pub fn longest_name_of_text()
     ensures name { (references : List NamedReference) (text : List ℕ) → first_or text None ≢ Some number_sign →
         longest_name references (run_while (is_undecided references) [] text) ≡ longest_name references text }
@@ -72,7 +72,7 @@ pub fn tags_cut_off<S: TokenSink<Token<A>>, A: Allocator>()
         TellsNoTagAfter (messages_so_far S.means rules K s text) (all_messages S.means rules K s text) }
 {}
 
-/// By a table of names each token that a text tells is lawful, where nothing was open before it. A
+/// By a table of names each token that a text tells is lawful, when nothing was open before it. A
 /// text has no NUL. A tag's name begins with a letter, its names have no capital, and no attribute
 /// comes twice. A doctype's name has no capital.
 pub fn lawful_tokens<S: TokenSink<Token<A>>, A: Allocator>()

@@ -134,7 +134,7 @@ stands-stepped start r J [] at = at
 stands-stepped start r J (m ∷ M) at =
     stands-stepped start (recorded_step r m.token m.line) (with_told J m.token m.line) M (stands-told start r J m.token m.line at)
 
--- where no text is open, what is written for messages is their records, with texts joined, once the last text is ended
+-- when no text is open, what is written for messages is their records, with texts joined, once the last text is ended
 pub closed_bytes-stepped : (r : Recorded) (M : List Message) → r.in_text ≡ false
     → closed_bytes (stepped recorded_step r M) ≡ r.bytes ++ records_of (joined M)
 unfolding records_of with_text

@@ -57,7 +57,7 @@ tag-whole r tag head old named next attributes begun more last =
     let front = tag_flags tag ∷ counted tag.name in
     on_ok_weaker r (λ (e : next ≡ named ++ attributes). e ∙ rw (begun, more) (append_assoc old (head ++ front) (attribute_records tag.attributes)) ∙ ap (λ l. old ++ l) (append_assoc head front (attribute_records tag.attributes))) last
 
--- a token that is no text
+-- a token other than a text
 
 pub heading_of-other : (told : Told) (line : ℕ) → is_text told ≡ false → heading_of told line ≡ heading (code_of told) line
 unfolding heading_of

@@ -19,7 +19,7 @@ read >>= next = option_and_then next read
 unfoldable pub read_number : List ℕ → Option (ℕ × List ℕ)
 read_number bytes = if nat_le 8 (length bytes) then Some (from_le_bytes w64 (take 8 bytes), drop 8 bytes) else None
 
--- so many bytes, and those after them
+-- this many bytes, and those after them
 unfoldable pub split_off : ℕ → List ℕ → Option (List ℕ × List ℕ)
 split_off count bytes = if nat_le count (length bytes) then Some (take count bytes, drop count bytes) else None
 
@@ -47,12 +47,12 @@ abbrev pub attribute_and : (List ℕ → List AttributeOf) → Option (Attribute
 attribute_and more None = []
 attribute_and more (Some read) = read.0 ∷ more read.1
 
--- so many attributes, or those before the first that is not whole
+-- this many attributes, or those before the first that is not whole
 unfoldable pub attributes_in : ℕ → List ℕ → List AttributeOf
 attributes_in zero bytes = []
 attributes_in (suc count) bytes = attribute_and (attributes_in count) (read_attribute bytes)
 
--- the bytes after so many attributes
+-- the bytes after this many attributes
 unfoldable pub after_attributes : ℕ → List ℕ → Option (List ℕ)
 after_attributes zero bytes = Some bytes
 after_attributes (suc count) bytes = do
@@ -86,7 +86,7 @@ read_tag kind bytes = do
     rest,
   )
 
--- a text, where there is one
+-- a text, if there is one
 unfoldable pub read_optional : Bool → List ℕ → Option (Option (List ℕ) × List ℕ)
 read_optional false bytes = Some (None, bytes)
 read_optional true bytes = do
@@ -156,7 +156,7 @@ read_record (code ∷ bytes) = if code == 3 then read_text_record bytes else rea
 abbrev pub IsShort : List ℕ → Type 0
 IsShort text = length text < 2 ^ 64
 
--- such a text, where there is one
+-- such a text, if there is one
 abbrev pub IsShortIfAny : Option (List ℕ) → Type 0
 IsShortIfAny None = Unit {0}
 IsShortIfAny (Some text) = IsShort text

@@ -40,7 +40,7 @@ pub record Recording : Type 0 where
 abbrev pub waiting : Recorded → List ℕ
 waiting r = drop r.taken r.bytes
 
--- so many bytes more were taken, and all else is as it was
+-- this many bytes more were taken, and all else is as it was
 abbrev pub taking : Recorded → ℕ → Recorded
 taking r count = record r { taken = r.taken + count }
 
@@ -94,7 +94,7 @@ abbrev pub pause_after_tag : Told → Reply PausedAt
 pause_after_tag (Tag tag) = RunScript paused.Tag
 pause_after_tag other = KeepOn
 
--- the reply to what the sink is sent: where none is wanted it is to read on
+-- the reply to what the sink is sent: if none is wanted it is to read on
 abbrev pub reply_by : Replies → Told → Reply PausedAt
 reply_by None told = KeepOn
 reply_by Standard told = at_script (reply_where_tag standard_reply told)
@@ -124,7 +124,7 @@ recorded_means = record {
   end_faulted = λ r. r;
 }
 
--- the sink once so many bytes more were taken
+-- the sink once this many bytes more were taken
 abbrev pub after_taking : Recording → ℕ → Recording
 after_taking e count = record e { recorded = taking e.recorded count }
 

@@ -21,7 +21,7 @@ number n = to_le_bytes w64 n
 unfoldable pub counted : List ℕ → List ℕ
 counted text = number (length text) ++ text
 
--- a flag of this weight, where it is set
+-- a flag of this weight, if it is set
 abbrev pub flag : Bool → ℕ → ℕ
 flag true weight = weight
 flag false weight = 0

@@ -1,4 +1,4 @@
-//! The bytes that records are told apart by: the kind of each, and the flags of tags and DOCTYPEs.
+//! The bytes that tell records apart: the kind of each, and the flags of tags and DOCTYPEs.
 
 /// The kind of a start tag's record.
 pub const START_TAG: u8 = 1;

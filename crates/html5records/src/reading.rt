@@ -87,7 +87,7 @@ fn read_number(bytes: &[u8]) -> Option<(u64, &[u8])>
     Some((u64::from_le_bytes(*number), rest))
 }
 
-// So many bytes, and those after them.
+// This many bytes, and those after them.
 #[tactic(auto, unfolding(crate::specs::Reading::split_off))]
 fn split_off(count: u64, bytes: &[u8]) -> Option<(&[u8], &[u8])>
     ensures { option_map (λ read. (read.0.now, read.1.now)) result ≡ split_off count bytes.now }
@@ -118,7 +118,7 @@ fn read_attribute(bytes: &[u8]) -> Option<(AttributeRecord<'_>, &[u8])>
     Some((AttributeRecord { name, value }, rest))
 }
 
-// The bytes after so many attributes.
+// The bytes after this many attributes.
 fn after_attributes(count: u64, bytes: &[u8]) -> Option<&[u8]>
     ensures { option_map (λ rest. rest.now) result ≡ after_attributes count bytes.now }
 {
@@ -167,7 +167,7 @@ fn read_tag(kind: TagKind, bytes: &[u8]) -> Option<(TokenRecord<'_>, &[u8])>
     Some((TokenRecord::Tag(tag), rest))
 }
 
-// A text, where there is one, and the bytes after it.
+// A text, if there is one, and the bytes after it.
 #[tactic(auto, unfolding(crate::specs::Reading::read_optional))]
 fn read_optional(is_there: bool, bytes: &[u8]) -> Option<(Option<&[u8]>, &[u8])>
     ensures { option_map (λ read. (option_map (λ text. text.now) read.0, read.1.now)) result

@@ -22,8 +22,8 @@ use std::marker::Model;
 pub enum Replies {
     /// To read on, whatever the tag: all that comes after it is markup.
     None,
-    /// As the standard asks by the tag's element, so that what stands in `script`, `style`, `title` and
-    /// their like is no markup. It never pauses.
+    /// As the standard asks by the tag's element, so that the content of `script`, `style`, `title` and their like is
+    /// not markup. It never pauses.
     #[default]
     Standard,
     /// As the standard asks, with pauses: after an end tag `script`, and after a start tag `meta` with an
@@ -239,7 +239,7 @@ impl<A: Allocator> RecordSink<A> {
         self.foreign = foreign;
     }
 
-    /// Takes so many bytes of what waits.
+    /// Takes this many of the waiting bytes.
     pub fn skip(&mut self, count: usize)
         requires { count ≤ length (waiting self.old.recorded) }
         ensures { self.new ≡ after_taking self.old count }
@@ -249,7 +249,7 @@ impl<A: Allocator> RecordSink<A> {
         skip_front(&mut self.written, &mut self.skipped, count);
     }
 
-    /// Takes as many bytes of what waits as there is room for, and copies them. It answers how many. A record may be cut
+    /// Takes as many waiting bytes as there is room for, and copies them. It answers how many. A record may be cut
     /// in two: what is left of it comes first at the next call.
     pub fn take(&mut self, into: &mut [u8]) -> usize
         ensures count { result ≡ min (length into.old) (length (waiting self.old.recorded)) }

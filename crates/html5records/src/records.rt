@@ -32,7 +32,7 @@ fn push_long<A: Allocator>(written: &mut Vec<u8, A>, bytes: &[u8]) -> Result<(),
     written.extend_from_slice(bytes)
 }
 
-// Appends so many bytes. Where the compiler knows how many, it stores them.
+// Appends this many bytes. Where the compiler knows how many, it stores them.
 #[inline(always)]
 fn push_short<A: Allocator>(
     written: &mut Vec<u8, A>,
@@ -91,7 +91,7 @@ fn push_attribute<A: Allocator>(
     push_counted(written, attribute.value.as_bytes())
 }
 
-// The flag, where it is set.
+// The flag, if it is set.
 fn flag_where(is_set: bool, weight: u8) -> u8
     ensures { result ≡ flag is_set weight }
 {
@@ -264,7 +264,7 @@ fn push_headed<A: Allocator>(
     push_counted(written, text)
 }
 
-// Appends the record of a token that is no text and no tag.
+// Appends the record of a token that is neither a text nor a tag.
 #[tactic(auto, unfolding(crate::specs::Records::record_of, crate::specs::Records::heading_of, crate::specs::Records::parts))]
 fn push_other_record<A: Allocator>(
     written: &mut Vec<u8, A>,
@@ -294,7 +294,7 @@ fn push_other_record<A: Allocator>(
     }
 }
 
-/// Appends the record of a token that is no text.
+/// Appends the record of a token other than a text.
 pub fn push_record<A: Allocator>(
     written: &mut Vec<u8, A>,
     token: &Token<A>,
@@ -357,7 +357,7 @@ fn push_tag<A: Allocator>(
     push_tag_record(written, tag, line)
 }
 
-// Ends an open text, and appends the record of a token that is no text and no tag.
+// Ends an open text, and appends the record of a token that is neither a text nor a tag.
 #[tactic(auto, unfolding(crate::specs::Recording::added_by))]
 fn push_other<A: Allocator>(
     written: &mut Vec<u8, A>,

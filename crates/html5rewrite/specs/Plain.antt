@@ -34,11 +34,11 @@ abbrev pub piece_by_kind : TagKind → List ℕ → List NameAndValue → Piece
 piece_by_kind StartTag name attributes = StartTagPiece name attributes
 piece_by_kind EndTag name attributes = EndTagPiece name
 
--- a tag with the attributes that can be written, where it can be written itself
+-- a tag with the attributes that can be written, if it can be written itself
 unfoldable pub written_of_tag : TagOf → List Piece
 written_of_tag tag = where_plain (piece_by_kind tag.kind (chars tag.name) (plain_attributes (map attribute_chars tag.attributes)))
 
--- a run of text, where there is one
+-- a run of text, if there is one
 unfoldable pub written_of_run : List ℕ → List Piece
 written_of_run [] = []
 written_of_run (byte ∷ run) = where_plain (TextPiece (chars (byte ∷ run)))

@@ -10,12 +10,12 @@ use Rattle.html5sinks.specs.Replies.{raw_text_in}
 use Rattle.html5rewrite.specs.declared.rewriter.Keep.{Keep}
 use Rattle.html5rewrite.specs.declared.rewriter.Keep.TheVariants as keep
 
--- what is kept of a tag, and the tag that is written where it is kept
+-- what happens to a tag, and the tag that is written if it is kept
 pub record Rewriter : Type 0 where
   pub keeps : TagOf → Keep
   pub rewritten : TagOf → TagOf
 
--- whether what stands after a start tag of this name is read as markup, also by a reader with scripting, for whom a noscript is raw
+-- whether the text after a start tag of this name is read as markup, also by a reader with scripting, for whom a noscript is raw
 -- text
 abbrev pub reads_markup_after : List ℕ → Bool
 reads_markup_after name = is_none (raw_text_in name) && not (bytes_eq name (codes "plaintext")) && not (bytes_eq name (codes "noscript"))
@@ -33,6 +33,6 @@ drops_content keep.Tag = false
 drops_content keep.ContentOnly = false
 drops_content keep.Nothing = true
 
--- whether a tag begins an element that is dropped with what stands in it
+-- whether a tag begins an element that is dropped with its content
 abbrev pub opens : Rewriter → TagOf → Bool
 opens rewriter tag = drops_content (keep_of rewriter tag) && has_content tag

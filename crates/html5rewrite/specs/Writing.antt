@@ -33,7 +33,7 @@ page_bytes pieces = encode_utf8_all (pieces_text pieces)
 abbrev pub start_of_writing : Rewriter → List ℕ → Written
 start_of_writing rewriter before = record { rewriter = rewriter; bytes = before; hidden = nothing_hidden }
 
--- a run of text and the token after it: what is kept of them is written
+-- a run of text and the token after it: their kept part is written
 abbrev pub writing_step : Written → List ℕ → Told → ℕ → Written
 writing_step s run told line = record {
   rewriter = s.rewriter;

@@ -21,7 +21,7 @@ fn is_attribute(attribute: &Written<'_>) -> bool
     })
 }
 
-// Appends an attribute, where it can be written.
+// Appends an attribute, if it can be written.
 fn push_plain<'t, A: Allocator>(
     plain: &mut Vec<Written<'t>, A>,
     attribute: &'t Attribute<A>,

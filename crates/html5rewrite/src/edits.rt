@@ -33,7 +33,7 @@ pub fn drop_attribute<A: Allocator>(tag: &mut Tag<A>, name: &str)
         .retain(|attribute| attribute.name.local.0.as_str() != name);
 }
 
-/// Gives a tag this attribute as its last, in place of any of that name. Where there is no memory, the tag
+/// Gives a tag this attribute as its last, in place of any of that name. If there is no memory, the tag
 /// may lack it.
 pub fn set_attribute<A: Allocator + Copy>(
     alloc: A,

@@ -18,8 +18,8 @@ use html5ever_interface::interface::token::Token;
 use html5write::laws::{all_pieces, whole_text};
 use std::alloc::Allocator;
 
-/// A page of plain pieces, read with any table by any sink that keeps on after their tags, at once or after a
-/// pause, is read but for errors as exactly these pieces and the end.
+/// A page of plain pieces is read, except for errors, as exactly these pieces and the end. The table may be
+/// any, and the sink any that keeps on after their tags, at once or after a pause.
 pub fn rewritten_page<S: TokenSink<Token<A>>, A: Allocator>()
     ensures { (rules : Rules) (K : Start) (s : S.State) (pieces : List Piece)
         → IsReadBackPlain {S = S.State} rules K S.means.reply pieces
@@ -28,8 +28,8 @@ pub fn rewritten_page<S: TokenSink<Token<A>>, A: Allocator>()
     whole_text::<S, A>();
 }
 
-/// Wherever it is put in a page, in Data and with no CR directly before it, such a page tells its pieces,
-/// and is read to where nothing is open: what follows it is read as it would be without it.
+/// Wherever it is put in a page, in Data and with no CR directly before it, such a page tells its pieces. It
+/// leaves nothing open: the text after it is read as it would be without it.
 pub fn rewritten_part<S: TokenSink<Token<A>>, A: Allocator>()
     ensures { (rules : Rules) (K : Start) (s : S.State) (pieces : List Piece)
         → IsReadBackPlain {S = S.State} rules K S.means.reply pieces
@@ -45,7 +45,7 @@ pub fn plain_pieces_are_markup<S: TokenSink<Token<A>>, A: Allocator>()
         → FollowsStandard {S = S.State} S.means.reply → KeepsOn {S = S.State} S.means.reply pieces }
 {}
 
-/// The pieces that any rewriter keeps of any messages, as those of a page or of a beginning of it, are
+/// The pieces that any rewriter keeps of any messages, as those of a page or of a prefix of it, are
 /// plain.
 pub fn written_pieces_are_plain()
     ensures { (rewriter : Rewriter) (M : List Message) → list_all is_plain (pieces_of rewriter M) ≡ true }

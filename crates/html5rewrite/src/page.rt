@@ -39,8 +39,8 @@ fn read_rewritten<R: Source, H: TagRewriter<Tag<A>>, O: Output, A: Allocator + C
     read_tokens(alloc, source, handler, references)
 }
 
-/// Reads a page as it arrives, and writes it as the rewriter says, after what was written before: the
-/// whole page, or after an error a beginning of it.
+/// Reads a page as it arrives, and writes it as the rewriter says, after the earlier output. It
+/// writes the whole page, or after an error a prefix of it.
 pub fn rewrite_page<R: Source, H: TagRewriter<Tag<A>>, O: Output, A: Allocator + Copy>(
     alloc: A,
     source: &mut R,

@@ -8,28 +8,28 @@ use html5sinks::replies::raw_text_in;
 use html5sinks::tags::SaysTag;
 use std::alloc::{AllocError, Allocator};
 
-/// What becomes of a tag.
+/// What happens to a tag.
 #[derive(Clone, Copy, Debug, PartialEq, Eq)]
 pub enum Keep {
-    /// It is written as the rewriter leaves it, and what stands in its element is kept.
+    /// It is written as the rewriter leaves it, and the content of its element is kept.
     Tag,
-    /// It is dropped, and what stands in its element is kept.
+    /// It is dropped, and the content of its element is kept.
     ContentOnly,
-    /// It is dropped with what stands in its element, up to its end tag. An end tag, and a tag of an
+    /// It is dropped with the content of its element, up to its end tag. An end tag, and a tag of an
     /// element that has no content, as `<br>`, is dropped alone.
     Nothing,
 }
 
-/// Says of tags what becomes of them: `impl<A: Allocator> TagRewriter<Tag<A>> for MyRewriter`. What it
-/// says goes by the tag and by the rewriter alone. Of tags in a dropped element nothing is asked.
+/// Says what happens to tags: `impl<A: Allocator> TagRewriter<Tag<A>> for MyRewriter`. Its answer
+/// depends on the tag and the rewriter alone. It isn't called for tags in a dropped element.
 pub trait TagRewriter<T: SaysTag>: Drop {
     ghost use Rattle.std.specs.Prelude.{◌≡◌, OnOk};
     ghost use Rattle.html5rewrite.specs.Rewriter.{Rewriter};
 
-    // What is kept of each tag, and the tag that is written where it is kept.
+    // What happens to each tag, and the tag that is written if it is kept.
     ghost means: { Self → Rewriter };
 
-    /// What becomes of a tag. It is asked of each start tag and of each end tag by itself: what it
+    /// What happens to a tag. It is called for each start tag and each end tag by itself: what it
     /// answers to `<b>` it mostly answers to `</b>` too.
     fn keep(&self, tag: &T) -> Keep
         ensures { result ≡ (means self.now).keeps (T.tag tag.now) };
@@ -40,7 +40,7 @@ pub trait TagRewriter<T: SaysTag>: Drop {
         ensures { OnOk result (T.tag tag.new ≡ (means self.now).rewritten (T.tag tag.old)) };
 }
 
-/// Whether what stands after a start tag of this name is read as markup, also by a reader with
+/// Whether the text after a start tag of this name is read as markup, also by a reader with
 /// scripting, for whom a `noscript` is raw text.
 pub fn reads_markup_after(name: &str) -> bool
     ensures { result ≡ reads_markup_after name.now }
@@ -48,7 +48,7 @@ pub fn reads_markup_after(name: &str) -> bool
     raw_text_in(name).is_none() && name != "plaintext" && name != "noscript"
 }
 
-// Whether what stands after a tag is read as markup.
+// Whether the text after a tag is read as markup.
 fn reads_markup<A: Allocator>(tag: &Tag<A>) -> bool
     ensures { result ≡ reads_markup_by_kind (tag_of tag.now).kind (tag_of tag.now).name }
 {
@@ -58,7 +58,7 @@ fn reads_markup<A: Allocator>(tag: &Tag<A>) -> bool
     }
 }
 
-/// What becomes of a tag, where an element whose text is not read as markup is dropped with it.
+/// What happens to a tag, where an element whose text is not read as markup is dropped with it.
 pub fn keep_of<H: TagRewriter<Tag<A>>, A: Allocator>(rewriter: &H, tag: &Tag<A>) -> Keep
     ensures { result ≡ keep_of (H.means rewriter.now) (tag_of tag.now) }
 {

@@ -84,7 +84,7 @@ fn put_tag<O: Output, A: Allocator + Copy>(
     }
 }
 
-// Takes a run of text and the tag after it, where nothing is hidden.
+// Takes a run of text and the tag after it, when nothing is hidden.
 fn take_tag<H: TagRewriter<Tag<A>>, O: Output, A: Allocator + Copy>(
     alloc: A,
     rewriter: &H,
@@ -118,7 +118,7 @@ fn take_tag<H: TagRewriter<Tag<A>>, O: Output, A: Allocator + Copy>(
     }
 }
 
-// Takes a run of text and the token after it, where nothing is hidden.
+// Takes a run of text and the token after it, when nothing is hidden.
 fn take_shown<H: TagRewriter<Tag<A>>, O: Output, A: Allocator + Copy>(
     alloc: A,
     rewriter: &H,
@@ -172,7 +172,7 @@ impl<H: Drop, O, A: Allocator + Copy> Rewriting<H, O, A> {
         }
     }
 
-    /// The output, with what was written.
+    /// The output, with all that was written.
     pub fn into_output(self) -> O
         ensures { result ≡ self.output }
     {

@@ -21,7 +21,7 @@ pub fn can_write(piece: &Piece<'_>) -> bool
     refusal_of(piece).is_none()
 }
 
-// Whether what stands after a start tag of this name is read as markup, by the characters of the name.
+// Whether the text after a start tag of this name is read as markup, by the characters of the name.
 fn reads_markup_after_text(name: &str) -> bool
     ensures { result ≡ reads_markup_after (encode_utf8_all (chars name.now)) }
 {
@@ -38,7 +38,7 @@ fn is_before_markup(piece: &Piece<'_>) -> bool
     }
 }
 
-// Writes a piece, where it can be written and markup is read after it.
+// Writes a piece, if it can be written and markup is read after it.
 fn write_plain<A: Allocator + Copy>(
     page: &mut Writer<A>,
     piece: &Piece<'_>,
@@ -51,7 +51,7 @@ fn write_plain<A: Allocator + Copy>(
     page.write(piece)
 }
 
-/// Writes a run of text, where there is one.
+/// Writes a run of text, if there is one.
 #[tactic(auto, unfolding(crate::specs::Plain::written_of_run))]
 pub fn write_run<A: Allocator + Copy>(page: &mut Writer<A>, run: &str) -> Result<(), WriteError>
     ensures { OnOk result (page.new ≡ page.old ++ written_of_run run.now) }

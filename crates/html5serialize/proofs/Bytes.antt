@@ -25,14 +25,14 @@ bytes-three X Y Z = encodes-append X (Y ++ Z) ∙ ap (λ l. bytes X ++ l) (encod
 bytes-four : (X Y Z W : List ℕ) → bytes (X ++ (Y ++ (Z ++ W))) ≡ bytes X ++ (bytes Y ++ (bytes Z ++ bytes W))
 bytes-four X Y Z W = encodes-append X (Y ++ (Z ++ W)) ∙ ap (λ l. bytes X ++ l) (bytes-three Y Z W)
 
--- one after another, from what stands before them
+-- one after another, from the text before them
 appended-three : (B X Y Z : List ℕ) → ((B ++ X) ++ Y) ++ Z ≡ B ++ (X ++ (Y ++ Z))
 appended-three B X Y Z = append_assoc (B ++ X) Y Z ∙ append_assoc B X (Y ++ Z)
 
 appended-four : (B X Y Z W : List ℕ) → (((B ++ X) ++ Y) ++ Z) ++ W ≡ B ++ (X ++ (Y ++ (Z ++ W)))
 appended-four B X Y Z W = append_assoc ((B ++ X) ++ Y) Z W ∙ appended-three B X Y (Z ++ W)
 
--- an opening, a name in UTF-8, what follows it, and an end
+-- an opening, a name in UTF-8, the text after it, and an end
 pub bytes-tag : (before opening name rest closing : List ℕ) → IsUtf8 name
     → (((before ++ bytes opening) ++ name) ++ bytes rest) ++ bytes closing ≡ before ++ bytes (opening ++ (chars name ++ (rest ++ closing)))
 bytes-tag before opening name rest closing utf8 =
@@ -41,7 +41,7 @@ bytes-tag before opening name rest closing utf8 =
     (sym (bytes-four opening (chars name) rest closing
     ∙ ap (λ l. bytes opening ++ (l ++ (bytes rest ++ bytes closing))) (encodes-chars name utf8)))
 
--- a name in UTF-8 and a value as it is written
+-- a name in UTF-8 and a serialized value
 pub bytes-attribute : (before name value : List ℕ) → IsUtf8 name
     → ((((before ++ codes " ") ++ name) ++ codes "=\"") ++ bytes value) ++ codes "\""
     ≡ before ++ bytes (codes " " ++ (chars name ++ (codes "=\"" ++ (value ++ codes "\""))))
@@ -125,7 +125,7 @@ bytes-identifiers before X Y =
     appended-four before (codes " PUBLIC ") (bytes X) (codes " ") (bytes Y)
     ∙ ap (λ l. before ++ l) (sym (bytes-four (codes " PUBLIC ") X (codes " ") Y))
 
--- a space, a name in UTF-8, and what stands after it
+-- a space, a name in UTF-8, and the text after it
 pub bytes-name : (before name rest : List ℕ) → IsUtf8 name → ((before ++ codes " ") ++ name) ++ bytes rest ≡ before ++ bytes (codes " " ++ (chars name ++ rest))
 unfolding lib.Utf8.encode
 bytes-name before name rest utf8 = bytes-marked before (codes " ") name rest utf8

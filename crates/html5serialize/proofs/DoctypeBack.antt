@@ -1,4 +1,4 @@
--- A doctype as it is written is a doctype of the grammar, and that one tells it.
+-- A serialized doctype is a doctype of the grammar, and that one tells it.
 use Rattle.std.proofs.Common.{◌≡◌, ℕ, ◌≤◌, Bool, true, false, List, [], ◌∷◌, ◌++◌, Option, None, Some, refl, ap, sym, ◌∙◌, arith}
 use Rattle.std.specs.Prelude.{◌==◌, ◌||◌, ◌&&◌, not, chars, codes, flat_map, encode_utf8, encode_utf8_all, if◌then◌else◌}
 use Rattle.std.specs.Char.{to_ascii_lowercase}

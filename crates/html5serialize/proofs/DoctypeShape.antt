@@ -158,7 +158,7 @@ shape-after name (SystemKeyword keyword space identifier) n h r =
     let text = rest-return space (system_text identifier) (rest-return keyword (space ++ system_text identifier) r) in
     rw n (shape-told (λ rest. rest) (grammar.is_rest is_white_space) identifier q.1 text)
 
--- what stands after a name, or nothing
+-- the text after a name, or nothing
 after-stands : (space : List ℕ) (afterwards : RestAfterName) → can_stand_after space afterwards ≡ true → is_after_name afterwards ≡ true
 after-stands [] (NoKeyword []) h = refl
 after-stands [] (NoKeyword (c ∷ rest)) h = absurd (false≢true h)

@@ -221,7 +221,7 @@ module _ (tags : Bool) where
 
   -- ---- doctypes
 
-  -- tokens are, where they are but for errors
+  -- tokens are, if they are except for errors
   tokens-proper : (here rest : List Told) → AreShaped tags (proper_tokens here ++ rest) → AreShaped tags here × AreShaped tags rest
   tokens-proper [] rest h = (refl, h)
   tokens-proper (token ∷ here) rest h =
@@ -313,7 +313,7 @@ module _ (tags : Bool) where
   -- ---- items
 
   module _ {X S H : Type 0} (means : Means X S H) (rules : Rules) where
-    -- an item tells such tokens, where tags are let in or it is none
+    -- an item tells such tokens, if tags are let in or it is not one
     pub shaped-item : (Z : List ℕ) (K : Start) (s : S) (Y : List ℕ) (M : List Message) (later : Start) (item : Item means rules Z K s Y M later)
         → (is_tag_item means rules item ≡ true → tags ≡ true) → Shaped tags M
     shaped-item Z K s Y M later (OneCharacter mode c one) lets =

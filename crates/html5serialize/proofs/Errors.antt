@@ -1,4 +1,4 @@
--- Tokens that are errors alone, and what messages tell but for errors.
+-- Tokens that are errors alone, and what messages tell except for errors.
 use Rattle.std.proofs.Common.{◌≡◌, ℕ, suc, ◌+◌, Bool, true, false, List, length, drop, [], ◌∷◌, ◌++◌, Option, None, Some, refl, ap, ◌∙◌}
 use Rattle.std.specs.Prelude.{◌==◌, ◌&&◌, codes, flat_map, if◌then◌else◌}
 use Rattle.std.proofs.lemmas.List.Concat.{flat_map-append}
@@ -70,7 +70,7 @@ unfolding proper
 proper-on_line line [] = refl
 proper-on_line line (token ∷ tokens) = ap (λ l. proper_token token ++ l) (proper-on_line line tokens)
 
--- what characters tell but for errors
+-- what characters tell except for errors
 abbrev pub proper_cells : List Spelled → List Told
 proper_cells cells = flat_map (λ (here : Spelled). proper_tokens here.told) cells
 

@@ -1,4 +1,4 @@
--- What any comment, processing instruction and doctype tells but for errors: its token.
+-- What any comment, processing instruction and doctype tells except for errors: its token.
 use Rattle.std.proofs.Common.{◌≡◌, ℕ, Bool, true, false, List, [], ◌∷◌, ◌++◌, refl, ap, ◌∙◌}
 use Rattle.std.specs.Prelude.{codes, flat_map, if◌then◌else◌}
 use Rattle.std.proofs.lemmas.List.{append-nil}

@@ -37,7 +37,7 @@ use Rattle.html5write.specs.Told.{proper, text_messages}
 use Rattle.html5write.proofs.Texts.{no_break-text}
 use Rattle.markup5ever.specs.NamedReferences.{NamedReference, IsTable}
 
--- ---- text that is read, but for its first character, is not dropped
+-- ---- text that is read, except for its first character, is not dropped
 
 record HasNext (text : List ℕ) : Type 0 where
   next : ℕ

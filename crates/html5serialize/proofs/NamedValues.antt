@@ -1,4 +1,4 @@
--- A value as it is written, by number or by names of the table, is read as that value.
+-- A serialized value, by number or by names of the table, is read as that value.
 use Rattle.std.proofs.Common.{◌≡◌, ℕ, zero, true, false, List, [], ◌∷◌, ◌++◌, length, Option, None, refl, ap, sym, ◌∙◌, subst}
 use Rattle.std.specs.Prelude.{codes, flat_map, encode_utf8_all}
 use Rattle.std.specs.List.{list_all}
@@ -26,7 +26,7 @@ use Rattle.html5write.proofs.Values.{in_value-text, no_return-append, no_return-
 use Rattle.markup5ever.specs.C1.{character_of_c1}
 use Rattle.markup5ever.specs.NamedReferences.{NamedReference, IsTable, is_plain_name}
 
--- ---- what is held of a name before more text
+-- ---- the held text of a name before more text
 
 run-held : (references : List NamedReference) (held name more : List ℕ) → Holds references held name → ((d : ℕ) → is_undecided references ((held ++ name) ++ d ∷ []) ≡ false)
     → run_while (is_undecided references) held (name ++ more) ≡ name

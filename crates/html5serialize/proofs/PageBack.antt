@@ -68,7 +68,7 @@ use Rattle.html5sinks.specs.Replies.{raw_text_in, reply_to_raw_text, standard_re
 use Rattle.html5write.specs.Told.{IsOpen, has_no_return, proper, proper_token, tokens_of}
 use Rattle.markup5ever.specs.NamedReferences.{IsTable}
 
--- ---- tokens of messages, but for errors
+-- ---- tokens of messages, except for errors
 
 untagged-one : (token : Told) (tokens : List Told) → is_shaped false token ≡ true → list_all (is_shaped false) tokens ≡ true → list_all (is_shaped false) (proper_token token ++ tokens) ≡ true
 untagged-one (Error message) tokens e h = h
@@ -518,7 +518,7 @@ module _ {X S H Y T J : Type 0} (told_to : Means Y T J) (source : Rules) (means 
   back-in_data : (tokens : List Told) → BackInData means rules options tokens → BackAt means rules options (Between Data) place.Data [] tokens
   back-in_data tokens claim K s at fine = claim K s (open-at K at) fine
 
-  -- what stands after a start tag of that name
+  -- the text after a start tag of that name
   start-opens : (name : List ℕ) (r : Reply (Unit {0})) (G : List ℕ) (tokens : List Told) → start_reply_by options.scripting name ≡ r → Claim (open_after_reply name r) G tokens
       → BackAt means rules options (open_after_reply name r) (place_of r) [] tokens
   start-opens name KeepOn G tokens e claim = back-in_data tokens claim
@@ -532,7 +532,7 @@ module _ {X S H Y T J : Type 0} (told_to : Means Y T J) (source : Rules) (means 
   opens-by StartTag name last other G tokens claim = start-opens name (start_reply_by options.scripting name) G tokens refl claim
   opens-by EndTag name last other G tokens claim = back-in_data tokens claim
 
-  -- what stands after a tag, also where another start tag was the last
+  -- the text after a tag, also where another start tag was the last
   tag-opens : (tag : TagOf) (last G : List ℕ) (tokens : List Told) → Claim (open_after_reply (last_after last tag) (reply_by options.scripting tag)) G tokens
       → (other : List ℕ) → BackAt means rules options (open_after_reply (last_after other tag) (reply_by options.scripting tag)) (place_of (reply_by options.scripting tag)) [] tokens
   unfolding last_after
@@ -584,7 +584,7 @@ module _ {X S H Y T J : Type 0} (told_to : Means Y T J) (source : Rules) (means 
 
   -- ---- the end of the text
 
-  -- where nothing is written, the end tells itself and what is carried
+  -- when nothing is written, the end tells itself and what is carried
   end-back : (here : Place) (opened : Open) (before : List Told) → page_text_from options here (End ∷ []) ≡ [] → proper_tokens (tokens_at_end rules opened) ≡ before ++ End ∷ []
       → BackAt means rules options opened here before (End ∷ [])
   unfolding read_back
@@ -655,7 +655,7 @@ module _ {X S H Y T J : Type 0} (told_to : Means Y T J) (source : Rules) (means 
       ∙ ap (λ l. l ++ End ∷ []) (proper_tokens-append before errors ∙ ap (λ l. proper_tokens before ++ l) none ∙ append-nil (proper_tokens before)))
       ∙ sym (append_assoc (proper M) (proper_tokens before) (End ∷ []))
 
-  -- raw text up to the end, where this is told
+  -- raw text up to the end, where this is emitted
   raw-unfinished : (K : Start) (raw later : Raw) (name F run : List ℕ) (T : List Told) → K.opened ≡ Between (RawText raw name) → is_rcdata later ≡ is_rcdata raw → T ≡ texts run ++ End ∷ []
       → ((standing : Standing) → raw_at standing ≡ raw → fits name standing F ≡ true → Walked rules.exact name standing later run [])
       → has_no_return run ≡ true → Claim K.opened F T

@@ -1,4 +1,4 @@
--- Raw text as it is written, with its end tag, is read again as its characters and the end tag.
+-- Serialized raw text, with its end tag, is read again as its characters and the end tag.
 use Rattle.std.proofs.Common.{◌≡◌, ℕ, ◌≤◌, ◌<◌, Bool, true, false, List, [], ◌∷◌, ◌++◌, Some, refl, ap, sym, ◌∙◌, subst, ⊎_elim, arith}
 use Rattle.std.specs.Prelude.{All, ◌==◌, ◌||◌, ◌&&◌, not, nat_eq, chars, codes, encode_utf8_all}
 use Rattle.std.specs.Char.{to_ascii_lowercase}
@@ -310,7 +310,7 @@ told-raw rules name rest w T b tag =
     ∙ ap (λ l. texts T ++ l) (cells-tag rules tag)
 
 module _ {X S H : Type 0} (means : Means X S H) (rules : Rules) where
-  -- what each reply to a tag opens, its reply opens where the tag is told last
+  -- what each reply to a tag opens, its reply opens if the tag is emitted last
   pub last-says : (opened : Open) (last : List ℕ) (s : S) (input : Input) (cells : List Spelled) (before : List Told) (tag : WrittenTag)
       → ((t : S) (line : ℕ) → open_after_reply last (means.reply t (Tag (tag_told rules tag)) line) ≡ opened)
       → open_after_reply last (last_reply means.step means.reply s (spelled_messages rules.exact input [] (cells ++ carried_to before (spelled rules tag)))) ≡ opened
@@ -332,7 +332,7 @@ module _ {X S H : Type 0} (means : Means X S H) (rules : Rules) where
     opens : (opened : Open) → ((t : S) (line : ℕ) → open_after_reply K.last_start_tag (means.reply t (Tag (end_tag_of name)) line) ≡ opened)
         → open_after_reply K.last_start_tag (last_reply means.step means.reply s messages) ≡ opened
 
-  -- what is asked of it
+  -- its conditions
   record CanBe (K : Start) (w : Where) (name text : List ℕ) : Type 0 where
     starts : K.opened ≡ Between (RawText (raw_at w) name)
     no_break : K.input.after_carriage_return ≡ false

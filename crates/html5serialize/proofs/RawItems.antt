@@ -114,7 +114,7 @@ begins-letters (n ∷ name) (l ∷ letters) c X all same ends =
     let q = and_parts (to_ascii_lowercase l == n) (bytes_eq (lower letters) name) (ap (λ b. bytes_eq (b ++ lower letters) (n ∷ name)) (sym (letter-bytes l p.0)) ∙ same) in
     rw (q.0) (begins-letters name letters c X p.1 q.1 ends)
 
--- so they don't, where no end tag stands
+-- so they don't, when no end tag stands
 ends-none : (name letters : List ℕ) (c : ℕ) (X : List ℕ) → list_all is_letter letters ≡ true → has_end name ((codes "</" ++ letters) ++ (c ∷ X)) ≡ false → ends_raw_text name letters c ≡ false
 unfolding has_end ends_raw_text
 ends-none name letters c X all h =

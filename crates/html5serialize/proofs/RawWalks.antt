@@ -1,4 +1,4 @@
--- How the machine goes through raw text that is written as it was told, from wherever it stands in it.
+-- How the machine goes through raw text that is written as it was emitted, from wherever it stands in it.
 use Rattle.std.proofs.Common.{◌≡◌, ℕ, Bool, true, false, List, [], ◌∷◌, ◌++◌, refl, ap, sym, ◌∙◌, subst}
 use Rattle.std.specs.Prelude.{◌==◌, not, length, nat_eq, codes, encode_utf8}
 use Rattle.std.specs.List.{list_all}
@@ -30,7 +30,7 @@ use Rattle.html5grammar.proofs.RawText.Steps.{Standing, opened_at, raw_at, carri
 use Rattle.html5grammar.proofs.RawText.Steps.Standing.{Free, Within}
 use Rattle.html5serialize.proofs.Errors.{proper_tokens, proper_cells, proper_tokens-append, cells-append, cells-errors, tell-silent}
 
--- ---- texts but for errors
+-- ---- texts except for errors
 
 pub proper-texts : (run : List ℕ) → proper_tokens (texts run) ≡ texts run
 proper-texts [] = refl
@@ -57,7 +57,7 @@ proper-carried_at (Within (InSwitch kind letters)) = refl
 
 -- ---- what an item tells, where its rest is carried on
 
--- a `<` is told at once or later
+-- a `<` is emitted at once or later
 at_once-or_later : (kind : RawKind) → proper_tokens (told_at_less_than kind) ++ told_after_less_than kind ≡ texts (less_than ∷ [])
 at_once-or_later raw_kind.Rcdata = refl
 at_once-or_later raw_kind.Rawtext = refl
@@ -79,7 +79,7 @@ later-single raw_kind.ScriptData h = refl
 later-single (raw_kind.ScriptDataEscaped escape_kind.Escaped) h = refl
 later-single (raw_kind.ScriptDataEscaped escape_kind.DoubleEscaped) h = absurd (false≢true (sym h))
 
--- what is told first, in front of more
+-- what is emitted first, before more
 first-told : (before told more : List Told) → proper_tokens before ≡ before → proper_tokens (before ++ told) ++ more ≡ before ++ (proper_tokens told ++ more)
 first-told before told more e =
     ap (λ l. l ++ more) (proper_tokens-append before told ∙ ap (λ l. l ++ proper_tokens told) e) ∙ append_assoc before (proper_tokens told) more
@@ -116,7 +116,7 @@ first-switch raw_kind.ScriptData letters c = first-letters letters c
 first-switch (raw_kind.ScriptDataEscaped escape_kind.Escaped) letters c = first-letters letters c
 first-switch (raw_kind.ScriptDataEscaped escape_kind.DoubleEscaped) letters c = record { first = solidus; rest = letters ++ c ∷ []; is = refl }
 
--- an item that is told as it stands: it is no NUL
+-- an item that is emitted as it stands: it is not a NUL
 abbrev pub is_told : RawItem → Bool
 is_told (Character c) = not (c == null)
 is_told item = true
@@ -177,7 +177,7 @@ shown-no_null c = at (c == null) refl
     at true e = rw e refl
     at false e = rw (e, e) refl
 
--- but for errors a character tells itself as it is shown
+-- except for errors a character tells itself as it is shown
 pub proper-character : (exact : Bool) (raw : Raw) (c : ℕ) → proper_tokens (raw_character exact raw c) ≡ texts (shown c ∷ [])
 unfolding raw_character shown
 proper-character exact raw c = at (c == null) refl
@@ -215,7 +215,8 @@ stands-shown raw c h = shown-alike (λ d. is_raw_text raw d ≡ true) c (λ e. r
 
 -- ---- walks
 
--- the machine goes through a text from one place to another, and tells it, with what is carried to it, but for what is carried on
+-- the machine goes through a text from one place to another, and tells it, with what is carried to it, except for what is carried
+-- on
 pub record Walks (exact : Bool) (opened : Open) (before : List Told) (text : List ℕ) (later : Open) (after : List Told) : Type 0 where
   pub cells : List Spelled
   pub goes : Goes exact opened cells later

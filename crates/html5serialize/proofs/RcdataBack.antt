@@ -1,4 +1,4 @@
--- RCDATA as it is written, with its end tag, is read again as its characters and the end tag.
+-- Serialized RCDATA, with its end tag, is read again as its characters and the end tag.
 use Rattle.std.proofs.Common.{◌≡◌, ℕ, Bool, true, false, List, [], ◌∷◌, ◌++◌, None, Some, map, refl, ap, sym, ◌∙◌, subst}
 use Rattle.std.specs.Prelude.{◌==◌, not, chars, codes, encode_utf8}
 use Rattle.std.specs.Str.{IsUtf8}
@@ -49,7 +49,7 @@ use Rattle.html5write.proofs.Characters.{IsPlain, each_character, escaped-plain}
 use Rattle.html5write.proofs.Sequence.{in_sequence}
 use Rattle.html5write.proofs.Texts.{no_break-text}
 
--- no character as it is written ends with a CR
+-- no serialized character ends with a CR
 no_break-escaped : (input : Input) (c : ℕ) → (input_after input (escaped c)).after_carriage_return ≡ false
 unfolding input_after ends_with_carriage_return escaped reference_of
 no_break-escaped input c =

@@ -1,4 +1,4 @@
--- A token is refused exactly where it can't be written.
+-- A token is refused exactly if it can't be written.
 use Rattle.std.proofs.Common.{◌≡◌, ℕ, ◌+◌, Bool, true, false, List, [], ◌∷◌, Some, None, Option, refl, ap, ◌∙◌}
 use Rattle.std.specs.Prelude.{◌==◌, ◌&&◌, not, option_map, if◌then◌else◌}
 use Rattle.std.specs.List.{list_all}
@@ -49,7 +49,7 @@ none-repeat_from a index (other ∷ later) =
       | false ↦ refl
     ]
 
--- of several reasons in turn there is none where no test fails
+-- of several reasons in turn there is none if no test fails
 none-next : (b : Bool) (e : SerializeError) (o : Option SerializeError) → is_none (if not b then Some e else o) ≡ (b && is_none o)
 none-next true e o = refl
 none-next false e o = refl

@@ -1,5 +1,5 @@
--- What is known of the tokens of a page by their form: all that they have to be written, but for texts and for attributes that
--- are told apart. Tags are let in or not.
+-- What is known of the tokens of a page by their form: all that they have to be written, except for texts and for attributes
+-- that are told apart. Tags are let in or not.
 use Rattle.std.proofs.Common.{◌≡◌, ℕ, Bool, true, false, List, [], ◌∷◌, ◌++◌, refl, ap, ◌∙◌}
 use Rattle.std.specs.Prelude.{◌&&◌}
 use Rattle.std.specs.List.{list_all}
@@ -101,7 +101,7 @@ module _ (tags : Bool) where
       (are-append (bad_character_error exact here.character) here.told (are-where _ _) h.0))
       (shaped-spelled exact input (before ++ here.character ∷ []) more h.1)
 
-  -- messages are, where their tokens but for errors are
+  -- messages are, if their tokens except for errors are
   pub shaped-proper : (M : List Message) → AreShaped (proper M) → Shaped M
   unfolding proper
   shaped-proper [] h = refl

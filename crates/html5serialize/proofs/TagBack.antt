@@ -1,4 +1,4 @@
--- A tag as it is written is a tag of the grammar, and that one tells it.
+-- A serialized tag is a tag of the grammar, and that one tells it.
 use Rattle.std.proofs.Common.{◌≡◌, ℕ, ◌≤◌, ◌<◌, Bool, true, false, List, [], ◌∷◌, ◌++◌, Option, None, Some, length, refl, ap, sym, ◌∙◌, ⊎_elim, arith}
 use Rattle.std.specs.Prelude.{◌==◌, ◌&&◌, not, nat_eq, chars, codes, flat_map, encode_utf8_all, if◌then◌else◌}
 use Rattle.std.specs.List.{list_all}
@@ -367,7 +367,7 @@ closes-name escapes (a ∷ attributes) self_closing back =
     ap is_after_solidus (place-attribute (chars a.name.local) (value_text_by escapes (chars a.value)) (parts_of escapes attributes ++ end_parts self_closing) back.0.name)
     ∙ closes-value escapes attributes self_closing back.1
 
--- ---- the tag that is told
+-- ---- the emitted tag
 
 told-named : (rules : Rules) (escapes : Escapes) → ShowsValues rules escapes → (kind : TagKind) (name : List ℕ) (attributes : List AttributeOf) (self_closing : Bool) → is_tag_name name ≡ true → AreBack attributes
     → are_distinct attributes ≡ true

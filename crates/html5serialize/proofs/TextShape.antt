@@ -1,4 +1,4 @@
--- What the text of a page tells, and what the end tells where nothing else is open: texts, NULs, errors and the end.
+-- What the text of a page tells, and what the end tells when nothing else is open: texts, NULs, errors and the end.
 use Rattle.std.proofs.Common.{ℕ, Bool, true, false, List, [], ◌∷◌, ◌++◌, drop, refl}
 use Rattle.std.specs.Prelude.{◌==◌, codes, encode_utf8, if◌then◌else◌}
 use Rattle.html5ever_interface.specs.Token.{Told}

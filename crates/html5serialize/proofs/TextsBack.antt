@@ -25,7 +25,7 @@ use Rattle.html5write.specs.Escaped.{escaped}
 use Rattle.html5write.specs.Told.{IsOpen, return_error, character_told, text_messages, proper}
 use Rattle.html5write.proofs.Texts.{none-told, text-told}
 
--- but for errors a text tells its characters
+-- except for errors a text tells its characters
 pub proper-text : (exact : Bool) (input : Input) (text : List ℕ) → proper (text_messages exact input text) ≡ map (λ c. Text (encode_utf8 c)) text
 unfolding text_messages proper
 proper-text exact input [] = refl

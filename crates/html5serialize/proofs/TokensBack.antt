@@ -44,7 +44,7 @@ use Rattle.html5write.proofs.Sequence.{in_sequence, told-alone, after-alone}
 use Rattle.html5write.proofs.Texts.{no_break-text, none-told}
 use Rattle.html5write.proofs.Values.{no_return-append}
 
--- ---- no token as it is written ends with a CR
+-- ---- no serialized token ends with a CR
 
 pub no_break-tag : (input : Input) (kind : TagKind) (rest : List ℕ) → has_no_return rest ≡ true → (input_after input (opening_text kind ++ rest)).after_carriage_return ≡ false
 no_break-tag input StartTag rest h = no_break-markup input rest h

@@ -1,4 +1,4 @@
--- A text before another, and a text to its end, but for errors.
+-- A text before another, and a text to its end, except for errors.
 use Rattle.std.proofs.Common.{◌≡◌, ℕ, List, [], ◌++◌, ap, sym, ◌∙◌}
 use Rattle.std.proofs.lemmas.List.{append_assoc}
 use Rattle.html5ever_interface.specs.Sink.{Means, Message, stepped, on_line}

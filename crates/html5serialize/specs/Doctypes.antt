@@ -21,7 +21,7 @@ abbrev pub identifier_text : Bool → List ℕ → List ℕ
 identifier_text is_closed identifier =
     quote_for identifier ∷ chars identifier ++ (if is_closed then quote_for identifier ∷ [] else [])
 
--- what stands after the name, by the public and the system identifier. Quirks are brought by a keyword without an identifier, or
+-- the text after the name, by the public and the system identifier. Quirks are brought by a keyword without an identifier, or
 -- by the last identifier, which is cut off.
 abbrev pub identifiers_text : Bool → Option (List ℕ) → Option (List ℕ) → List ℕ
 identifiers_text quirks None None = if quirks then codes " PUBLIC" else []
@@ -30,7 +30,7 @@ identifiers_text quirks None (Some system) = codes " SYSTEM " ++ identifier_text
 identifiers_text quirks (Some public) (Some system) =
     codes " PUBLIC " ++ (identifier_text true public ++ (codes " " ++ identifier_text (not quirks) system))
 
--- what stands after `<!DOCTYPE`: a space, the name, and the identifiers; or nothing, which brings quirks
+-- the text after `<!DOCTYPE`: a space, the name, and the identifiers; or nothing, which brings quirks
 abbrev pub name_text : DoctypeOf → Option (List ℕ) → List ℕ
 name_text d None = []
 name_text d (Some name) = codes " " ++ (chars name ++ identifiers_text d.force_quirks d.public_id d.system_id)

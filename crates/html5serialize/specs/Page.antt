@@ -1,4 +1,4 @@
--- The page that tokens make: each token as it is written where it stands.
+-- The page that tokens make: each token as it is serialized at its place.
 use Rattle.std.specs.Prelude.{◌≡◌, ℕ, Bool, false, List, [], ◌∷◌, ◌++◌, chars}
 use Rattle.html5ever_interface.specs.Token.{Told, TagOf, Reply}
 use Rattle.html5ever_interface.specs.Token.Reply.{ReadPlainText, ReadRawData}
@@ -49,8 +49,8 @@ abbrev pub raw_text_by : Escapes → RawKind → List ℕ → List ℕ
 raw_text_by escapes Rcdata text = escaped_text_by escapes (chars text)
 raw_text_by escapes kind text = chars text
 
--- a token as it is written there: in Data and in RCDATA a text is escaped, and elsewhere it stands as it is. The values of tags are
--- escaped everywhere.
+-- a token as it is serialized there: in Data and in RCDATA a text is escaped, and elsewhere it stands as it is. The values of tags
+-- are escaped everywhere.
 unfoldable pub text_at : Escapes → Place → Told → List ℕ
 text_at escapes place.Data (Text text) = escaped_text_by escapes (chars text)
 text_at escapes (place.RawText kind) (Text text) = raw_text_by escapes kind text

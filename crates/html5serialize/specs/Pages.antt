@@ -21,7 +21,7 @@ pub data Part : Type 0 where
   One : Told → Part
   Element : TagOf → RawKind → List ℕ → Part
 
--- as it is written
+-- serialized
 abbrev pub part_text : Part → List ℕ
 part_text (One token) = token_text token
 part_text (Element tag kind text) = token_text (Tag tag) ++ (raw_text kind text ++ end_text (chars tag.name))
@@ -33,7 +33,7 @@ abbrev pub can_write_part : Part → Bool
 can_write_part (One token) = can_write token
 can_write_part (Element tag kind text) = can_write (Tag tag) && (not (is_end_tag tag.kind) && can_write_raw kind tag.name text)
 
--- the tokens that it tells, but for errors
+-- the tokens that it tells, except for errors
 abbrev pub part_read_back : Part → List Told
 part_read_back (One token) = read_back token
 part_read_back (Element tag kind text) = read_back (Tag tag) ++ (map (λ c. Text (encode_utf8 c)) (chars text) ++ Tag (end_tag_of tag.name) ∷ [])
@@ -73,8 +73,8 @@ last_after_parts last [] = last
 last_after_parts last (part ∷ parts) = last_after_parts (last_after_part last part) parts
 
 module _ {X S H : Type 0} (means : Means X S H) where
-  -- the parts as they are written, one after another, tell messages that are, but for errors, exactly their tokens, wherever they
-  -- stand, and nothing is open after them
+  -- the parts as they are written, one after another, tell messages that are, except for errors, exactly their tokens, wherever
+  -- they stand, and nothing is open after them
   pub record ReadsParts (rules : Rules) (K : Start) (s : S) (parts : List Part) : Type 0 where
     pub messages : List Message
     pub tells : TellsByItself means rules K s (parts_text parts) messages (start_beyond K (parts_text parts) (Between Data) (last_after_parts K.last_start_tag parts))

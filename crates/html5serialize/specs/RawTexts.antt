@@ -1,4 +1,4 @@
--- Raw text as it is written: what stands in `script`, `style`, `textarea` and others, up to the end tag.
+-- Serialized raw text: the content of `script`, `style`, `textarea` and others, up to the end tag.
 use Rattle.std.specs.Prelude.{◌≡◌, ℕ, Bool, false, not, List, [], ◌∷◌, ◌++◌, ◌==◌, ◌&&◌, ◌||◌, chars, codes, drop, encode_utf8, map}
 use Rattle.std.specs.Char.{to_ascii_lowercase}
 use Rattle.std.specs.List.{list_all}
@@ -55,7 +55,7 @@ unfoldable pub has_end : List ℕ → List ℕ → Bool
 has_end name [] = false
 has_end name (c ∷ text) = begins_end name (c ∷ text) || has_end name text
 
--- "Script data double escape start state": whether a tag of that name, but for the `/` of an end tag, begins anywhere in it
+-- "Script data double escape start state": whether a tag of that name, except for the `/` of an end tag, begins anywhere in it
 unfoldable pub has_start : List ℕ → List ℕ → Bool
 has_start name [] = false
 has_start name (c ∷ text) = ((c == less_than) && begins_name name text) || has_start name text
@@ -85,11 +85,11 @@ pub record IsOpenRaw (K : Start) (kind : RawKind) (name : List ℕ) : Type 0 whe
   pub no_break : K.input.after_carriage_return ≡ false
   pub no_mark : K.input.drops_byte_order_mark ≡ false
 
--- the end tag that is told
+-- the emitted end tag
 abbrev pub end_tag_of : List ℕ → TagOf
 end_tag_of name = record { kind = EndTag; name = name; self_closing = false; attributes = []; had_duplicate_attributes = false }
 
--- the text as it is written, with the end tag after it, tells messages that are, but for errors, exactly its characters and the
+-- the serialized text, with the end tag after it, tells messages that are, except for errors, exactly its characters and the
 -- end tag. The sink's reply to that says what is open.
 pub record ReadsRaw {X S H : Type 0} (means : Means X S H) (rules : Rules) (K : Start) (s : S) (kind : RawKind) (name text : List ℕ) : Type 0 where
   pub messages : List Message

@@ -1,4 +1,4 @@
--- What it means that a token as it is written is read again as itself.
+-- What it means that a serialized token is read again as itself.
 use Rattle.std.specs.Prelude.{◌≡◌, ℕ, List, [], ◌∷◌, flat_map, Option, None, Some}
 use Rattle.std.specs.Str.{IsUtf8}
 use Rattle.html5ever_interface.specs.Sink.{Means, Message}
@@ -35,12 +35,12 @@ HasTexts other = Unit {0}
 -- ---- a token that is read again as itself
 
 module _ {X S H : Type 0} (means : Means X S H) where
-  -- the start after a token as it is written, which tells these messages. After a tag the sink's reply says what is open.
+  -- the start after a serialized token, which tells these messages. After a tag the sink's reply says what is open.
   abbrev pub start_after_token : Start → S → Told → List Message → Start
   start_after_token K s (Tag tag) M = start_after_tag means K s (token_text (Tag tag)) (without_duplicates tag) M
   start_after_token K s token M = start_beyond K (token_text token) (Between Data) K.last_start_tag
 
-  -- the token as it is written, read from K in the sink's state s, tells messages that are, but for errors, exactly the token: a
+  -- the serialized token, read from K in the sink's state s, tells messages that are, except for errors, exactly the token: a
   -- text its characters one by one, and any other itself. It does so wherever it stands, and whatever follows it.
   pub record ReadsBack (rules : Rules) (K : Start) (s : S) (token : Told) : Type 0 where
     pub messages : List Message
@@ -74,8 +74,8 @@ last_after_tokens last [] = last
 last_after_tokens last (token ∷ tokens) = last_after_tokens (last_after_token last token) tokens
 
 module _ {X S H : Type 0} (means : Means X S H) where
-  -- the tokens as they are written, one after another, tell messages that are, but for errors, exactly the tokens, wherever they
-  -- stand, and nothing is open after them
+  -- the tokens as they are written, one after another, tell messages that are, except for errors, exactly the tokens, wherever
+  -- they stand, and nothing is open after them
   pub record ReadBack (rules : Rules) (K : Start) (s : S) (tokens : List Told) : Type 0 where
     pub messages : List Message
     pub tells : TellsByItself means rules K s (tokens_text tokens) messages (start_beyond K (tokens_text tokens) (Between Data) (last_after_tokens K.last_start_tag tokens))

@@ -51,13 +51,13 @@ can_write (Instruction content) = list_all is_markup_character content
 can_write (Doctype d) = is_doctype d
 can_write End = true
 
--- ---- what is read of them, but for errors
+-- ---- what is read of them, except for errors
 
 -- that an attribute was left out is not written
 abbrev pub without_duplicates : TagOf → TagOf
 without_duplicates tag = record tag { had_duplicate_attributes = false }
 
--- the tokens that are read of a token as it is written: a text comes back as its characters, and any other token as itself
+-- the tokens that are read of a serialized token: a text comes back as its characters, and any other token as itself
 unfoldable pub read_back : Told → List Told
 read_back (Text text) = map (λ c. Text (encode_utf8 c)) (chars text)
 read_back (Error message) = []

@@ -188,7 +188,7 @@ fn instruction_refusal(content: &str) -> Option<SerializeError>
     }
 }
 
-/// Why the token can't be written, where it can't: of several reasons the first in the order of the text.
+/// Why the token can't be written, if it can't: of several reasons the first in the order of the text.
 /// An error and the end can be written, and nothing is written of them.
 #[tactic(auto, unfolding(crate::specs::Refusals::refusal_of))]
 pub fn token_refusal<A: Allocator>(token: &Token<A>) -> Option<SerializeError>

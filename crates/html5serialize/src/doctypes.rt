@@ -36,7 +36,7 @@ fn push_identifier<A: Allocator>(
     Ok(())
 }
 
-// Appends what stands after the name, where there is no public identifier.
+// Appends the text after the name, if there is no public identifier.
 fn push_system<A: Allocator>(
     out: &mut String<A>,
     quirks: bool,
@@ -55,7 +55,7 @@ fn push_system<A: Allocator>(
     push_identifier(out, !quirks, system)
 }
 
-// Appends what stands after the name, where there is a public identifier.
+// Appends the text after the name, if there is a public identifier.
 fn push_public<A: Allocator>(
     out: &mut String<A>,
     quirks: bool,
@@ -75,7 +75,7 @@ fn push_public<A: Allocator>(
     Ok(())
 }
 
-// Appends what stands after the name.
+// Appends the text after the name.
 fn push_identifiers<A: Allocator>(
     out: &mut String<A>,
     doctype: &Doctype<A>,
@@ -90,7 +90,7 @@ fn push_identifiers<A: Allocator>(
     }
 }
 
-// Appends what stands after `<!DOCTYPE`.
+// Appends the text after `<!DOCTYPE`.
 fn push_name<A: Allocator>(out: &mut String<A>, doctype: &Doctype<A>) -> Result<(), AllocError>
     ensures { OnOk result (string_bytes out.new ≡ string_bytes out.old
         ++ encode_utf8_all (name_text (doctype_of doctype.now) (option_map string_bytes doctype.now.name))) }

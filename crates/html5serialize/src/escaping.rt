@@ -31,7 +31,7 @@ fn reference_of(c: char) -> Option<&'static str>
     }
 }
 
-// The same, by name where it has one.
+// The same, by name if it has one.
 #[tactic(auto, unfolding(crate::specs::Escapes::named_reference_of))]
 fn named_reference_of(c: char) -> Option<&'static str>
     ensures { option_map (λ reference. reference.now) result ≡ named_reference_of c }

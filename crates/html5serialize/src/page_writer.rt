@@ -178,7 +178,7 @@ fn push_at<A: Allocator>(
     }
 }
 
-// What stands after a tag, where it is no plain text.
+// The place after a tag, if it is not plain text.
 fn place_after_tag<A: Allocator>(scripting: bool, tag: &Tag<A>) -> Place
     ensures { result ≡ place_of (reply_by scripting (tag_of tag.now)) }
 {
@@ -189,7 +189,7 @@ fn place_after_tag<A: Allocator>(scripting: bool, tag: &Tag<A>) -> Place
     }
 }
 
-// What stands after a token.
+// The place after a token.
 #[tactic(auto, unfolding(crate::specs::Page::place_after))]
 fn place_after<A: Allocator>(scripting: bool, place: Place, token: &Token<A>) -> Place
     ensures { result ≡ place_after scripting place (told_by token.now) }

@@ -1,4 +1,4 @@
-//! Raw text as it is written: what stands in `script`, `style`, `textarea` and others.
+//! Serialized raw text: the content of `script`, `style`, `textarea` and others.
 ghost use Rattle.std.specs.Prelude.{◌≡◌, ◌++◌, chars, encode_utf8_all, string_bytes, OnOk};
 ghost use Rattle.std.specs.List.{list_all};
 ghost use Rattle.html5grammar.specs.Comment.{occurs};
@@ -146,7 +146,7 @@ fn text_refusal(kind: RawKind, name: &[u8], text: &[u8]) -> Option<RawTextError>
     }
 }
 
-/// Why the text can't be written as raw text of this kind, in an element of this name, where it can't: of
+/// Why the text can't be written as raw text of this kind, in an element of this name, if it can't: of
 /// several reasons the first as they stand in `RawTextError`.
 #[tactic(auto, unfolding(crate::specs::RawRefusals::raw_refusal))]
 pub fn raw_text_refusal(kind: RawKind, name: &str, text: &str) -> Option<RawTextError>

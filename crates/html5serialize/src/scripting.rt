@@ -18,7 +18,7 @@ fn start_reply_by<A: Allocator>(scripting: bool, name: &str) -> TokenSinkResult<
     standard_reply_to_start(name)
 }
 
-/// What is replied to a tag of a page, so that what stands after it is read as the standard reads it, where
+/// The reply to a tag of a page, so that the text after it is read as the standard reads it, where
 /// scripting is enabled or not. With scripting RAWTEXT stands after `noscript`. Without it, this is
 /// `standard_reply` of `html5sinks`. It never pauses.
 pub fn reply_by<A: Allocator>(scripting: bool, tag: &Tag<A>) -> TokenSinkResult<(), String<A>>

@@ -194,7 +194,7 @@ module _ {X S H : Type 0} (means : Means X S H) where
         (subst (λ (w : S). StopsFeeding means error t text left w) same stops),
   )
 
-  -- what was told between `attach` and `detach`
+  -- the messages between `attach` and `detach`
   pub ends_text : (t s : Tokenizing X) (v told : S) → t ≡ s → v ≡ told → Finishes means t v → FinishesItems means t v → EndsText means s told
   ends_text t s v told begins same tells items = record {
     finishes = subst (λ (w : Tokenizing X). Finishes means w told) begins (subst (λ (w : S). Finishes means t w) same tells);
@@ -227,7 +227,7 @@ module _ {X S H : Type 0} (means : Means X S H) where
         feeds.not_failed feeds.going_on;
   }
 
-  -- what was read of a session that is all as before but for the piece that was taken
+  -- what was read of a session that is all as before except for the piece that was taken
   from_old : (old mid t : SessionOf X) (left : List ℕ) (reply : Reply H) → mid ≡ record old { intake = mid.intake } → t.references ≡ mid.references
       → FeedsText means (tokenizer_of mid) (tokenizer_of t) mid.intake.text left reply
       → FeedsText means (tokenizer_of old) (tokenizing t.detached old.references) mid.intake.text left reply
@@ -332,7 +332,7 @@ module _ {X S H : Type 0} (means : Means X S H) where
     kept = ap (λ (l : List NamedReference). record t { references = l }) (same ∙ ap (λ (w : SessionOf X). w.references) kept);
   }
 
-  -- a piece that was refused for want of memory
+  -- a piece that was refused, out of memory
   pub piece_refused : (old mid : SessionOf X) (piece : Piece) → mid ≡ record old { intake = mid.intake } → PieceRefused old.intake mid.intake
       → FeedRefused means old mid piece Memory
   piece_refused old mid piece kept (inl unchanged) = inl (kept ∙ ap (λ (i : IntakeOf). record old { intake = i }) unchanged)

@@ -15,7 +15,7 @@ silent_in true page d never is = absurd (none_some page d (never refl) is) where
   none_some : (page : Option PageDecoding) (d : PageDecoding) → page ≡ None → page ≡ Some d → ⊥
   none_some page d none some = absurd (cc (none, some))
 
--- where no byte was taken no fault is to be said
+-- when no byte was taken no fault is to be reported
 pub silent_before : (fault : Bool) (page : Option PageDecoding) (i : IntakeOf) → i.fault ≡ fault → (fault ≡ true → page ≡ None) → IsUnbegunBy page i → fault ≡ false
 silent_before fault None i is never unbegun = sym is ∙ unbegun.no_fault
 silent_before fault (Some d) i is never unbegun = silent_in fault (Some d) d never refl

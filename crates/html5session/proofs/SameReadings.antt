@@ -27,7 +27,7 @@ module _ {X S H : Type 0} (means : Means X S H) (f : S → S)
   stepped-same s [] = refl
   stepped-same s (m ∷ M) = ap (λ t. stepped means.step t M) (steps s m.token m.line) ∙ stepped-same (means.step s m.token m.line) M
 
-  -- what is sent at a character and after it, where what follows is the same
+  -- what is sent at a character and after it, if the rest is the same
   here-same : (rules : Rules) (K : Start) (rest : S → List ℕ → Slice → Read) → ((t : S) (name : List ℕ) (later : Slice) → rest (f t) name later ≡ rest t name later)
       → (s : S) (last before : List ℕ) (c : ℕ) (here : Here Slice)
       → read_here means.step means.reply means.foreign rules K rest cut_off (f s) last before c here
@@ -106,7 +106,7 @@ module _ {X S H : Type 0} (means : Means X S H) (f : S → S)
   pub state-same : (rules : Rules) (K : Start) (s : S) (text : List ℕ) → state_after means rules K (f s) text ≡ f (state_after means rules K s text)
   state-same rules K s text = ap (stepped means.step (f s)) (so_far-same rules K s text) ∙ stepped-same s (messages_so_far means rules K s text)
 
-  -- what follows is read from the same start
+  -- the rest is read from the same start
   pub start-same : (rules : Rules) (K : Start) (s : S) (text : List ℕ) → start_after means rules K (f s) text ≡ start_after means rules K s text
   start-same rules K s text =
       ap (λ (r : Read). record { opened = r.opened; last_start_tag = r.last_start_tag; input = input_after K.input text }) (read-same rules K s text)

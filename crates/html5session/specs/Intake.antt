@@ -16,7 +16,7 @@ pub record IntakeOf : Type 0 where
   pub page : Option PageDecoding
   -- the text that waits to be read
   pub text : List ℕ
-  -- whether bytes that are no UTF-8 follow those that were taken, which is still to be said
+  -- whether bytes that are not UTF-8 follow those that were taken, which is still to be reported
   pub fault : Bool
   -- where those bytes are that were last said to be no UTF-8
   pub error_at : Option ℕ
@@ -80,7 +80,8 @@ abbrev pub EndsWithinBy : Option PageDecoding → List ℕ → Type 0
 EndsWithinBy None held = ¬ (held ≡ [])
 EndsWithinBy (Some d) held = ⊥
 
--- The bytes so far end within a character, which is none unless more come. Of a page that is decoded none do: what is begun gives U+FFFD.
+-- The bytes so far end within a character, which is incomplete unless more come. Of a page that is decoded none do: what is begun gives
+-- U+FFFD.
 abbrev pub EndsWithin : IntakeOf → Type 0
 EndsWithin i = EndsWithinBy i.page i.decoder.held
 
@@ -89,7 +90,7 @@ IsTextSoFarBy None held references bytes text = bytes ≡ text ++ held
 IsTextSoFarBy (Some d) held references bytes text =
     (rest : List ℕ) → text_of_page references d.said d.fallback (bytes ++ rest) ≡ text ++ text_with references d rest
 
--- Where these bytes were taken, this text of them came: what is held may begin a character. Where a page is decoded it is the front of
+-- Where these bytes were taken, this text of them came: the held bytes may begin a character. Where a page is decoded it is the front of
 -- the page's text, whatever follows.
 abbrev pub IsTextSoFar : List NamedReference → IntakeOf → List ℕ → List ℕ → Type 0
 IsTextSoFar references i bytes text = IsTextSoFarBy i.page i.decoder.held references bytes text
@@ -109,7 +110,7 @@ abbrev pub held_of : Option PageDecoding → ℕ
 held_of None = 0
 held_of (Some d) = length d.held
 
--- how many bytes are held where so many wait in the sink and so many more come, as a u64 counts
+-- how many bytes are held where this many wait in the sink and that many more come, as a u64 counts
 abbrev pub held_with : IntakeOf → ℕ → ℕ → ℕ
 held_with i waiting more = place_after (place_after (place_after i.unsettled (held_of i.page)) waiting) more
 
@@ -126,7 +127,7 @@ pub record Completes (old new : Decoding) (bytes text : List ℕ) : Type 0 where
   pub cut : IsCutCharacter new.held
   pub taken : new.taken ≡ place_after old.taken (length text)
 
--- this text comes after what waits
+-- this text comes after the waiting text
 abbrev pub gains : IntakeOf → List ℕ → IntakeOf
 gains i text = record i { text = i.text ++ chars text; unsettled = place_after i.unsettled (length text) }
 
@@ -144,11 +145,11 @@ pub data TakesBytes (references : List NamedReference) (old new : IntakeOf) (byt
   -- the whole piece, with the text that it completes
   Whole : old.page ≡ None → old.fault ≡ false → Completes old.decoder new.decoder bytes text → new ≡ record (gains old text) { decoder = new.decoder }
       → TakesBytes references old new bytes text
-  -- its front, up to bytes that are no UTF-8, whatever follows: that is still to be said
+  -- its front, up to bytes that are not UTF-8, whatever follows: that is still to be reported
   Front : old.page ≡ None → old.fault ≡ false → IsNeverUtf8 (old.decoder.held ++ bytes)
       → EndsAtFault old.decoder new.decoder (old.decoder.held ++ bytes) text
       → new ≡ record (gains old text) { decoder = new.decoder; fault = true } → TakesBytes references old new bytes text
-  -- nothing, while the fault of an earlier piece is still to be said
+  -- nothing, while the fault of an earlier piece is still to be reported
   Nothing : old.page ≡ None → old.fault ≡ true → text ≡ [] → new ≡ old → TakesBytes references old new bytes text
   -- where a page is decoded all of it, with the text that is decided by it
   InPage : (before after : PageDecoding) → old.page ≡ Some before → old.fault ≡ false → GoesOn references before after bytes text → IsUtf8 text
@@ -166,7 +167,7 @@ abbrev pub Takes : List NamedReference → IntakeOf → IntakeOf → Piece → L
 Takes references old new (Bytes bytes) text = TakesBytes references old new bytes text
 Takes references old new TheEnd text = TakesRest references old new text
 
--- bytes were decoded as UTF-8, or their front, to this text: it is still to come after what waits
+-- bytes were decoded as UTF-8, or their front, to this text: it is still to come after the waiting text
 pub data Decoded (old new : IntakeOf) (bytes text : List ℕ) : Type 0 where
   All : Completes old.decoder new.decoder bytes text → new ≡ record old { decoder = new.decoder } → Decoded old new bytes text
   UpToFault : IsNeverUtf8 (old.decoder.held ++ bytes) → EndsAtFault old.decoder new.decoder (old.decoder.held ++ bytes) text
@@ -177,12 +178,12 @@ pub record TakesPiece (references : List NamedReference) (old new : IntakeOf) (p
   pub text : List ℕ
   pub takes : Takes references old new piece text
 
--- a piece was refused for want of memory: it changed nothing, or it was lost, and nothing of it waits
+-- a piece was refused, out of memory: it changed nothing, or it was lost, and nothing of it waits
 abbrev pub PieceRefused : IntakeOf → IntakeOf → Type 0
 PieceRefused old new = (new ≡ old) ⊎ (new.lost ≡ true)
 
 -- ---- faults
 
--- the fault is said, at the place up to which the bytes were taken
+-- the fault is reported, at the place up to which the bytes were taken
 abbrev pub fault_said : IntakeOf → IntakeOf
 fault_said i = record i { fault = false; error_at = Some i.decoder.taken }

@@ -12,11 +12,11 @@ RecordSessionOf = SessionOf Recording
 abbrev pub recorded_by : RecordSessionOf → Recorded
 recorded_by s = s.detached.sink.recorded
 
--- so many bytes of the records that wait were taken, and all else is as it was
+-- this many bytes of the records that wait were taken, and all else is as it was
 abbrev pub after_session_takes : RecordSessionOf → ℕ → RecordSessionOf
 after_session_takes s count = record s { detached = record s.detached { sink = after_taking s.detached.sink count } }
 
--- wherever the tokenizer stood, it stands there still, with so many bytes more taken
+-- wherever the tokenizer stood, it stands there still, with this many bytes more taken
 abbrev pub StandsOn : RecordSessionOf → RecordSessionOf → ℕ → Type 0
 StandsOn old new count =
     (K : Start) (s : Recorded) (text : List ℕ) → StandsAt recorded_means (tokenizer_of old) K s text

@@ -33,7 +33,7 @@ tokenizer_of s = tokenizing s.detached s.references
 abbrev pub is_over : {X : Type 0} → SessionOf X → Bool
 is_over s = s.intake.lost || (s.detached.failed || s.detached.ended)
 
--- no item is open: so what follows can be read in any state
+-- no item is open: so the rest can be read in any state
 abbrev pub nothing_open_in : {X : Type 0} → SessionOf X → Bool
 nothing_open_in s = nothing_open s.detached.position.opened
 
@@ -57,11 +57,11 @@ abbrev pub keeps_on : {H : Type 0} → Reply H → Bool
 keeps_on KeepOn = true
 keeps_on other = false
 
--- after a call that read what waited: the rest of the text waits, and all else is as the piece left it
+-- after a call that read the waiting text: the rest of the text waits, and all else is as the piece left it
 abbrev pub intake_after : {X : Type 0} → Bool → SessionOf X → IntakeOf → List ℕ → IntakeOf
 intake_after all new taken left = record taken { text = left; unsettled = unsettled_after (all && nothing_open_in new) taken.unsettled }
 
--- all that was taken was read: where nothing is open the count begins anew, and a fault that was still to be said is said
+-- all that was taken was read: when nothing is open the count begins anew, and a fault that was still to be reported is reported
 pub record Settles {X : Type 0} (old new : SessionOf X) : Type 0 where
   pub kept : new ≡ record old { intake = new.intake }
   pub silent : old.intake.fault ≡ false → new.intake ≡ record old.intake { unsettled = unsettled_after (nothing_open_in old) old.intake.unsettled }
@@ -80,7 +80,7 @@ pub record IsCutShort (i : IntakeOf) : Type 0 where
   pub no_fault : i.fault ≡ false
   pub held : ¬ (IsComplete i)
 
--- a fault that was still to be said is said at the end
+-- a fault that was still to be reported is reported at the end
 pub record EndSaysFault {X : Type 0} (old new : SessionOf X) (place : ℕ) : Type 0 where
   pub read : old.intake.text ≡ []
   pub fault : old.intake.fault ≡ true
@@ -90,13 +90,13 @@ pub record EndSaysFault {X : Type 0} (old new : SessionOf X) (place : ℕ) : Typ
 module _ {X S H : Type 0} (means : Means X S H) where
   -- ---- what one feed of the text that waits does
 
-  -- from wherever the tokenizer stood, a beginning of the text was read, up to a pause or all of it, and the rest waits
+  -- from wherever the tokenizer stood, a prefix of the text was read, up to a pause or all of it, and the rest waits
   pub record FeedsText (old new : Tokenizing X) (text left : List ℕ) (reply : Reply H) : Type 0 where
     pub feeds : Feeds means old new text left reply
     pub items : FeedsItems means old new text left reply
     pub all : reply ≡ KeepOn → left ≡ []
     pub shorter : reply ≢ KeepOn → length left < length text
-    -- after a pause nothing is open: what follows is markup, unless the caller says otherwise
+    -- after a pause nothing is open: the rest is markup, unless the caller says otherwise
     pub paused : reply ≢ KeepOn → new.position.opened ≡ Between Data
     pub rules : new.rules ≡ old.rules
     pub not_failed : new.failed ≡ false
@@ -108,7 +108,8 @@ module _ {X S H : Type 0} (means : Means X S H) where
 
   -- ---- a feed
 
-  -- a piece was fed: of what waited and the text that was taken of the piece a beginning was read, up to this pause, and the rest waits
+  -- a piece was fed: of the waiting text and the text that was taken of the piece a prefix was read, up to this pause, and the rest
+  -- waits
   pub record FeedsPiece (old new : SessionOf X) (piece : Piece) (reply : Reply H) : Type 0 where
     pub text : List ℕ
     pub taken : IntakeOf
@@ -120,7 +121,8 @@ module _ {X S H : Type 0} (means : Means X S H) where
     pub kept : new ≡ record old { detached = new.detached; intake = new.intake }
     pub going_on : is_over new ≡ false
 
-  -- a piece was fed up to bytes in it, or in an earlier one, that are no UTF-8: all before them was read, and their place is said
+  -- a piece was fed up to bytes in it, or in an earlier one, that are not UTF-8: all before them was read, and their place is
+  -- reported
   pub record SaysFault (old new : SessionOf X) (piece : Piece) (place : ℕ) : Type 0 where
     pub text : List ℕ
     pub taken : IntakeOf
@@ -139,7 +141,7 @@ module _ {X S H : Type 0} (means : Means X S H) where
     pub takes : Takes old.references old.intake taken piece text
     pub stops : StopsText (tokenizer_of old) taken.text new.intake.text (means.state new.detached.sink)
 
-  -- a piece was lost to want of memory, before anything of it was read, or within that
+  -- memory ran out and a piece was lost, before anything of it was read, or within that
   pub record LosesPiece (old new : SessionOf X) (piece : Piece) : Type 0 where
     pub stops : (new.detached ≡ old.detached) ⊎ StopsPiece old new piece
     pub lost : new.intake.lost ≡ true
@@ -172,7 +174,7 @@ module _ {X S H : Type 0} (means : Means X S H) where
     pub kept : new ≡ record old { detached = new.detached }
     pub over : is_over new ≡ true
 
-  -- the end failed for want of memory, within what it would have sent
+  -- the end failed, out of memory, within what it would have sent
   pub record LosesEnd (old new : SessionOf X) : Type 0 where
     pub stops : StopsTextEnd (tokenizer_of old) (means.state new.detached.sink)
     pub read : AllRead old.intake
@@ -189,7 +191,7 @@ module _ {X S H : Type 0} (means : Means X S H) where
 
   -- ---- replies of the caller
 
-  -- what follows is read in this state, and all else is as it was
+  -- the rest is read in this state, and all else is as it was
   pub record SetsState (old new : SessionOf X) (state : State) : Type 0 where
     pub stands : StandsAt means (tokenizer_of new) (in_state old.detached.position state) (means.state old.detached.sink) []
     pub kept : new ≡ record old { detached = record old.detached { position = in_state old.detached.position state } }

@@ -53,7 +53,7 @@ impl<A: Allocator> Model for Intake<A> {
     ghost invariant = { λ i. i.fault ≡ true → i.page ≡ None };
 }
 
-// Feeds the tokenizer what waits, up to a pause.
+// Feeds the tokenizer the waiting text, up to a pause.
 fn feed_text<S: TokenSink<Token<A>>, A: Allocator + Copy>(
     references: &NamedReferences<A>,
     detached: DetachedTokenizer<S, A>,
@@ -167,7 +167,7 @@ impl<A: Allocator> Intake<A> {
         self.error_at
     }
 
-    /// Whether so many bytes more are within the limit, where so many wait in the sink.
+    /// Whether this many bytes more are within the limit, where that many wait in the sink.
     pub fn has_room(&self, waiting: usize, more: usize) -> bool
         ensures { result ≡ has_room self.now waiting more }
     {
@@ -206,7 +206,7 @@ impl<A: Allocator> Intake<A> {
         self.lost = lost;
     }
 
-    /// Says a fault, if one is still to be said: its place.
+    /// Says a fault, if one is still to be reported: its place.
     pub fn say_fault(&mut self) -> Option<u64>
         ensures said { MatchOption result (self.old.fault ≡ false)
             (λ place. (self.old.fault ≡ true) × (place ≡ self.old.decoder.taken)) }
@@ -268,7 +268,7 @@ impl<A: Allocator + Copy> Intake<A> {
         }
     }
 
-    // Puts a text after what waits, or loses it.
+    // Puts a text after the waiting text, or loses it.
     fn gain(&mut self, text: String<A>) -> Result<(), AllocError>
         ensures ok { OnOk result (self.new ≡ gains self.old (string_bytes text)) }
         ensures err { OnErr result (self.new.lost ≡ true) }
@@ -296,8 +296,9 @@ impl<A: Allocator + Copy> Intake<A> {
         self.gain(text)
     }
 
-    /// Takes a piece: its text comes after what waits. Bytes that are no UTF-8 are not taken, nor what stands after
-    /// them, and nothing more is until that is said (`say_fault`); where a page is decoded all are taken.
+    /// Takes a piece: its text comes after the waiting text. Bytes that are not UTF-8 are not taken, nor those
+    /// after them, and nothing more is until that is reported (`say_fault`). Where a page is decoded all are
+    /// taken.
     pub fn take(&mut self, references: &NamedReferences<A>, bytes: &[u8]) -> Result<(), AllocError>
         ensures takes { OnOk result (TakesPiece references.now self.old self.new (Bytes bytes.now)) }
         ensures refused { OnErr result (PieceRefused self.old self.new) }
@@ -312,7 +313,7 @@ impl<A: Allocator + Copy> Intake<A> {
         self.gain(text)
     }
 
-    /// Ends the bytes: where a page is decoded, the rest of its text comes after what waits.
+    /// Ends the bytes: where a page is decoded, the rest of its text comes after the waiting text.
     pub fn end_bytes(&mut self, references: &NamedReferences<A>) -> Result<(), AllocError>
         ensures takes { OnOk result (TakesPiece references.now self.old self.new TheEnd) }
         ensures refused { OnErr result (PieceRefused self.old self.new) }
@@ -329,7 +330,7 @@ impl<A: Allocator + Copy> Intake<A> {
         self.gain(text)
     }
 
-    /// Puts a text in front of what waits.
+    /// Puts a text in front of the waiting text.
     pub fn insert(&mut self, text: &str) -> Result<(), AllocError>
         ensures ok { OnOk result (self.new ≡ gains_front self.old text.now) }
         ensures err { OnErr result (self.new ≡ self.old) }
@@ -344,7 +345,7 @@ impl<A: Allocator + Copy> Intake<A> {
         }
     }
 
-    /// Feeds the tokenizer what waits, up to a pause. After an error the rest is lost.
+    /// Feeds the tokenizer the waiting text, up to a pause. After an error the rest is lost.
     pub fn feed<S: TokenSink<Token<A>>>(
         &mut self,
         references: &NamedReferences<A>,

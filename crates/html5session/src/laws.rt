@@ -12,7 +12,7 @@ ghost use Rattle.html5session.specs.Session.{EndRefused, EndsSession, FeedRefuse
 ghost use Rattle.html5session.specs.declared.error.SessionError.{SessionError};
 
 /// A text is read alike however many bytes of the records were taken. It tells the same, a feed pauses at the same tag,
-/// and what follows the text is read from the same start.
+/// and the text after it is read from the same start.
 pub fn readings_ignore_taking()
     ensures told { (rules : Rules) (K : Start) (r : Recorded) (count : ℕ) (text : List ℕ) →
         messages_so_far recorded_means rules K (taking r count) text
@@ -32,7 +32,7 @@ pub fn readings_ignore_taking()
 {}
 
 /// A feed and an end of a session whose sink writes records take none of them, and write after what was written. So the
-/// next bytes that are taken go on where the last ones ended. That holds also where they are refused.
+/// next bytes that are taken go on where the last ones ended. That holds also if they are refused.
 pub fn records_wait_on()
     ensures feeds { (old new : RecordSessionOf) (piece : Piece) (reply : Reply PausedAt) → is_over old ≡ false
         → FeedsPiece recorded_means old new piece reply → WritesOn (recorded_by old) (recorded_by new) }

@@ -29,8 +29,8 @@ impl<A: Allocator> Session<RecordSink<A>, A> {
         self.detached.sink.take(into)
     }
 
-    /// Sets whether the current node is outside the HTML namespace, so that `<![CDATA[` begins a section in what
-    /// follows. A tree builder that replies to each tag sets it before it goes on, where its answer changes.
+    /// Sets whether the current node is outside the HTML namespace, so that `<![CDATA[` begins a section from
+    /// here on. A tree builder that replies to each tag sets it before it goes on, where its answer changes.
     pub fn set_foreign(&mut self, foreign: bool)
         ensures { SetsForeign self.old self.new foreign }
     {

@@ -83,8 +83,8 @@ impl<S, A: Allocator> Session<S, A> {
         self.intake.error_at()
     }
 
-    /// Whether a piece of so many bytes is within the limit (`set_limit`), where so many bytes wait in the sink. What
-    /// is held counts: the text that came since all was read and nothing was open.
+    /// Whether a piece of that many bytes is within the limit (`set_limit`), where this many wait in the sink. Held
+    /// text counts: what came since all was read and nothing was open.
     pub fn has_room(&self, waiting: usize, more: usize) -> bool
         ensures { result ≡ has_room self.now.intake waiting more }
     {
@@ -112,7 +112,7 @@ impl<S, A: Allocator> Session<S, A> {
         self.intake.is_unbegun()
     }
 
-    /// Takes the bytes of the page by this decoder: then none is refused. Where there is none they are to be UTF-8.
+    /// Takes the bytes of the page by this decoder: then none is refused. If there is none, they are to be UTF-8.
     pub fn set_page_decoder(&mut self, page: Option<PageDecoder<A>>)
         requires { IsUnbegun self.old.intake }
         ensures { self.new ≡ record self.old { intake = record self.old.intake { page = page } } }
@@ -167,7 +167,7 @@ impl<S: TokenSink<Token<A>>, A: Allocator + Copy> Session<S, A> {
         }
     }
 
-    /// The decoder of another page of which the same is said as of this one, where a decoder takes the bytes.
+    /// The decoder of another page with the same declared encoding, where a decoder takes the bytes.
     pub fn page_decoder_again(&self) -> Option<PageDecoder<A>>
         ensures { result ≡ page_again self.now.intake }
     {
@@ -198,7 +198,7 @@ impl<S: TokenSink<Token<A>>, A: Allocator + Copy> Session<S, A> {
         }
     }
 
-    // Feeds the tokenizer what waits, up to a pause.
+    // Feeds the tokenizer the waiting text, up to a pause.
     fn feed_waiting(
         self,
     ) -> (
@@ -228,7 +228,7 @@ impl<S: TokenSink<Token<A>>, A: Allocator + Copy> Session<S, A> {
         (session, answer)
     }
 
-    // All that was taken was read: a fault that is still to be said is said.
+    // All that was taken was read: a fault that is still to be reported is reported.
     fn settle(
         mut self,
     ) -> (
@@ -274,13 +274,14 @@ impl<S: TokenSink<Token<A>>, A: Allocator + Copy> Session<S, A> {
         }
     }
 
-    /// Takes a piece of the page, cut anywhere, and reads on, up to the first tag after which the sink asks to pause. Then
-    /// the rest of the text waits: text may be put in front of it, and the next feed goes on with it, also one of no bytes.
+    /// Takes a piece of the page, cut anywhere, and reads on, up to the first tag after which the sink asks to pause.
+    /// Then the rest of the text waits: text may be put in front of it, and the next feed goes on with it, also one of
+    /// no bytes.
     ///
-    /// Where bytes of the piece are no UTF-8, those before them are taken and read, and then the answer is `NotUtf8`. Where
-    /// that reading pauses, the pause comes first: then no feed takes anything, until all that waits was read and `NotUtf8`
-    /// was answered. After `Memory` the session is as it was, or it is over and the piece is lost. Where a decoder takes the
-    /// bytes none are refused, and the text that is read is what it gives.
+    /// Where bytes of the piece are not UTF-8, those before them are taken and read, and then the answer is `NotUtf8`.
+    /// Where that reading pauses, the pause comes first: then no feed takes anything, until all that waits was read and
+    /// `NotUtf8` was answered. After `Memory` the session is as it was, or it is over and the piece is lost. Where a
+    /// decoder takes the bytes none are refused, and the text that is read is what it gives.
     pub fn feed(
         mut self,
         bytes: &[u8],
@@ -301,8 +302,9 @@ impl<S: TokenSink<Token<A>>, A: Allocator + Copy> Session<S, A> {
         self.read_on()
     }
 
-    /// Ends the bytes of the page, before the page is ended (`end`): where a decoder takes them the rest of their text is
-    /// read, as at a feed. What is fed after that is decoded anew, in the same encoding. Where none does nothing is taken.
+    /// Ends the bytes of the page, before the page is ended (`end`): where a decoder takes them the rest of their text
+    /// is read, as at a feed. What is fed after that is decoded anew, in the same encoding. If none does, nothing is
+    /// taken.
     pub fn end_bytes(
         mut self,
     ) -> (
@@ -322,7 +324,7 @@ impl<S: TokenSink<Token<A>>, A: Allocator + Copy> Session<S, A> {
         self.read_on()
     }
 
-    /// Puts a text in front of what waits, as `document.write` does. It is read at the next feed.
+    /// Puts a text in front of the waiting text, as `document.write` does. It is read at the next feed.
     pub fn insert(&mut self, text: &str) -> Result<(), SessionError>
         ensures ok { OnOk result (self.new ≡ record self.old { intake = gains_front self.old.intake text.now }) }
         ensures err { OnErr result (self.new ≡ self.old) }
@@ -338,7 +340,7 @@ impl<S: TokenSink<Token<A>>, A: Allocator + Copy> Session<S, A> {
         }
     }
 
-    /// Reads what follows in the state, as a tree builder asks after a start tag at which it paused. Raw text is read up
+    /// Reads the rest in the state, as a tree builder asks after a start tag at which it paused. Raw text is read up
     /// to the end tag of the last start tag. It is refused, and changes nothing, while a tag or another item is open.
     pub fn set_state(&mut self, state: State) -> Result<(), SessionError>
         requires { CanStart (Some state) }
@@ -382,8 +384,9 @@ impl<S: TokenSink<Token<A>>, A: Allocator + Copy> Session<S, A> {
         (session, result)
     }
 
-    /// Ends the page. It is refused, and changes nothing, while text waits, and where the bytes so far end within a
-    /// character or, where a decoder takes them, were not ended (`end_bytes`). A fault that is still to be said is said.
+    /// Ends the page. It is refused, and changes nothing, while text waits. So it is if the bytes so far end within a
+    /// character or, where a decoder takes them, were not ended (`end_bytes`). A fault that is still to be reported is
+    /// reported.
     pub fn end(mut self) -> (Session<S, A>, Result<(), SessionError>)
         ensures ends { OnOk result.1 (EndsSession S.means self result.0) }
         ensures refused { IfErr result.1 (λ error. EndRefused S.means self result.0 error) }

@@ -33,11 +33,11 @@
 //! ```
 //!
 //! Such a handler does not reply to tags. Its sink gives the replies of `replies::standard_reply`, so
-//! that what stands after a start tag is read as the standard reads it after that element. After
-//! `title` and `textarea` that is RCDATA, after `style`, `xmp`, `iframe`, `noembed` and `noframes`
-//! RAWTEXT, after `script` script data, after `plaintext` plain text, and after any other tag
-//! markup. The tokenizer is never paused. A handler that is to reply otherwise is a
-//! `tags::ReplyingTagHandler` or a `text_runs::ReplyingTokenHandler`.
+//! that the text after a start tag is read as the standard reads it after that element. After `title`
+//! and `textarea` that is RCDATA, after `style`, `xmp`, `iframe`, `noembed` and `noframes` RAWTEXT,
+//! after `script` script data, after `plaintext` plain text, and after any other tag markup. The
+//! tokenizer is never paused. A handler that is to reply otherwise is a `tags::ReplyingTagHandler` or a
+//! `text_runs::ReplyingTokenHandler`.
 #![tactic(auto)]
 
 pub mod pausing;

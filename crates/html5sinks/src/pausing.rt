@@ -66,7 +66,7 @@ fn reply_to_end<A: Allocator>(name: &str) -> TokenSinkResult<(), String<A>>
 
 /// The reply to a token. To a start tag `meta` with an attribute `charset` it is to switch the encoding,
 /// and to an end tag `script` to run the script. To any other tag it is what `standard_reply` gives. The
-/// first two pause the tokenizer. The only error is want of memory, for the name of the encoding.
+/// first two pause the tokenizer. The only error is out of memory, for the name of the encoding.
 #[inline(always)]
 pub fn pausing_reply<A: Allocator + Copy>(
     token: &Token<A>,

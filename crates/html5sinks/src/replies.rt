@@ -45,8 +45,8 @@ fn reply_to_raw_text<A: Allocator>(kind: Option<RawKind>) -> TokenSinkResult<(),
     }
 }
 
-/// What is replied to a start tag of this name, so that what stands after it is read as the standard
-/// reads it: raw text, plain text after `plaintext`, or else markup.
+/// The reply to a start tag of this name, so that the text after it is read as the standard reads
+/// it. That is raw text, plain text after `plaintext`, or else markup.
 #[tactic(auto, unfolding(crate::specs::Replies::standard_reply_to_start))]
 pub fn standard_reply_to_start<A: Allocator>(name: &str) -> TokenSinkResult<(), String<A>>
     ensures { reply_of string_bytes result ≡ standard_reply_to_start name.now }

@@ -80,8 +80,8 @@ pub trait ReplyingTagHandler<T: SaysTag> {
     // What is replied to a tag.
     ghost reply: { State → TagOf → ℕ → Reply Self.Handle };
 
-    /// Takes a tag, as `take_tag` of `TagHandler` does, and replies to it: to read on, to read raw or
-    /// plain text after a start tag, or to pause for a script or an encoding.
+    /// Takes a tag, as `take_tag` of `TagHandler` does, and replies to it. The reply is to read on, to
+    /// read raw or plain text after a start tag, or to pause for a script or an encoding.
     fn answer_tag(
         &mut self,
         tag: T,
@@ -120,8 +120,8 @@ impl<H: TagHandler<Tag<A>>, A: Allocator> ReplyingTagHandler<Tag<A>> for H {
     }
 }
 
-/// Hands tags on to a handler, and nothing else. What stands in `script`, `style`, `title` and their
-/// like is no markup, unless the handler replies otherwise.
+/// Hands tags on to a handler, and nothing else. The content of `script`, `style`, `title` and their
+/// like is not markup, unless the handler replies otherwise.
 #[derive(Drop)]
 pub struct TagsOnly<H> {
     handler: H,

@@ -28,7 +28,7 @@ pub trait TokenHandler<T: Says> {
 
     ghost step: { State → List ℕ → Told → ℕ → State };
 
-    /// Takes a run, empty where there was no text, with the token after it and the number of the line
+    /// Takes a run, empty if there was no text, with the token after it and the number of the line
     /// that the tokenizer has reached. The token is no text: the end brings the last run. A parse error
     /// does not end a run, and comes at once, with an empty one. An `Err` refuses what was handed, and
     /// the tokenizer stops: the state is then unchanged, as if nothing had been handed.

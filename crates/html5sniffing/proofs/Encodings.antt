@@ -1,4 +1,4 @@
--- Which bytes are UTF-8 but for a cut character.
+-- Which bytes are UTF-8 except for a cut character.
 use Rattle.std.proofs.Common.{◌≡◌, ℕ, Bool, true, false, List, length, drop, Option, refl, sym, ap, ◌∙◌}
 use Rattle.std.specs.Prelude.{◌==◌, ◌&&◌, ◌||◌, is_none}
 use Rattle.std.specs.Str.{IsUtf8, is_utf8}

@@ -20,7 +20,7 @@ step-stop : (t : Bool) (x : ℕ) (xs ys : List ℕ) → is_plain x ≡ t → (li
 step-stop true x xs ys here later is = rw here (ap (λ n. 1 + n) (later is))
 step-stop false x xs ys here later is = rw here refl
 
--- where one of them is not, what follows counts for nothing
+-- if one of them is not, the rest counts for nothing
 plain-stop : (xs ys : List ℕ) → list_all is_plain xs ≡ false → plain (xs ++ ys) ≡ plain xs
 plain-stop [] ys is = absurd (false≢true (sym is))
 plain-stop (x ∷ xs) ys is = step-stop (is_plain x) x xs ys refl (plain-stop xs ys) is

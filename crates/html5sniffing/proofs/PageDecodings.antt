@@ -79,7 +79,7 @@ module _ (references : List NamedReference) (d : PageDecoding) where
     fallback = refl;
   }
 
-  -- what is held is the page
+  -- the held bytes are the page
   text-held : (e : Encoding) → d.known ≡ None → e ≡ by d.held
       → encode_utf8_all (given (start e) d.held) ++ encode_utf8_all (at_end (state_after (start e) d.held)) ≡ text_with references d []
   text-held e unknown is =

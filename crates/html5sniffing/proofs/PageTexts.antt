@@ -27,7 +27,7 @@ whole-consumed text (Some x) (Some y) bytes is given end =
     let same : x ≡ text = cc is in
     sym same ∙ given ∙ ap (λ l. bytes ++ l) end
 
--- text that was read in part is a beginning of it
+-- text that was read in part is a prefix of it
 part-consumed : (text : List ℕ) (unread left : Option (List ℕ)) (front rest : List ℕ) → unread ≡ Some text → Consumes unread left (front ++ rest)
     → (later : List ℕ) × (text ≡ (front ++ later) ++ [])
 part-consumed text None left front rest is given = absurd (cc is)

@@ -16,12 +16,12 @@ use Rattle.html5encodings.specs.declared.encoding.SingleByte.TheVariants.{Window
 abbrev pub begins_with_charset : List ℕ → Bool
 begins_with_charset bytes = str_eq_ignore_ascii_case (take 7 bytes) (codes "charset")
 
--- what follows an equals sign at the front, and ASCII white space after it
+-- the bytes after an equals sign at the front, and ASCII white space after it
 abbrev pub after_equals : List ℕ → Option (List ℕ)
 after_equals [] = None
 after_equals (byte ∷ bytes) = if byte == 0x3D then Some (without_leading bytes) else None
 
--- what follows the word "charset" and an equals sign at the front, with or without ASCII white space before and after the sign
+-- the bytes after the word "charset" and an equals sign at the front, with or without ASCII white space before and after the sign
 abbrev pub after_charset_equals : List ℕ → Option (List ℕ)
 after_charset_equals bytes = if begins_with_charset bytes then after_equals (without_leading (drop 7 bytes)) else None
 
@@ -30,7 +30,7 @@ unfoldable pub after_first_charset_equals : List ℕ → Option (List ℕ)
 after_first_charset_equals [] = None
 after_first_charset_equals (byte ∷ bytes) = option_or (after_charset_equals (byte ∷ bytes)) (after_first_charset_equals bytes)
 
--- the bytes up to the first one that is this quote, where there is one
+-- the bytes up to the first one that is this quote, if there is one
 abbrev pub up_to_quote : ℕ → List ℕ → Option (List ℕ)
 up_to_quote quote bytes = option_map (λ n. take n bytes) (position (λ byte. byte == quote) bytes)
 

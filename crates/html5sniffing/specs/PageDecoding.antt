@@ -9,7 +9,7 @@ use Rattle.html5sniffing.specs.declared.page_decoder.Known.{Known}
 use Rattle.markup5ever.specs.NamedReferences.{NamedReference}
 
 pub record PageDecoding : Type 0 where
-  -- what is said of the page, and its encoding where nothing tells
+  -- the encoding declared for the page, and its encoding if nothing tells
   pub said : Option Encoding
   pub fallback : Option Encoding
   -- the bytes that were pushed, while the encoding isn't known
@@ -27,7 +27,7 @@ pub record IsUnbegun (d : PageDecoding) : Type 0 where
   pub none_held : d.held ≡ []
   pub unknown : d.known ≡ None
 
--- what is held while the encoding isn't known is less than the front
+-- the bytes held while the encoding isn't known are less than the front
 abbrev pub HoldsFront : Option Known → List ℕ → Type 0
 HoldsFront None held = length held < 65536
 HoldsFront (Some known) held = held ≡ []

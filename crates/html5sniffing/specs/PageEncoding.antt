@@ -26,7 +26,7 @@ marked bytes = option_map (λ mark. mark.0) (bom_of bytes)
 unfoldable pub is_utf8_front : List ℕ → Bool
 is_utf8_front front = is_utf8 front || (length front == 1024 && is_none (utf8_error_len (drop (utf8_valid_len front) front)))
 
--- the encoding of a page of which nothing is said
+-- the encoding of a page without a declared one
 abbrev pub default_of : Option Encoding → List ℕ → Encoding
 default_of (Some encoding) front = encoding
 default_of None front = if is_utf8_front front then encoding.Utf8 else encoding.SingleByte Windows1252
@@ -65,7 +65,7 @@ hint_in tentative references front = option_or (utf16_declared front) (option_or
 abbrev pub hinted : List NamedReference → Option Encoding → List ℕ → Encoding
 hinted references fallback front = let tentative : Encoding = default_of fallback front in unwrap_or (hint_in tentative references front) tentative
 
--- The encoding of a page with this front: by its byte order mark; else what is said of it, as by a header of the transport; else the
+-- The encoding of a page with this front: by its byte order mark; else the declared one, as by a header of the transport; else the
 -- hint in it; else the default.
 unfoldable pub encoding_of_page : List NamedReference → Option Encoding → Option Encoding → List ℕ → Encoding
 encoding_of_page references said fallback front = unwrap_or (option_or (marked front) said) (hinted references fallback front)

@@ -14,7 +14,7 @@ utf16_declared bytes =
     else if starts_with nat_eq bytes (0 ∷ 0x3C ∷ 0 ∷ 0x3F ∷ 0 ∷ 0x78 ∷ []) then Some encoding.Utf16Be
     else None
 
--- what follows these bytes at the front
+-- the bytes after these at the front
 abbrev pub after_front : List ℕ → List ℕ → Option (List ℕ)
 after_front front bytes = if starts_with nat_eq bytes front then Some (drop (length front) bytes) else None
 
@@ -22,7 +22,7 @@ after_front front bytes = if starts_with nat_eq bytes front then Some (drop (len
 abbrev pub declaration : List ℕ → Option (List ℕ)
 declaration bytes = option_and_then (up_to_quote 0x3E) (after_front (codes "<?xml") bytes)
 
--- what follows the first `encoding`
+-- the bytes after the first `encoding`
 unfoldable pub after_encoding : List ℕ → Option (List ℕ)
 after_encoding [] = None
 after_encoding (byte ∷ bytes) = option_or (after_front (codes "encoding") (byte ∷ bytes)) (after_encoding bytes)

@@ -53,7 +53,7 @@ fn rest_of(bytes: &[u8], place: usize) -> &[u8]
     &bytes[place..]
 }
 
-// Whether no more is looked at than so many bytes, the last of which are plain or not.
+// Whether no more is looked at than this many bytes, the last of which are plain or not.
 fn is_past(len: usize, goes_on: bool) -> bool
     ensures { result ≡ (nat_le 65536 len || not goes_on) }
 {
@@ -123,7 +123,7 @@ impl<A: Allocator + Copy> Front<A> {
         whole
     }
 
-    /// Lets all bytes go but so many.
+    /// Drops all bytes but this many.
     pub fn truncate(&mut self, len: usize)
         ensures { self.new.bytes ≡ take len self.old.bytes }
     {

@@ -55,7 +55,7 @@ impl<S, A: Allocator> Fronted<S, A> {
         }
     }
 
-    // Takes bytes of the front, and answers how many: none only where none wait, or there is no room.
+    // Takes bytes of the front, and answers how many: 0 only if none wait, or there is no room.
     fn take(&mut self, into: &mut [u8]) -> usize
         ensures bound { result ≤ length into.new }
         ensures taken { self.old.waiting ≡ take result into.new ++ self.new.waiting }

@@ -37,7 +37,7 @@ fn begins_with_charset(bytes: &[u8]) -> bool
     is_one_word(&bytes[..front], b"charset")
 }
 
-// What follows an equals sign at the front.
+// The bytes after an equals sign at the front.
 fn after_equals(bytes: &[u8]) -> Option<&[u8]>
     ensures { option_map (λ rest. rest.now) result ≡ after_equals bytes.now }
 {
@@ -51,7 +51,7 @@ fn after_equals(bytes: &[u8]) -> Option<&[u8]>
     }
 }
 
-// What follows the word `charset` and an equals sign at the front.
+// The bytes after the word `charset` and an equals sign at the front.
 fn after_charset_equals(bytes: &[u8]) -> Option<&[u8]>
     ensures { option_map (λ rest. rest.now) result ≡ after_charset_equals bytes.now }
 {
@@ -139,7 +139,7 @@ fn label_in(content: &[u8]) -> Option<&[u8]>
     label_at(after_first_charset_equals(content)?)
 }
 
-/// The encoding that the bytes of a label name. A label that is no text names none.
+/// The encoding that the bytes of a label name. A label that is not text names none.
 pub fn encoding_of(label: &[u8]) -> Option<Encoding>
     ensures { result ≡ encoding_of label.now }
 {

@@ -16,7 +16,7 @@ use markup5ever::data::NamedReferences;
 use std::alloc::Allocator;
 
 /// Reads a page in any encoding, as `read_tags` reads a text. The encoding is determined by the first bytes, as
-/// `sniff` does, and bytes that are none of it are read as U+FFFD. The handler is called once.
+/// `sniff` does, and bytes that are invalid in it are read as U+FFFD. The handler is called once.
 pub fn read_tags_of_bytes<R: Source, H: TagHandler<Tag<A>>, A: Allocator + Copy>(
     alloc: A,
     source: &mut R,
@@ -44,7 +44,7 @@ pub fn read_tags_of_bytes<R: Source, H: TagHandler<Tag<A>>, A: Allocator + Copy>
 }
 
 /// Reads a page in any encoding, as `read_tokens` reads a text. The encoding is determined by the first bytes, as
-/// `sniff` does, and bytes that are none of it are read as U+FFFD. The handler is called once.
+/// `sniff` does, and bytes that are invalid in it are read as U+FFFD. The handler is called once.
 pub fn read_tokens_of_bytes<R: Source, H: TokenHandler<Token<A>>, A: Allocator + Copy>(
     alloc: A,
     source: &mut R,

@@ -19,7 +19,7 @@ pub struct Known {
 }
 
 /// Makes a text of the bytes of a page that are pushed, cut anywhere. Its first bytes are held until they tell which
-/// encoding it is in, as `sniff` does. Bytes that are none of it give U+FFFD.
+/// encoding it is in, as `sniff` does. Bytes that are invalid in it give U+FFFD.
 #[derive(Drop)]
 pub struct PageDecoder<A: Allocator = Global> {
     alloc: A,
@@ -53,7 +53,7 @@ struct Opened<A: Allocator> {
     text: String<A>,
 }
 
-// Decodes bytes that are the front of a page and what follows, or all of it.
+// Decodes bytes that are the front of a page and the bytes after it, or all of it.
 fn open_bytes<A: Allocator + Copy>(
     alloc: A,
     references: &NamedReferences<A>,
@@ -122,8 +122,8 @@ impl<A: Allocator> PageDecoder<A> {
 }
 
 impl<A: Allocator + Copy> PageDecoder<A> {
-    /// The decoder of a page of which this encoding is said, as by a header of the transport, and which is in the
-    /// other where nothing tells.
+    /// The decoder of a page for which this encoding is declared, as by a header of the transport, and which is in the
+    /// other if nothing tells.
     pub fn new(alloc: A, said: Option<Encoding>, fallback: Option<Encoding>) -> PageDecoder<A>
         ensures { result ≡ page_start said fallback }
     {
@@ -137,7 +137,7 @@ impl<A: Allocator + Copy> PageDecoder<A> {
         }
     }
 
-    /// The decoder of another page of which the same is said.
+    /// The decoder of another page with the same declared encoding.
     pub fn restarted(&self) -> PageDecoder<A>
         ensures { result ≡ page_start self.now.said self.now.fallback }
     {
@@ -199,7 +199,7 @@ impl<A: Allocator + Copy> PageDecoder<A> {
         Ok(text)
     }
 
-    // Ends the bytes where the encoding isn't known: what is held is the page.
+    // Ends the bytes when the encoding isn't known: the held bytes are the page.
     fn finish_front(&mut self, references: &NamedReferences<A>) -> Result<String<A>, AllocError>
         requires { self.old.known ≡ None }
         ensures text { IfOk result (λ text. string_bytes text ≡ text_with references.now self.old []) }

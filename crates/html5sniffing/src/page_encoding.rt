@@ -104,7 +104,7 @@ fn is_utf8_front(front: &[u8]) -> bool
     }
 }
 
-// The encoding of a page of which nothing is said.
+// The encoding of a page without a declared one.
 fn default_of(fallback: Option<Encoding>, front: &[u8]) -> Encoding
     ensures { result ≡ default_of fallback front.now }
 {
@@ -139,10 +139,10 @@ fn hinted<A: Allocator + Copy>(
     Ok(hint.unwrap_or(tentative))
 }
 
-/// The encoding of a page, by the first bytes of it, as many as `FRONT_LEN` or all: a byte order mark; else
-/// what is said of it, as by a header of the transport; else a hint in it, by an XML declaration in UTF-16, a
-/// `meta` or an XML declaration, in this order; else the fallback; else UTF-8 where these bytes are UTF-8, and
-/// windows-1252.
+/// The encoding of a page, by the first bytes of it, as many as `FRONT_LEN` or all. It goes by a byte order mark;
+/// else by the declared one, as by a header of the transport; else by a hint in it. That is an XML declaration
+/// in UTF-16, a `meta` or an XML declaration, in this order. Else it is the fallback; else UTF-8 where these
+/// bytes are UTF-8, and windows-1252.
 pub fn sniff<A: Allocator + Copy>(
     alloc: A,
     references: &NamedReferences<A>,

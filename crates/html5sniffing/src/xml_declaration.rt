@@ -25,7 +25,7 @@ pub(crate) fn utf16_declared(bytes: &[u8]) -> Option<Encoding>
     }
 }
 
-// What follows these bytes at the front.
+// The bytes after these at the front.
 fn after_front<'t>(front: &[u8], bytes: &'t [u8]) -> Option<&'t [u8]>
     ensures { option_map (λ rest. rest.now) result ≡ after_front front.now bytes.now }
 {
@@ -43,7 +43,7 @@ fn declaration(bytes: &[u8]) -> Option<&[u8]>
     up_to_quote(b'>', after_front(b"<?xml", bytes)?)
 }
 
-// What follows the first `encoding`.
+// The bytes after the first `encoding`.
 #[tactic(auto, unfolding(crate::specs::XmlDeclaration::after_encoding))]
 fn after_encoding(mut bytes: &[u8]) -> Option<&[u8]>
     ensures { option_map (λ rest. rest.now) result ≡ after_encoding bytes.entry.now }

@@ -10,7 +10,7 @@ use Rattle.html5splice.specs.Cuts.{CutOf, between, cut_at, cut_text, cuts_of}
 use Rattle.html5splice.proofs.Bytes.{between-append, between-join, between-none}
 use Rattle.html5splice.specs.Splicing.{end_of}
 
--- a token lies within so many bytes
+-- a token lies within this many bytes
 pub record Lies (n : ℕ) (p : Placed) : Type 0 where
   pub run : p.places.text ≤ p.places.begin
   pub token : p.places.begin ≤ p.places.end

@@ -149,7 +149,7 @@ module _ {S : Type 0} (splices : Splices S) where
       follow-later : follow (end_of 0 (tokens before)) (next ++ last) ≡ true
       follow-later = follow-second 0 (tokens before) (next ++ last) (subst (λ l. follow 0 l ≡ true) tokens-both (all-follow rules K both))
 
-      -- a beginning of the tokens to come leads on
+      -- a prefix of the tokens to come leads on
       pub led-on : (a b : List Placed) → next ++ last ≡ a ++ b
           → handed_on (splicing_step splices) (grown (led_by splices (encode_utf8_all before) s w 0 (tokens before)) (encode_utf8_all more)) a
           ≡ led_by splices (encode_utf8_all both) s w 0 (tokens before ++ a)
@@ -159,7 +159,7 @@ module _ {S : Type 0} (splices : Splices S) where
           (follow-first (end_of 0 (tokens before)) a b (subst (λ l. follow (end_of 0 (tokens before)) l ≡ true) is follow-later))
           ∙ ap (λ l. led_by splices l s w 0 (tokens before ++ a)) (sym bytes-both)
 
-      -- and where it stops there, a beginning of the text was written
+      -- and where it stops there, a prefix of the text was written
       pub stops-on : (a b : List Placed) (after : List ℕ) → next ++ last ≡ a ++ b
           → after ≡ (handed_on (splicing_step splices) (grown (led_by splices (encode_utf8_all before) s w 0 (tokens before)) (encode_utf8_all more)) a).written
           → WritesBeginning splices rules K s w both after
@@ -174,7 +174,7 @@ module _ {S : Type 0} (splices : Splices S) where
       abbrev ending : List Placed
       ending = placed_at_end rules (at_first_byte K) text
 
-      -- a beginning of the tokens that the end tells leads on
+      -- a prefix of the tokens that the end tells leads on
       pub led-end : (a b : List Placed) → ending ≡ a ++ b
           → handed_on (splicing_step splices) (led_by splices (encode_utf8_all text) s w 0 (tokens text)) a
           ≡ led_by splices (encode_utf8_all text) s w 0 (tokens text ++ a)

@@ -16,7 +16,7 @@ module _ {S : Type 0} (splices : Splices S) where
   abbrev at_place : List ℕ → S → List ℕ → ℕ → Splicing S
   at_place bytes s written base = record { splicer = s; written = written; window = waiting_from bytes base }
 
-  -- the cut at the front of what waits is that of the bytes
+  -- the cut at the front of the waiting text is that of the bytes
   front-is : (bytes : List ℕ) (base : ℕ) (p : Placed) → p.places.text ≡ base → Lies (length bytes) p → front_cut (waiting_from bytes base) p ≡ cut_at bytes p
   front-is bytes base p at lies =
       let run = lies.run in

@@ -20,7 +20,7 @@ text-of_cuts rules K text clean =
     ∙ ap (λ n. take n bytes) {x = length bytes - 0} {y = length bytes} (omega arith)
     ∙ take_all (length bytes) bytes (omega arith)
 
--- where nothing is replaced, what is written is the cuts
+-- when nothing is replaced, what is written is the cuts
 pub nothing-replaced : {S : Type 0} (splices : Splices S) → ((t : S) (cut : CutOf) → splices.edits t cut ≡ no_edits) → (s : S) (all : List CutOf)
     → concat (parts splices s all) ≡ flat_map cut_text all
 unfolding parts

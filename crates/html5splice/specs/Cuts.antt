@@ -1,4 +1,4 @@
--- A text as its tokens cut it: each token as it is written, with the run of text before it as that is written. Texts are the bytes of their
+-- A text as its tokens cut it: the source of each token, with the source of the run of text before it. Texts are the bytes of their
 -- UTF-8.
 use Rattle.std.specs.Prelude.{ℕ, ◌-◌, List, [], ◌∷◌, ◌++◌, drop, encode_utf8_all, take, if◌then◌else◌}
 use Rattle.html5ever_interface.specs.Token.{Told}
@@ -8,11 +8,11 @@ use Rattle.html5reading.specs.Start.{Rules, Start}
 
 -- a token and the run of text before it
 pub record CutOf : Type 0 where
-  -- the run as it is written, with its references and with what tells no token, as `</>`
+  -- the source of the run, with its references and with what tells no token, as `</>`
   pub run : List ℕ
   -- the text that it tells
   pub text : List ℕ
-  -- the token as it is written
+  -- the source of the token
   pub source : List ℕ
   pub token : Told
   -- the line that was reached
@@ -37,7 +37,7 @@ unfoldable pub cuts_of : List ℕ → List Placed → List CutOf
 cuts_of bytes [] = []
 cuts_of bytes (p ∷ placed) = if is_error p.token then cuts_of bytes placed else (cut_at bytes p ∷ cuts_of bytes placed)
 
--- A text as its tokens cut it. The last of them is the end, which is written as nothing. So the last run is what stands after the last other
+-- A text as its tokens cut it. The last of them is the end, which is written as nothing. So the last run is the text after the last other
 -- token.
 abbrev pub cuts : Rules → Start → List ℕ → List CutOf
 cuts rules K text = cuts_of (encode_utf8_all text) (placed_tokens rules K text)

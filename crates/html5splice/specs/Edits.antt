@@ -7,14 +7,14 @@ use Rattle.html5splice.specs.declared.edit.Edit.{Edit}
 use Rattle.html5splice.specs.declared.edit.Edit.TheVariants as edit
 use Rattle.html5splice.specs.declared.edit.Edits.{Edits}
 
--- what becomes of a run, or of a token
+-- what happens to a run, or to a token
 pub data EditOf : Type 0 where
-  -- it stays as it is written
+  -- it stays unchanged
   Keep : EditOf
   -- this text takes its place
   Replace : List ℕ → EditOf
 
--- what becomes of a run and of the token after it
+-- what happens to a run and to the token after it
 pub record EditsOf : Type 0 where
   pub run : EditOf
   pub token : EditOf

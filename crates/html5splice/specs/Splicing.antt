@@ -22,13 +22,13 @@ pub record Waiting : Type 0 where
   pub bytes : List ℕ
   pub base : ℕ
 
--- a splicer, what it is written to, and what waits
+-- a splicer, its output, and the waiting text
 pub record Handler (H O : Type 0) : Type 0 where
   pub splicer : H
   pub output : O
   pub window : Waiting
 
--- a splicer's state, what was written, and what waits
+-- a splicer's state, what was written, and the waiting text
 pub record Splicing (S : Type 0) : Type 0 where
   pub splicer : S
   pub written : List ℕ
@@ -37,7 +37,7 @@ pub record Splicing (S : Type 0) : Type 0 where
 abbrev pub splicing_of : {H O S : Type 0} → (H → S) → (O → List ℕ) → Handler H O → Splicing S
 splicing_of state written handler = record { splicer = state handler.splicer; written = written handler.output; window = handler.window }
 
--- the run at the front of what waits, and the token after it
+-- the run at the front of the waiting text, and the token after it
 abbrev pub run_at : Waiting → Placed → List ℕ
 run_at window p = take (p.places.begin - window.base) window.bytes
 
@@ -47,7 +47,7 @@ source_at window p = take (p.places.end - p.places.begin) (drop (p.places.begin 
 abbrev pub front_cut : Waiting → Placed → CutOf
 front_cut window p = record { run = run_at window p; text = p.run; source = source_at window p; token = p.token; line = p.line }
 
--- what waits after a token
+-- the waiting text after a token
 abbrev pub window_after : Waiting → Placed → Waiting
 window_after window p = record { bytes = drop (p.places.end - window.base) window.bytes; base = p.places.end }
 
@@ -99,7 +99,7 @@ module _ {S : Type 0} (splices : Splices S) where
   abbrev pub text_parts : Rules → Start → S → List ℕ → List (List ℕ)
   text_parts rules K s text = parts splices s (cuts rules K text)
 
-  -- a beginning of that was written after these bytes
+  -- a prefix of that was written after these bytes
   pub record WritesBeginning (rules : Rules) (K : Start) (s : S) (written text after : List ℕ) : Type 0 where
     pub front : List (List ℕ)
     pub back : List (List ℕ)

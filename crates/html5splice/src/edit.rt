@@ -4,16 +4,16 @@ ghost use Rattle.html5splice.specs.Edits.{edits_by, no_edits};
 
 use std::alloc::{Allocator, Global};
 
-/// What becomes of a run of text, or of a token.
+/// What happens to a run of text, or to a token.
 #[derive(Drop)]
 pub enum Edit<A: Allocator = Global> {
-    /// It stays as it is written, to the byte.
+    /// It stays unchanged, to the byte.
     Keep,
     /// This text takes its place. It is written as it is: what is to be read as text is escaped by who replaces.
     Replace(String<A>),
 }
 
-/// What becomes of a run of text and of the token after it.
+/// What happens to a run of text and to the token after it.
 #[derive(Drop)]
 pub struct Edits<A: Allocator = Global> {
     pub run: Edit<A>,

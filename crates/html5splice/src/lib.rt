@@ -1,4 +1,4 @@
-//! Pages of which tokens are replaced, and the rest stays as it is written, to the byte.
+//! Pages of which tokens are replaced, and the rest stays unchanged, to the byte.
 #![tactic(auto)]
 
 mod cut;

@@ -174,8 +174,8 @@ fn splice_whole<R: Source, H: Splicer<Token<A>, A>, O: Output, A: Allocator + Co
     }
 }
 
-/// Reads a page as it arrives, and writes it with what the splicer replaces, after what was written before: the whole page,
-/// or after an error a beginning of it. What is not replaced is written as it came, to the byte.
+/// Reads a page as it arrives, and writes it with what the splicer replaces, after the earlier output. It writes
+/// the whole page, or after an error a prefix of it. What is not replaced is written as it came, to the byte.
 ///
 /// It holds what came since the last token, so the memory that it takes is that of the longest run and token.
 pub fn splice_page<R: Source, H: Splicer<Token<A>, A>, O: Output, A: Allocator + Copy>(

@@ -112,7 +112,7 @@ impl<H: Drop, O, A: Allocator + Copy> Splicing<H, O, A> {
         self.window.push(text)
     }
 
-    /// The output, with what was written.
+    /// The output, with all that was written.
     pub fn into_output(self) -> O
         ensures { result ≡ self.output }
     {
@@ -121,7 +121,7 @@ impl<H: Drop, O, A: Allocator + Copy> Splicing<H, O, A> {
 }
 
 impl<H: Splicer<Token<A>, A>, O: Output, A: Allocator + Copy> Splicing<H, O, A> {
-    // Takes a token that is no parse error.
+    // Takes a token that is not a parse error.
     fn take_cut(
         &mut self,
         run: &str,

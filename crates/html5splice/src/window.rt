@@ -38,7 +38,7 @@ impl<A: Allocator> Model for Window<A> {
     ghost invariant = { λ w. IsCharBoundary (string_bytes w.text) w.gone };
 }
 
-// A text that is cut twice: so many bytes, so many more, and the rest.
+// A text that is cut twice: this many bytes, this many more, and the rest.
 fn split_twice(text: &str, first: usize, second: usize) -> Option<Front<'_>>
     ensures run { IfSome result (λ front. front.run.now ≡ take first text.now) }
     ensures source { IfSome result (λ front. front.source.now ≡ take second (drop first text.now)) }
@@ -63,15 +63,15 @@ impl<A: Allocator + Copy> Window<A> {
         }
     }
 
-    // What waits.
+    // The waiting text.
     fn waiting(&self) -> &str
         ensures { result.now ≡ self.now.bytes }
     {
         &self.text[self.gone..]
     }
 
-    // The run of text at the front of what waits, and the token after it, which stand there. There is none where they stand elsewhere, or
-    // begin within a character.
+    // The run of text at the front of the waiting text, and the token after it, which stand there. There is none where
+    // they stand elsewhere, or begin within a character.
     pub fn front(&self, places: Places) -> Option<Front<'_>>
         ensures run { IfSome result (λ front. front.run.now ≡ take (places.begin - self.now.base) self.now.bytes) }
         ensures source { IfSome result (λ front. front.source.now
@@ -85,7 +85,7 @@ impl<A: Allocator + Copy> Window<A> {
         split_twice(self.waiting(), run, source)
     }
 
-    // What waits up to a place is gone.
+    // Drops the waiting text up to a place.
     pub fn pass(&mut self, end: usize)
         requires within { self.old.base ≤ end }
         requires boundary { IsCharBoundary self.old.bytes (end - self.old.base) }
@@ -95,7 +95,7 @@ impl<A: Allocator + Copy> Window<A> {
         self.base = end;
     }
 
-    // Lets what is gone go, where that is more than half: so a byte is copied at most once for each that goes.
+    // Drops passed bytes once they are more than half: so a byte is copied at most once for each that goes.
     fn shrink(&mut self) -> Result<(), AllocError>
         ensures { self.new ≡ self.old }
     {

@@ -170,7 +170,7 @@ module _ {S : Type 0} (step faulted : S → Told → ℕ → S) where
   unfolding stepped
   Memory-at_once s M = record { before = []; rest = M; parts = refl; state = refl }
 
-  -- the exit of a `?`: want of memory before anything was sent, and a stop of the call before
+  -- the exit of a `?`: out of memory before anything was sent, and a stop of the call before
   pub tells_from_memory : {T : Type 0} → (r : Result T TokenizerError) (s : S) (M : List Message)
       → IsErrAnd r (λ e. e ≡ Memory) → Tells step faulted r s M s
   tells_from_memory r s M h = let p = err_from_is_err_and r h in rw (p.1, p.2) (Memory-at_once s M)
@@ -179,7 +179,7 @@ module _ {S : Type 0} (step faulted : S → Told → ℕ → S) where
       → IsErrAnd r (λ x. x ≡ e) → IsRefusal e → Stops step faulted e s M t → Tells step faulted r s (M ++ N) t
   tells_from_stop r e s t M N h refusal stop = let p = err_from_is_err_and r h in rw (p.1, p.2) (stops_before e s t M N refusal stop)
 
-  -- tokens on one line, sent by two calls: by both, by the first and then a stop of the first, and want of memory between
+  -- tokens on one line, sent by two calls: by both, by the first and then a stop of the first, and out of memory between
 
   pub told_then : {T : Type 0} → (r : Result T TokenizerError) (s t u : S) (line : ℕ) (A B : List Told) → t ≡ stepped step s (on_line line A)
       → Tells step faulted r t (on_line line B) u → Tells step faulted r s (on_line line (A ++ B)) u

@@ -35,14 +35,14 @@ abbrev pub IsToldAs : Told → ℕ → List Message → Type 0
 IsToldAs token line messages = (messages ≡ record { token = token; line = line } ∷ []) ⊎ IsTextOf token line messages
 
 module _ {S : Type 0} (step faulted : S → Told → ℕ → S) where
-  -- the sink was sent a beginning of the messages
+  -- the sink received a prefix of the messages
   pub record StopsWithin (s : S) (M : List Message) (t : S) : Type 0 where
     pub before : List Message
     pub rest : List Message
     pub parts : M ≡ before ++ rest
     pub state : t ≡ stepped step s before
 
-  -- the sink faulted at a token, after a beginning of the messages. The token says the next of them.
+  -- the sink faulted at a token, after a prefix of the messages. The token says the next of them.
   pub record FaultsWithin (s : S) (M : List Message) (t : S) : Type 0 where
     pub before : List Message
     pub token : Told
@@ -71,7 +71,7 @@ faults_of (Err Memory) = 0
 faults_of (Err Sink) = 1
 faults_of (Err Failed) = 0
 
--- a refusal of a call that sends: want of memory, or a fault of the sink
+-- a refusal of a call that sends: out of memory, or a fault of the sink
 abbrev pub IsRefusal : TokenizerError → Type 0
 IsRefusal Memory = Unit {0}
 IsRefusal Sink = Unit {0}

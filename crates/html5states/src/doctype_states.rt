@@ -131,7 +131,7 @@ impl<S: TokenSink<Token<A>>, A: Allocator + Copy> Teller<'_, S, A> {
         Ok(Progress::Continues)
     }
 
-    /// The standard's "After DOCTYPE name state", where no keyword was begun.
+    /// The standard's "After DOCTYPE name state", when no keyword was begun.
     pub fn after_doctype_name_state(&mut self, at: &mut Opened<A>, c: char) -> Step
         requires state { at.old.state ≡ State.AfterDoctypeName }
         requires nothing_held { string_bytes at.old.comment ≡ [] }

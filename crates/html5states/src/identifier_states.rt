@@ -42,7 +42,7 @@ impl<S: TokenSink<Token<A>>, A: Allocator + Copy> Teller<'_, S, A> {
         Ok(Progress::Continues)
     }
 
-    // The same where no white space stands before, so that a quote is an error too.
+    // The same when no white space stands before, so that a quote is an error too.
     fn begin_at_once(
         &mut self,
         at: &mut Opened<A>,

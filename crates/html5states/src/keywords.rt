@@ -1,4 +1,4 @@
-//! What is sent where no keyword stands: after `<!`, or after the name of a DOCTYPE.
+//! What is sent when no keyword stands after `<!`, or after the name of a DOCTYPE.
 #![tactic(auto, using(crate::proofs::Tellings::tells_from_memory), unfolding(html5reading::specs::Doctype::keyword_error))]
 
 ghost use Rattle.std.specs.Prelude.{◌≡◌, ◌<◌, ◌+◌, Ok, true, string_bytes};
@@ -20,8 +20,8 @@ use html5partial::opened::Opened;
 use std::alloc::Allocator;
 
 impl<S: TokenSink<Token<A>>, A: Allocator + Copy> Teller<'_, S, A> {
-    /// The standard's "Markup declaration open state", where no keyword stands: sends that error, and
-    /// begins a bogus comment with what is held.
+    /// The standard's "Markup declaration open state", when no keyword stands: sends that error, and
+    /// begins a bogus comment with the held text.
     pub fn finish_declaration(&mut self, at: &mut Opened<A>) -> Result<(), TokenizerError>
         ensures emits { Emits S.means S.faults result self.old self.new
             (tokens_of_late (declaration_error self.old.exact_errors (string_bytes at.old.comment))) }
@@ -32,7 +32,7 @@ impl<S: TokenSink<Token<A>>, A: Allocator + Copy> Teller<'_, S, A> {
         self.emit_unexpected('!', State::MarkupDeclarationOpen)
     }
 
-    /// The standard's "After DOCTYPE name state", where no keyword stands: sends that error, which
+    /// The standard's "After DOCTYPE name state", when no keyword stands: sends that error, which
     /// names the first character that is held, and skips the rest.
     pub fn finish_doctype_keyword(&mut self, at: &mut Opened<A>) -> Result<(), TokenizerError>
         ensures emits { Emits S.means S.faults result self.old self.new

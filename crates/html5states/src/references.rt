@@ -162,7 +162,8 @@ impl<S: TokenSink<Token<A>>, A: Allocator + Copy> Teller<'_, S, A> {
         }
     }
 
-    // Sends the characters of a reference, and what is held after it. A character alone is sent where it lies.
+    // Sends the characters of a reference, and the held text after it. A character alone is sent where it
+    // lies.
     #[tactic(auto, using(crate::proofs::Tellings::tells_from_memory), unfolding(html5ever_interface::specs::Sink::stepped))]
     fn emit_characters(&mut self, found: &Found, rest: &str) -> Result<(), TokenizerError>
         requires plain { All (λ c. (number_sign ≤ c) × (c ≤ 0x7A)) rest.now }

@@ -23,7 +23,7 @@ pub record IsUnmoved {X S H : Type 0} (means : Means X S H) : Type 0 where
   pub faulted : (s : S) (told : Told) (line : ℕ) → means.faulted s told line ≡ s
   pub end_faulted : (s : S) → means.end_faulted s ≡ s
 
--- such a sink stopped after a beginning of the messages, whatever the error
+-- such a sink stopped after a prefix of the messages, whatever the error
 pub SourceStops-unmoved : {X S H : Type 0} (means : Means X S H) (e : StreamError) (s : S) (M : List Message) (t : S)
     → IsUnmoved means → SourceStops means e s M t → StopsWithin means.step means.faulted s M t
 SourceStops-unmoved means Read s M t unmoved stops = stops

@@ -1,4 +1,4 @@
--- A source that is read piece by piece: what was fed so far, and what that gives at the end, or where the reading stops.
+-- A source that is read piece by piece: the text fed so far, and what that gives at the end, or where the reading stops.
 use Rattle.std.proofs.Common.{Result, Ok, Err, ◌≡◌, ◌≢◌, ◌⊎◌, ℕ, ◌+◌, ◌<◌, ◌≤◌, false, List, [], ◌∷◌, ◌++◌, length, take, Option, None, Some, refl, sym, ◌∙◌, ap, subst, arith, inl, inr, append-nil, append_assoc, length-append}
 use Rattle.std.specs.Prelude.{OnOk, IfErr}
 use Rattle.std.specs.Io.KnownBytes.{Consumes, IsAtEnd}
@@ -313,7 +313,7 @@ module _ {X S H : Type 0} (means : Means X S H) where
   SourceStops-within Sink s v M none stops = absurd (omega (arith, none))
   SourceStops-within TooLong s v M none stops = stops
 
-  -- what was sent so far is a beginning of the reading
+  -- what was sent so far is a prefix of the reading
   stops-here : (t : Tokenizing X) (K : Start) (s : S) (text : List ℕ) → StandsAt means t K s text
       → StopsWithin means.step means.faulted s (all_messages means t.rules K s text) (means.state t.sink)
   stops-here t K s text stands =

@@ -51,7 +51,7 @@ pub record ReadsPageItems {S : Type 0} (composes : S → List ℕ → List Messa
   pub items : composes known.before bytes tells ends
   pub told : known.after ≡ handed known.before (tells ++ ends)
 
--- the source gave a text first, and the state became what a beginning of that text's messages makes of it, or of what else it is read into
+-- the source gave a text first, and the state became what a prefix of that text's messages makes of it, or of what else it is read into
 pub record StopsPage {M S : Type 0} (page : S → List ℕ → List M) (handed : S → List M → S) (known : Passage S) : Type 0 where
   pub text : List ℕ
   pub rest : List ℕ

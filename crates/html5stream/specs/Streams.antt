@@ -54,14 +54,14 @@ pub record GivesNoFault (before after : Option (List ℕ)) : Type 0 where
   pub given : Consumes before after bytes
   pub may_go_on : ¬ (IsNeverUtf8 bytes)
 
--- the source gave so many bytes, or more
+-- the source gave this many bytes, or more
 pub record GivesAtLeast (count : ℕ) (before after : Option (List ℕ)) : Type 0 where
   pub bytes : List ℕ
   pub given : Consumes before after bytes
   pub long : count ≤ length bytes
 
 module _ {X S H : Type 0} (means : Means X S H) where
-  -- what each error leaves of the messages that a text tells: a beginning of them was sent, and the sink may have faulted after it,
+  -- what each error leaves of the messages that a text tells: a prefix of them was sent, and the sink may have faulted after it,
   -- or at its own end
   abbrev pub SourceStops : StreamError → S → List Message → S → Type 0
   SourceStops Read s M t = StopsWithin means.step means.faulted s M t
@@ -97,7 +97,7 @@ module _ {X S H : Type 0} (means : Means X S H) where
     pub stopped : SourceStops error s (all_messages means (rules_of opts references) (start_of opts) s (chars text)) t
     pub may_go_on : ((place : ℕ) → error ≢ NotUtf8 place) → ¬ (IsNeverUtf8 (text ++ rest))
 
-  -- what the source gave is a text, and after it at most a beginning of a character: exactly what the text decides was sent
+  -- what the source gave is a text, and after it at most a prefix of a character: exactly what the text decides was sent
   pub record TellsGiven (opts : OptionsOf) (references : List NamedReference) (s : S) (before after : Option (List ℕ)) (t : S) : Type 0 where
     pub text : List ℕ
     pub rest : List ℕ

@@ -9,7 +9,7 @@ pub enum StreamError {
     #[error("a read failed")]
     Read,
     /// The bytes stop being UTF-8 at this place, counted in bytes from the first, which is at 0. A place
-    /// past `u64::MAX` is said to be `u64::MAX`.
+    /// past `u64::MAX` counts as `u64::MAX`.
     #[error("the bytes from place {valid_up_to} on are no UTF-8")]
     NotUtf8 { valid_up_to: u64 },
     /// A growth was refused.

@@ -13,7 +13,7 @@ use html5sinks::text_runs::{TextRuns, TokenHandler};
 use markup5ever::data::NamedReferences;
 use std::alloc::Allocator;
 
-/// Reads a page as it arrives, and hands each tag to the handler, which comes back. What stands in
+/// Reads a page as it arrives, and hands each tag to the handler, which comes back. The content of
 /// scripts, styles and their like is read as the standard reads it.
 pub fn read_tags<R: Source, H: TagHandler<Tag<A>>, A: Allocator + Copy>(
     alloc: A,

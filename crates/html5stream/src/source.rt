@@ -58,7 +58,7 @@ fn read_bytes<R: Source>(source: &mut R, buffer: &mut [u8]) -> Result<usize, Str
     }
 }
 
-// Hands in a text where nothing waits.
+// Hands in a text when the queue is empty.
 fn hand_in<A: Allocator>(queue: &mut BufferQueue<A>, text: String<A>) -> Result<(), StreamError>
     requires { queue.old.text ≡ [] }
     ensures ok { OnOk result (queue.new.text ≡ chars (string_bytes text)) }
@@ -199,8 +199,8 @@ fn read_all<R: Source, S: TokenSink<Token<A>>, A: Allocator + Copy>(
 }
 
 /// Reads a source to its end, 4,096 bytes at a time, from the start of a stream, and hands the sink back.
-/// The sink was sent all that the source's text tells, and finished. After an error it was sent a
-/// beginning of what the text so far tells. No read is tried again after it failed.
+/// The sink was sent all that the source's text tells, and finished. After an error it received a prefix
+/// of what the text so far tells. No read is tried again after it failed.
 pub fn read_source<R: Source, S: TokenSink<Token<A>>, A: Allocator + Copy>(
     alloc: A,
     source: &mut R,

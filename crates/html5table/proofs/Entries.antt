@@ -103,7 +103,7 @@ pub characters_said-split : (text : List ℕ) (r : Option (Bor (List ℕ) × Bor
 unfolding characters_said
 characters_said-split text r splits = ap (characters_said_by text) (parts_round-split 43 text r (lit< tt) splits)
 
--- the entry of a name and what stands after the equals sign
+-- the entry of a name and the text after the equals sign
 abbrev pub entry_of_parts : Option (List ℕ × List ℕ) → Option NamedReference
 entry_of_parts parts =
     option_and_then (λ p. option_map (λ characters. entry_with p.0 characters.0 characters.1) (characters_said p.1)) parts

@@ -39,7 +39,7 @@ character_said digits =
     let number = digits_value 16 digits in
     if is_hexadecimal digits && is_character number then Some number else None
 
--- one character, or two where there are two parts
+-- one character, or two if there are two parts
 abbrev pub characters_said_by : List ℕ → Option (List ℕ × List ℕ) → Option (ℕ × Option ℕ)
 characters_said_by text None = option_map (λ first. (first, None)) (character_said text)
 characters_said_by text (Some parts) =

@@ -117,7 +117,7 @@ few-plan limit s (StartTag name attributes) = few-limited limit s (StartTag name
 few-plan limit s (EndTag name) = few-end limit (kind_of name) s name
 few-plan limit s (Text text) = few-text limit s text
 
--- ---- what an item costs: what is written, and what is open after it
+-- ---- what an item costs: the output, and the elements open after it
 
 pub length-opened : (names : List (List ℕ)) (s : Stack) → length (opened names s) ≡ length names + length s
 unfolding opened

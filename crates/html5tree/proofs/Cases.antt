@@ -145,7 +145,7 @@ normal_cases =
     case (codes "<p>1<p>2") (codes "<p>1</p><p>2</p>")
     -- so does a `li`, and `</ul>` closes both
     ∷ case (codes "<ul><li>a<li>b</ul>") (codes "<ul><li>a</li><li>b</li></ul>")
-    -- with what is open in it
+    -- with the elements open in it
     ∷ case (codes "<ul><li><div><p>a<li>b") (codes "<ul><li><div><p>a</p></div></li><li>b</li></ul>")
     -- but not one that a list bounds
     ∷ case (codes "<ul><li>a<ol><li>b<li>c</ul>") (codes "<ul><li>a<ol><li>b</li><li>c</li></ol></li></ul>")
@@ -155,13 +155,13 @@ normal_cases =
     ∷ case (codes "<table><td>x") (codes "<table><tbody><tr><td>x</td></tr></tbody></table>")
     -- and a `col` has a group
     ∷ case (codes "<table><col><td>x") (codes "<table><colgroup><col></colgroup><tbody><tr><td>x</td></tr></tbody></table>")
-    -- a part closes what is open in the table
+    -- a part closes the elements open in the table
     ∷ case (codes "<table><caption><b>x<tr><td><p>y<tfoot>") (codes "<table><caption><b>x</b></caption><tbody><tr><td><p>y</p></td></tr></tbody><tfoot></tfoot></table>")
     -- and without a table it is dropped
     ∷ case (codes "<tr><td>x</td></tr>") (codes "x")
     -- text is put in a cell
     ∷ case (codes "<table>x<tr>") (codes "<table><tbody><tr><td>x</td></tr><tr></tr></tbody></table>")
-    -- but for the white space at its front
+    -- except for the white space at its front
     ∷ case (codes "<table> x <tr>") (codes "<table> <tbody><tr><td>x </td></tr><tr></tr></tbody></table>")
     -- in a `colgroup`, too
     ∷ case (codes "<table><colgroup>\n x") (codes "<table><colgroup>\n </colgroup><tbody><tr><td>x</td></tr></tbody></table>")
@@ -169,13 +169,13 @@ normal_cases =
     ∷ case (codes "<table> <tr> <td>") (codes "<table> <tbody><tr> <td></td></tr></tbody></table>")
     -- an `a` is put in a cell, and `</a>` in another cell means none outside it
     ∷ case (codes "<table><a><tr><td></a>") (codes "<table><tbody><tr><td><a></a></td></tr><tr><td></td></tr></tbody></table>")
-    -- a `form` straight in a table is dropped, and what follows is put in a cell
+    -- a `form` straight in a table is dropped, and the rest is put in a cell
     ∷ case (codes "<table><form><input></form>") (codes "<table><tbody><tr><td><input></td></tr></tbody></table>")
     -- a `table` straight in a table closes that
     ∷ case (codes "<table><tr><table>") (codes "<table><tbody><tr></tr></tbody></table><table></table>")
     -- an `a` closes the one that is open
     ∷ case (codes "<a href=u>1<a href=v>2") (codes "<a href=u>1</a><a href=v>2</a>")
-    -- an end tag closes what is open within; a `</p>` alone is an empty `p`
+    -- an end tag closes the elements open within; a `</p>` alone is an empty `p`
     ∷ case (codes "<b><p>x</b>y</p>") (codes "<b><p>x</p></b>y<p></p>")
     -- but a `</span>` closes no block
     ∷ case (codes "<span><div></span>x") (codes "<span><div>x</div></span>")
@@ -244,7 +244,7 @@ limited-by-hand = refl
 
 -- ---- hosts, innermost element first
 
--- each fragment fits in a cell of a table in a `p`, in a `div` of a `section`, and where nothing is open
+-- each fragment fits in a cell of a table in a `p`, in a `div` of a `section`, and when nothing is open
 flow-hosts : (is_flow_host (codes "td" ∷ codes "tr" ∷ codes "tbody" ∷ codes "table" ∷ codes "p" ∷ []) ≡ true)
     × ((is_flow_host (codes "div" ∷ codes "section" ∷ []) ≡ true) × (is_flow_host [] ≡ true))
 unfolding is_flow_host near is_among kind_in all_names kind_of

@@ -152,7 +152,7 @@ whole-filled inner (h ∷ held) = whole-filled (Element h.before h.node h.name h
 pub shows-whole : (p : Page) (path : Path) → Shows p path → tree_built p.edits ≡ whole path
 shows-whole p path s = ap (λ n. bare (children (found 0 n))) s.builds ∙ whole-filled s.inner s.held ∙ sym (ap whole s.is)
 
--- where no element is open, none is open in the path
+-- when no element is open, none is open in the path
 pub closed-path : (p : Page) (path : Path) → Shows p path → none_open (names p.opened) ≡ true → whole path ≡ path.inner
 unfolding elements levels whole_in
 closed-path p path s h = at s.held s.opened s.is

@@ -57,7 +57,7 @@ content-append : (a b : List Item) → content_of (a ++ b) ≡ content_of a ++ c
 unfolding content_of
 content-append a b = flat_map-append content_in a b
 
--- a part, with `kept` as what is kept of its content
+-- a part, with `kept` as the kept part of its content
 adds-append : (a b : List Item) (k l : List Content) → IsWithout may_be_added (content_of a) k → IsWithout may_be_added (content_of b) l
     → IsWithout may_be_added (content_of (a ++ b)) (k ++ l)
 adds-append a b k l first second =
@@ -163,7 +163,7 @@ both-parts (c ∷ text) = at (is_space c) (both-parts text)
     at true e = ap (λ l. c ∷ l) e
     at false e = refl
 
--- what is kept, where all of it is
+-- the kept part, if all of it is kept
 without-text : (enough : Bool) (s : Stack) (text : List ℕ) → IsWithout (may_leave_out enough s) (map Character text) (map Character text)
 without-text enough s text = without-none (may_leave_out enough s) (map Character text)
 
@@ -428,7 +428,7 @@ keeps-plan enough limit s item room =
     let right = right-plan enough limit s item room in
     keeps-written enough s (plan_of limit s item).writes (take (plan_of limit s item).closes s) (plan_of limit s item).opens item right.added right.own
 
--- an item, and then others above what is open after it
+-- an item, and then others above the elements open after it
 pub keeps-item : (enough : Bool) (limit : ℕ) (s : Stack) (item : Item) (items written : List Item) → IsReady limit s → HasRoom enough limit s
     → Keeps enough (open_after_fitted limit s item) items written → Keeps enough s (item ∷ items) (fitted limit s item ++ written)
 keeps-item enough limit s item items written ready room later =

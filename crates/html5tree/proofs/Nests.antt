@@ -85,7 +85,7 @@ nested-from limit s closed names later item plan is after gone =
     ap (λ n. record { opened = n; closed = later; limit = limit }) after
     ∙ ap (λ n. record { opened = open_after_fitted limit s item; closed = n; limit = limit }) (gone ∙ ap (λ p. take p.closes s) is)
 
--- ---- what is open is ready for the next item
+-- ---- the open elements are ready for the next item
 
 pub ready-by : (limit : ℕ) (s names : Stack) (item : Item) → IsReady limit s → names ≡ open_after_fitted limit s item → IsReady limit names
 ready-by limit s names item ready after = subst (λ n. IsReady limit n) (sym after) (ready-after limit s item ready)

@@ -77,7 +77,7 @@ pub passed-all : (test : List ℕ → Bool) (ends : Kind → Bool) (xs : List El
 unfolding near
 passed-all test ends xs p = rw p.nears refl
 
--- where none passes, all are inside it
+-- if none passes, all are inside it
 pub count-none : (test : List ℕ → Bool) (s : List (List ℕ)) → near test no_kind s ≡ false → count_inside test s ≡ length s
 unfolding near count_inside
 count-none test [] h = refl

@@ -413,7 +413,7 @@ pub fits-start : (name : List ℕ) (attributes : List Attribute) (s : Stack) →
 unfolding fits
 fits-start name attributes s f = f
 
--- the innermost of a kind is closed: what follows fits, as that did
+-- the innermost of a kind is closed: the rest fits, as that did
 right-same : (test : Kind → Bool) (k : Kind) → ((other : Kind) → test other ≡ true → other ≡ k) → (name : List ℕ) (attributes : List Attribute) (s : Stack)
     → kind_of name ≡ k → IsFound (of_kind test) (count_inside (of_kind test) s) s
     → IsRight s (StartTag name attributes) (kept (suc (count_inside (of_kind test) s)) [])
@@ -518,7 +518,7 @@ clear-closed s a h = at (near (of_kind is_paragraph) bounds_paragraph s) refl
     at true e = clear-found s (found (of_kind is_paragraph) bounds_paragraph s a e)
     at false e = record { holder = h; paragraph = not_from_false (near (of_kind is_paragraph) bounds_paragraph s) e; stand = a }
 
--- what stands in a `p` bounds no `li`, `dd` or `dt`
+-- an element in a `p` bounds no `li`, `dd` or `dt`
 record IsLight (k : Kind) : Type 0 where
   bounds : bounds_item k ≡ false
   list_item : is_list_item k ≡ false

@@ -1,4 +1,4 @@
--- A limit changes nothing where no more elements would be open.
+-- A limit changes nothing when no more elements would be open.
 use Rattle.std.proofs.Common.{◌≡◌, ℕ, suc, ◌+◌, ◌<◌, ◌≤◌, Bool, true, false, List, [], ◌∷◌, length, refl, ap, sym, ◌∙◌, subst, arith}
 use Rattle.std.specs.Prelude.{◌++◌, codes, not, ◌&&◌, nat_le, nat_lt, if◌then◌else◌}
 use Rattle.std.specs.List.{list_all}
@@ -15,7 +15,7 @@ use Rattle.html5tree.specs.Scopes.{kind_on_top, near}
 use Rattle.html5tree.proofs.Normalising.{item-after, kind-p, none-ready, ready-after, within-first}
 use Rattle.html5tree.proofs.RightPlans.{Stack}
 
--- the same of what follows some items
+-- the same of the items after some others
 pub stays-later : (limit : ℕ) (items more : List Item) (s : Stack) → stays_within limit s (items ++ more) ≡ true → stays_within limit (all_open_after s items) more ≡ true
 unfolding stays_within all_open_after
 stays-later limit [] more s w = w

@@ -329,7 +329,7 @@ unfolding mode_of
 closes k next e s edits l later is plain w g =
     shuts next e s edits l later (mode_of (names (e ∷ s))) (ap (λ x. mode_at x (mode_of (names s))) is ∙ plain.mode (mode_of (names s))) (ap is_form is ∙ plain.form) w g
 
--- the same where no entry goes with it
+-- the same when no entry goes with it
 ordinary : (k : Kind) (next : ℕ) (e : Element) (s : List Element) (edits : List Edit) (l : List Entry) → kind_of e.name ≡ k → IsPlain k → is_formatting k ≡ false → IsInOrder l (page_at next (e ∷ s) edits)
     → IsInStep (record (parser (page_at next (e ∷ s) edits) l) { page = page_at next s edits }) (page_at next s edits)
 ordinary k next e s edits l is plain other g = closes k next e s edits l l is plain (drops e l s (ap is_formatting is ∙ other) (ap has_marker is ∙ plain.free) g.within) g

@@ -177,7 +177,7 @@ fits-newlines false (EndTag name ∷ items) stack h =
     and_from (fits stack (EndTag name)) (each_fits (open_after stack (EndTag name)) (without_newlines false items)) p.0
     (fits-newlines false items (open_after stack (EndTag name)) p.1)
 
--- ---- what is open after them, and balance
+-- ---- the elements open after them, and balance
 
 open-front : (text : List ℕ) (items : List Item) (stack : List (List ℕ)) → all_open_after stack (in_front text items) ≡ all_open_after stack items
 unfolding in_front all_open_after open_after

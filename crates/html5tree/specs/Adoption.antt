@@ -1,4 +1,4 @@
--- "The adoption agency algorithm", and "any other end tag", as which it acts where there is no formatting element of the name.
+-- "The adoption agency algorithm", and "any other end tag", as which it acts if there is no formatting element of the name.
 use Rattle.std.specs.Prelude.{ℕ, suc, zero, Bool, false, not, List, [], ◌∷◌, ◌++◌, ◌&&◌, ◌==◌, Option, Some, None, nat_lt, if◌then◌else◌}
 use Rattle.std.specs.Str.{bytes_eq}
 use Rattle.html5tree.specs.Names.{kind_of, named, is_special}
@@ -119,7 +119,7 @@ turn again p name (Some f) =
     else if is_bounded ends_scope (inside f.node p.page.opened) then p
     else adopted_by again p f (furthest_block (inside f.node p.page.opened))
 
--- the outer loop, at most so many turns
+-- the outer loop, at most this many turns
 unfoldable pub outer_loop : ℕ → Parser → List ℕ → Parser
 outer_loop zero p name = p
 outer_loop (suc turns) p name = turn (λ later. outer_loop turns later name) p name (last_named (named name) p.formatting)

@@ -17,8 +17,8 @@ by_mode InTableBody again p item = in_table_body again p item
 by_mode InRow again p item = in_row again p item
 by_mode InCell again p item = in_cell again p item
 
--- An item is processed again at most so many times. Five are enough: a `col` in a cell closes the cell, the row and the body, and opens a
--- column group.
+-- An item is processed again at most this many times. Five are enough: a `col` in a cell closes the cell, the row and the body, and opens
+-- a column group.
 unfoldable pub process : ℕ → Parser → Item → Parser
 process zero p item = p
 process (suc times) p item = by_mode p.mode (λ later again. process times later again) p item

@@ -38,7 +38,7 @@ followed_by tree (Element before name attributes children) = Element (followed_b
 followed_by tree (Characters Nothing text) = with_text tree text
 followed_by tree (Characters before text) = Characters (followed_by tree before) text
 
--- a path with a tree at the end of what stands in the innermost open element
+-- a path with a tree at the end of the content of the innermost open element
 abbrev pub put_at : Path → Tree → Path
 put_at path tree = record path { inner = followed_by path.inner tree }
 

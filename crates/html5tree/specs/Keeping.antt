@@ -54,7 +54,7 @@ AreAdded items = IsWithout may_be_added (content_of items) []
 -- ---- what is left out
 
 -- Whether a start tag has a place above these open elements. A part of a table has one where an element is open that holds it, or does so by
--- implied parents; a form where no form is open, but not straight among parts; a tag of another name than the 94 nowhere.
+-- implied parents. A form has one when no form is open, but not straight among parts; a tag of another name than the 94 nowhere.
 abbrev pub has_place : Kind → List (List ℕ) → Bool
 has_place Unknown stack = false
 has_place Form stack = not (holds_parts (kind_on_top stack)) && not (near (of_kind is_form) no_kind stack)
@@ -66,12 +66,12 @@ pub record EndsWith (items : List Item) (last : Item) : Type 0 where
   pub whole : items ≡ before ++ last ∷ []
 
 -- Above these open elements. Where enough elements may be open, a start tag may be left out if it has no place there, and no text. Else also a
--- start tag whose element would be too deep; and of a text what is no white space, where a table would have to make a cell for it.
+-- start tag whose element would be too deep; and of a text what is not white space, where a table would have to make a cell for it.
 abbrev pub may_leave_out : Bool → List (List ℕ) → Content → Bool
 may_leave_out enough stack (Start name attributes) = not enough || not (has_place (kind_of name) stack)
 may_leave_out enough stack (Character c) = not enough && not (is_space c)
 
--- ---- what is kept
+-- ---- kept content
 
 -- what is written for an item, above these open elements: its content, without what may be left out, and start tags that may be added
 pub record KeepsItem (enough : Bool) (stack : List (List ℕ)) (item : Item) (part : List Item) : Type 0 where
@@ -79,7 +79,7 @@ pub record KeepsItem (enough : Bool) (stack : List (List ℕ)) (item : Item) (pa
   pub left : IsWithout (may_leave_out enough stack) (content_in item) kept
   pub added : IsWithout may_be_added (content_of part) kept
 
--- What is written has a part for each item, in their order, and adds what stands before it and after the last. Each item is kept above the
+-- What is written has a part for each item, in their order, and adds what comes before it and after the last. Each item is kept above the
 -- elements that are open where its part begins.
 unfoldable pub Keeps : Bool → List (List ℕ) → List Item → List Item → Type 0
 Keeps enough stack [] written = AreAdded written

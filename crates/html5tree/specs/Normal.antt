@@ -47,7 +47,7 @@ unfoldable pub run_of : (Kind → Bool) → List (List ℕ) → ℕ
 run_of test [] = 0
 run_of test (name ∷ stack) = if test (kind_of name) then suc (run_of test stack) else 0
 
--- ---- parts of tables, and what stands in a cell of its own
+-- ---- parts of tables, and content in a cell of its own
 
 -- the elements that hold a part, or do so by implied parents
 abbrev pub is_context : Kind → Kind → Bool
@@ -137,7 +137,7 @@ start_plan kind stack =
     else if holds_parts (kind_on_top stack) then table_plan kind stack
     else flow_plan kind stack
 
--- the open elements when so many parents are opened
+-- the open elements when this many parents are opened
 unfoldable pub opened : List (List ℕ) → List (List ℕ) → List (List ℕ)
 opened [] stack = stack
 opened (name ∷ names) stack = opened names (name ∷ stack)
@@ -181,7 +181,7 @@ bounds_end TableRow kind = is_table kind
 bounds_end Cell kind = is_table kind
 bounds_end other kind = has_marker kind
 
--- where no `p` is near, an end tag `p` stands for an empty one, if text can stand there
+-- when no `p` is near, an end tag `p` stands for an empty one, if text can stand there
 abbrev pub lone_end_plan : ℕ → Kind → List (List ℕ) → Plan
 lone_end_plan limit Paragraph stack =
     if not (holds_parts (kind_on_top stack)) && nat_lt (length stack) limit then record dropped { writes = EmptyParagraph } else dropped
@@ -193,8 +193,8 @@ end_plan limit kind stack name =
     else if near (is_ended kind name) (bounds_end kind) stack then closing (suc (count_inside (is_ended kind name) stack))
     else lone_end_plan limit kind stack
 
--- A text is put in a cell from its first character on that is no white space. Where that would be too deep only its white space is written, so that
--- it is all one how a text is cut.
+-- A text is put in a cell from its first character on that is not white space. Where that would be too deep only its white space is written, so
+-- that it doesn't matter how a text is cut.
 abbrev pub cell_text_plan : ℕ → List (List ℕ) → Plan → Plan
 cell_text_plan limit stack plan =
     if nat_le (length (moved plan stack)) limit then record plan { writes = Parted } else record dropped { writes = WhiteSpace }

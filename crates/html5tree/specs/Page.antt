@@ -1,5 +1,5 @@
 -- A page that is being built: the edits that make its document, and the open elements. What edits make is in Document. Tree construction is
--- said by edits so that proofs can compare it with nesting, which makes some of the same (Lockstep), before any tree is looked at.
+-- defined by edits so that proofs can compare it with nesting, which makes some of the same (Lockstep), before any tree is looked at.
 use Rattle.std.specs.Prelude.{ℕ, suc, List, [], ◌∷◌, map}
 use Rattle.html5tree.specs.Items.{Attribute}
 

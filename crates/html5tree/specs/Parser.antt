@@ -8,7 +8,7 @@ use Rattle.html5tree.specs.Scopes.{top_of_kind}
 use Rattle.html5tree.specs.Page.{Edit, Element, Page, current, made, popped, names, start_page}
 use Rattle.html5tree.specs.Page.Edit.{Make, Put, PutText, PutBefore, PutTextBefore}
 
--- "The insertion mode". "In table text" is none here, since a text is read whole.
+-- "The insertion mode". "In table text" is not one here, since a text is read whole.
 pub data Mode : Type 0 where
   InBody InTable InCaption InColumnGroup InTableBody InRow InCell : Mode
 

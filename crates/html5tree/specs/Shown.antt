@@ -7,7 +7,7 @@ use Rattle.html5tree.specs.Tree.{Level, Path}
 use Rattle.html5tree.specs.Document.{Nodes, root, built, bare}
 use Rattle.html5tree.specs.Document.Nodes.{None, Element as NodesElement, Characters}
 
--- an open element of the document: what stands before it, its number, its name and its attributes
+-- an open element of the document: the nodes before it, its number, its name and its attributes
 pub record Held : Type 0 where
   pub before : Nodes
   pub node : ℕ
@@ -25,7 +25,7 @@ unfoldable pub levels : List Held → List Level
 levels [] = []
 levels (h ∷ hs) = level_of h ∷ levels hs
 
--- the document, from what stands in the innermost open element
+-- the document, from the content of the innermost open element
 unfoldable pub filled : Nodes → List Held → Nodes
 filled inner [] = root inner
 filled inner (h ∷ hs) = filled (NodesElement h.before h.node h.name h.attributes inner) hs
@@ -36,7 +36,7 @@ AreBelow k None = ⊤
 AreBelow k (NodesElement before n name attributes inner) = (n < k) × (AreBelow k before × AreBelow k inner)
 AreBelow k (Characters before text) = AreBelow k before
 
--- inner elements were made later than outer ones and than what stands before these
+-- inner elements were made later than outer ones and than the nodes before these
 unfoldable pub AreOrdered : ℕ → List Held → Type 0
 AreOrdered next [] = ⊤
 AreOrdered next (h ∷ hs) = ((h.node < next) × (0 < h.node)) × (AreBelow h.node h.before × AreOrdered h.node hs)

@@ -20,7 +20,7 @@ use Rattle.html5tree.specs.InBody.{with_form, in_body}
 abbrev pub Again : Type 0
 Again = Parser → Item → Parser
 
--- "Reset the insertion mode appropriately": by the innermost element that says one; by the context element, a `div`, where none does
+-- "Reset the insertion mode appropriately": by the innermost element that says one; by the context element, a `div`, if none does
 abbrev pub mode_at : Kind → Mode → Mode
 mode_at Cell mode = InCell
 mode_at TableRow mode = InRow

@@ -21,7 +21,7 @@ ghost use Rattle.html5tree.specs.Tree.{Path, empty_path, nested, nesting, whole}
 ///
 /// Texts may be empty, and stand side by side: they are read as the whole texts that they make. A newline
 /// straight after the start tag of a `pre` or a `listing` is ignored by tree construction. `nesting` supposes
-/// that there is none (`keeps_newlines`), and `without_newlines` says what is built where there is.
+/// that there is none (`keeps_newlines`), and `without_newlines` says what is built if there is.
 ///
 /// Items speak of the 94 elements of specs/Names alone. Elements of other names never fit: foreign content,
 /// scripts, raw text, templates, frames, `select`, and the elements of a head are among them.
@@ -35,9 +35,10 @@ pub fn tree_of_fitting()
 /// The same in a host: open elements, of these names too, which stay open (`IsHost`). Items that fit above them,
 /// each by all names that are open, leave a parser that is a host again, whose tree is that of the items nested
 /// there (`host`). Where they close all that they open, and nothing else (`balanced`), the open elements, the
-/// insertion mode, the form element pointer and foster parenting are afterwards what they were (`back`); and the
-/// document is what it was, with the nesting of the items at the end of the innermost open element: of the items as they
-/// are read (`as_read`), or as they stand if no newline is ignored (`in_place`). Of the list of active formatting elements `host` says that no entry has to be opened again.
+/// insertion mode, the form element pointer and foster parenting are afterwards what they were (`back`). The document
+/// is what it was, with the nesting of the items at the end of the innermost open element. They are as they are read
+/// (`as_read`), or as they stand if no newline is ignored (`in_place`). Of the list of active formatting elements
+/// `host` says that no entry has to be opened again.
 ///
 /// `fresh` says whether the start tag of a `pre` or a `listing` stands straight before the items. Where the
 /// innermost open element is a table, or a part of one that holds parts, no text may stand straight before
@@ -76,9 +77,8 @@ pub fn fits_in_host()
         → suits stack items ≡ true }
 {}
 
-/// Which hosts are flow hosts: one where nothing is open; a cell or a caption, if no form is open outside it; an
-/// element in a flow host that changes nothing, such as a `div`, a `section`, a `ul`, a `span` or a `b`
-/// (`is_neutral`).
+/// Which hosts are flow hosts. One with nothing open. A cell or a caption, if no form is open outside it. An element in
+/// a flow host that changes nothing, such as a `div`, a `section`, a `ul`, a `span` or a `b` (`is_neutral`).
 pub fn flow_hosts()
     ensures nothing_open { is_flow_host [] ≡ true }
     ensures cell { (name : List ℕ) (stack : List (List ℕ)) → has_marker (kind_of name) ≡ true
@@ -99,7 +99,7 @@ pub fn narrow_hosts()
 
 /// What the normaliser makes of items (`normal`, specs/Normal), with a limit of how many elements may be open. It
 /// all fits, and leaves no element open (`fits`); nowhere are more elements open than the limit (`within`). So
-/// tree construction builds it as it is nested (`tree`). Items of which this holds already are not changed
+/// tree construction builds it with the same nesting (`tree`). Items of which this holds already are not changed
 /// (`unchanged`): made normal twice they are as once (`twice`). At most eight items are written for each
 /// that is read (`bound`).
 ///
@@ -118,13 +118,13 @@ pub fn normal_items()
         → whole_texts (normal limit items) ≡ whole_texts (normal limit others) }
 {}
 
-/// What the normaliser keeps of items, and what it adds (`Keeps`, specs/Keeping). It writes a part for each item, in their
-/// order. The part has all characters of a text, or the start tag with all its attributes; end tags come and go. A start
-/// tag is left out exactly where it has no place (`has_place`): a part of a table outside one, a form in another, and a tag of
-/// other names than the 94. Added are start tags of `tbody`, `tr`, `colgroup`, `td`, `p` and `br` alone, without attributes.
-/// That is so where eight elements may be open for each item (`all`). By any limit a start tag may be left out, too, and of a
-/// text what is no white space (`some`). Where no more elements would be open than the limit, if more could be, the limit
-/// changes nothing (`not_reached`).
+/// What the normaliser keeps of items, and what it adds (`Keeps`, specs/Keeping). It writes a part for each item, in
+/// their order. The part has all characters of a text, or the start tag with all its attributes; end tags come and go.
+/// A start tag is left out exactly if it has no place (`has_place`). That is a part of a table outside one, a form
+/// in another, and a tag of other names than the 94. Added are start tags of `tbody`, `tr`, `colgroup`, `td`, `p` and
+/// `br` alone, without attributes. That is so where eight elements may be open for each item (`all`). By any limit a
+/// start tag may be left out, too, and of a text what is not white space (`some`). When no more elements would be open
+/// than the limit, if more could be, the limit changes nothing (`not_reached`).
 pub fn kept_items()
     ensures some { (limit : ℕ) (items : List Item) → Keeps false [] items (normal limit items) }
     ensures all { (limit : ℕ) (items : List Item) → 8 * length items ≤ limit → Keeps true [] items (normal limit items) }
@@ -132,14 +132,14 @@ pub fn kept_items()
         → stays_within limit [] (normal more items) ≡ true → normal limit items ≡ normal more items }
 {}
 
-/// The same of one item, above the names of the open elements: what is written for it fits there (`fits`), with
-/// no more elements open than the limit (`within`), and leaves these open (`after`). An item that fits is written
-/// as it is (`unchanged`). What is written, and the end tags of what is open then, are at most eight items more
-/// than the end tags before (`bound`). Of a tag of another name than the 94 nothing is written (`unknown_start`,
-/// `unknown_end`). Of a start tag that has no place there (`has_place`, specs/Keeping) nothing is written, and no element
-/// is closed (`no_place`); one that has a place is written as it is, as the last item, where eight elements more may be
-/// open (`place`). Open elements that each fit where they stand, no more than the limit, are so afterwards (`ready`), and
-/// at first (`first`).
+/// The same of one item, above the names of the open elements. Its output fits there (`fits`), with no more elements
+/// open than the limit (`within`), and leaves these open (`after`). An item that fits is written as it is
+/// (`unchanged`). What is written, and the end tags of what is open then, are at most eight items more than the end
+/// tags before (`bound`). Of a tag of another name than the 94 nothing is written (`unknown_start`, `unknown_end`). Of
+/// a start tag that has no place there (`has_place`, specs/Keeping) nothing is written, and no element is closed
+/// (`no_place`). One that has a place is written as it is, as the last item, where eight elements more may be open
+/// (`place`). Open elements that each fit where they stand, no more than the limit, are so afterwards (`ready`), and at
+/// first (`first`).
 pub fn normal_item()
     ensures first { (limit : ℕ) → IsReady limit [] }
     ensures ready { (limit : ℕ) (stack : List (List ℕ)) (item : Item) → IsReady limit stack

@@ -23,7 +23,7 @@ fn push_within<A: Allocator>(names: &mut Vec<ElementName, A>, name: ElementName)
     }
 }
 
-// Closes so many elements, and notes them.
+// Closes this many elements, and notes them.
 fn close<A: Allocator>(
     names: &mut Vec<ElementName, A>,
     closed: &mut Vec<ElementName, A>,

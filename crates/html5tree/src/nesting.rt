@@ -58,7 +58,7 @@ fn own_of(plan: Plan, name: ElementName) -> Option<ElementName>
 }
 
 impl<A: Allocator> Nesting<A> {
-    /// Nothing is open. At most so many elements will be.
+    /// Nothing is open. At most this many elements will be.
     pub fn new(alloc: A, limit: usize) -> Nesting<A>
     where
         A: Copy,
@@ -133,8 +133,8 @@ impl<A: Allocator> Nesting<A> {
         text_fits(&self.opened, text)
     }
 
-    /// Does what a start tag asks for. What is to be written is said by the plan, by the names that were closed
-    /// (`closed`) and by the tag.
+    /// Does what a start tag asks for. The plan, the names that were closed (`closed`) and the tag say what is to be
+    /// written.
     pub fn start_tag(&mut self, name: ElementName) -> Result<Plan, AllocError>
         ensures plan { IfOk result (λ plan. (attributes : List Attribute)
             → plan_said plan ≡ plan_of self.old.limit self.old.opened (StartTag (name_of name) attributes)) }

@@ -182,7 +182,7 @@ fn start_plan(kind: Kind, opened: &[ElementName]) -> Plan
     }
 }
 
-// How many elements are open after a plan, but for the item's own.
+// How many elements are open after a plan, except for the item's own.
 fn depth_after(opened: &[ElementName], plan: Plan) -> usize
     ensures value { result ≡ length (moved (plan_said plan) (names_open opened.now)) }
     ensures within { result ≤ length opened.now + 3 }
@@ -190,7 +190,8 @@ fn depth_after(opened: &[ElementName], plan: Plan) -> usize
     opened.len().saturating_sub(plan.closes) + plan.opens.len()
 }
 
-// A plan, unless more elements than the limit would be open after it. The item itself opens so many.
+// A plan, unless more elements than the limit would be open after it. The item itself opens this
+// many.
 fn limited(limit: usize, opened: &[ElementName], plan: Plan, own: usize) -> Plan
     requires { own ≤ 1 }
     ensures { plan_said result ≡ (if nat_le (length (moved (plan_said plan) (names_open opened.now)) + own) limit
@@ -260,7 +261,7 @@ fn writing(writes: Written) -> Plan
     }
 }
 
-// Where no `p` is near, an end tag `p` stands for an empty one, if text can stand there.
+// When no `p` is near, an end tag `p` stands for an empty one, if text can stand there.
 fn lone_end_plan(limit: usize, kind: Kind, opened: &[ElementName]) -> Plan
     ensures { plan_said result ≡ lone_end_plan limit kind (names_open opened.now) }
 {

@@ -98,7 +98,7 @@ impl Bound {
     }
 }
 
-/// How many of the innermost open elements are closed so that the innermost that is wanted is closed. 0 where
+/// How many of the innermost open elements are closed so that the innermost that is wanted is closed. 0 if
 /// none is near. The innermost stands last.
 pub fn through(opened: &[ElementName], wanted: Wanted, bound: Bound) -> usize
     ensures value { result ≡ through (is_wanted wanted) (is_bound bound) (names_open opened.now) }
@@ -155,7 +155,7 @@ pub fn implied_run(opened: &[ElementName], before_text: bool) -> usize
     opened.len()
 }
 
-/// The kind of the innermost open element, when so many are closed.
+/// The kind of the innermost open element, when this many are closed.
 pub fn kind_under(opened: &[ElementName], closes: usize) -> Kind
     ensures { result ≡ kind_on_top (drop closes (names_open opened.now)) }
 {

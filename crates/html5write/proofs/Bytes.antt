@@ -22,7 +22,7 @@ three X Y Z = encodes-append X (Y ++ Z) ∙ ap (λ l. bytes X ++ l) (encodes-app
 four : (X Y Z W : List ℕ) → bytes (X ++ (Y ++ (Z ++ W))) ≡ bytes X ++ (bytes Y ++ (bytes Z ++ bytes W))
 four X Y Z W = encodes-append X (Y ++ (Z ++ W)) ∙ ap (λ l. bytes X ++ l) (three Y Z W)
 
--- one after another, from what stands before them
+-- one after another, from the text before them
 appended-two : (B X Y : List ℕ) → (B ++ X) ++ Y ≡ B ++ (X ++ Y)
 appended-two B X Y = append_assoc B X Y
 

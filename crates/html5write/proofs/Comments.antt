@@ -1,4 +1,4 @@
--- A comment as it is written tells itself.
+-- A written comment tells itself.
 use Rattle.std.proofs.Common.{◌≡◌, ℕ, Bool, true, false, List, [], ◌∷◌, ◌++◌, refl, ap, sym, ◌∙◌, subst}
 use Rattle.std.specs.Prelude.{◌==◌, ◌||◌, ◌&&◌, not, nat_eq, flat_map, codes, length, encode_utf8_all}
 use Rattle.std.specs.List.{list_all}
@@ -43,7 +43,7 @@ ends_in-none text front word none =
     ends_in-front text (front ++ word) h ∙ sym (append_assoc (without_last (length (front ++ word)) text) front word) in
     false≢true (sym none ∙ ap (λ l. ends_in l word) whole ∙ ends_in-append (without_last (length (front ++ word)) text ++ front) word))
 
--- what stands before some text of a comment, in which no two dashes meet
+-- the text before some text of a comment, in which no two dashes meet
 record Quiet (before content : List ℕ) : Type 0 where
   no_two : ends_in before (codes "--") ≡ false
   link : ends_in before (codes "-") ≡ true → can_follow_dash content ≡ true

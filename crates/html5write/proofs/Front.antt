@@ -22,7 +22,7 @@ ends_without (c ∷ text) h =
     let p = and_parts (not (c == carriage_return)) (has_no_return text) h in
     rw (not-true (c == carriage_return) p.0) (ends_without text p.1)
 
--- such a text without CR is as it is written
+-- such a text without CR is unchanged
 pub normalised-markup : (input : Input) (text : List ℕ) → input.after_carriage_return ≡ false → has_no_return text ≡ true
     → normalised input (less_than ∷ text) ≡ less_than ∷ text
 unfolding normalised without_dropped_first

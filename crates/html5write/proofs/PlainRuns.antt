@@ -162,7 +162,7 @@ is_stop-null : (x : ℕ) → IsNull x → is_stop x ≡ true
 unfolding is_stop
 is_stop-null x is = ap is_stop is
 
--- where none stood before a stop that is none, none stands before the next stop
+-- if none stood before a stop that is not one, none stands before the next stop
 pub no_null-more : (bytes : List ℕ) (at next : ℕ) → NoneWithin IsNull bytes 0 at → slice_index bytes at ≢ 0 → IsFirstFrom IsStop bytes (at + 1) next → NoneWithin IsNull bytes 0 next
 no_null-more bytes at next none other first k low high is =
     elim (cases_lt k at) [
@@ -195,7 +195,7 @@ null_from-past at (c ∷ cs) more none =
     (null_from-past (at + width) cs more (bytes-others Other c cs none) ∙ ap (λ n. null_from n more) (omega (arith, size)))
 
 module _ (text : List ℕ) (at : ℕ) (utf8 : IsUtf8 text) (first : IsFirstFrom IsNull text 0 at) where
-  -- what stands before the first NUL has none
+  -- the text before the first NUL has none
   from-there : IsCharBoundary text at → null_from 0 (chars text) ≡ null_from at (chars (drop at text))
   from-there cut =
       let front = IsUtf8-take text at utf8 cut in
@@ -237,7 +237,7 @@ plain-text text len utf8 first end =
 abbrev spelled : List ℕ → List ℕ
 spelled bytes = encode_utf8_all (escaped_text (chars bytes))
 
--- a run that is written as it is, and what follows it
+-- a run that is written as it is, and the text after it
 pub spelled-run : (text : List ℕ) (len : ℕ) → IsUtf8 text → BeginsPlain text len → encode_utf8_all (escaped_text (chars text)) ≡ take len text ++ encode_utf8_all (escaped_text (chars (drop len text)))
 spelled-run text len utf8 begins =
     let front = IsUtf8-take text len utf8 (IsCharBoundary-from_drop text len begins.within begins.rest_utf8) in

@@ -1,4 +1,4 @@
--- What a page tells but for errors is its pieces.
+-- What a page tells except for errors is its pieces.
 use Rattle.std.proofs.Common.{◌≡◌, ℕ, Bool, true, false, List, [], ◌∷◌, ◌++◌, refl, ap, sym, ◌∙◌}
 use Rattle.std.specs.Prelude.{flat_map, map, codes, encode_utf8}
 use Rattle.std.proofs.lemmas.List.{append-nil, append_assoc}
@@ -108,7 +108,7 @@ proper-three exact input one two three token f g h =
     ap (λ l. proper (spelled_messages exact input [] (one ++ l))) (sym (append_assoc two three (spell_end token)))
     ∙ proper-two exact input one (two ++ three) token f (tell-append two three g h)
 
--- but for errors a text tells its characters
+-- except for errors a text tells its characters
 proper-text : (exact : Bool) (input : Input) (text : List ℕ) → proper (text_messages exact input text) ≡ map (λ c. Text (encode_utf8 c)) text
 unfolding text_messages proper
 proper-text exact input [] = refl

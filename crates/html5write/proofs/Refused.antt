@@ -1,4 +1,4 @@
--- A piece is refused exactly where it can't be written.
+-- A piece is refused exactly if it can't be written.
 use Rattle.std.proofs.Common.{◌≡◌, ℕ, ◌+◌, Bool, true, false, List, [], ◌∷◌, Some, None, Option, length, refl, ap, sym, ◌∙◌}
 use Rattle.std.specs.Prelude.{◌==◌, ◌&&◌, not, encode_utf8, option_map, if◌then◌else◌}
 use Rattle.std.specs.List.{list_all}

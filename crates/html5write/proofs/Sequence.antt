@@ -1,4 +1,4 @@
--- An item and what follows it tell what each tells, and what a text tells that stands alone.
+-- An item and the text after it tell what each tells, and what a text tells that stands alone.
 use Rattle.std.proofs.Common.{◌≡◌, ℕ, List, [], ◌++◌, ap, sym, ◌∙◌}
 use Rattle.std.proofs.lemmas.List.{append_assoc, append-nil}
 use Rattle.html5ever_interface.specs.Sink.{Means, Message, stepped}
@@ -10,7 +10,7 @@ use Rattle.html5reading.specs.Start.{Start, Rules}
 use Rattle.html5reading.proofs.ReadingLemmas.{told-nil, after-nil}
 
 module _ {X S H : Type 0} (means : Means X S H) (rules : Rules) where
-  -- where no text stands before the item
+  -- when no text stands before the item
   tells-first : (Z : List ℕ) (K : Start) (s : S) (Y : List ℕ) (M : List Message) (later : Start) → TellsBefore means rules Z K s Y M later
       → messages_so_far means rules K s (Y ++ Z) ≡ M ++ messages_so_far means rules later (stepped means.step s M) Z
   unfolding stepped

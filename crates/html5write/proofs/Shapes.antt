@@ -1,4 +1,4 @@
--- A tag as it is written, in the parts of which the grammar makes tags.
+-- A written tag, in the parts of which the grammar makes tags.
 use Rattle.std.proofs.Common.{◌≡◌, ℕ, Bool, true, false, List, [], ◌∷◌, ◌++◌, refl, ap, sym, ◌∙◌, subst}
 use Rattle.std.specs.Prelude.{flat_map, codes}
 use Rattle.std.specs.List.{list_all}

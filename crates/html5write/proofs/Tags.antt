@@ -1,4 +1,4 @@
--- A tag as it is written tells itself.
+-- A written tag tells itself.
 use Rattle.std.proofs.Common.{◌≡◌, ℕ, true, false, List, [], ◌∷◌, ◌++◌, refl, sym, ◌∙◌, subst}
 use Rattle.std.specs.Prelude.{flat_map, codes, encode_utf8_all}
 use Rattle.std.specs.List.{list_all}

@@ -1,4 +1,4 @@
--- A text as it is written tells itself.
+-- A written text tells itself.
 use Rattle.std.proofs.Common.{◌≡◌, ℕ, Bool, true, false, List, [], ◌∷◌, ◌++◌, None, refl, ap, sym, ◌∙◌, subst}
 use Rattle.std.specs.Prelude.{not, ◌==◌, codes, encode_utf8}
 use Rattle.std.proofs.Math.Bool.{and-false}
@@ -28,7 +28,7 @@ use Rattle.html5write.specs.Told.{IsOpen, character_told, text_messages}
 use Rattle.html5write.proofs.Characters.{IsPlain, each_character, escaped-plain}
 use Rattle.html5write.proofs.Sequence.{in_sequence}
 
--- no character as it is written ends with a CR
+-- no written character ends with a CR
 no_break-escaped : (input : Input) (c : ℕ) → (input_after input (escaped c)).after_carriage_return ≡ false
 unfolding input_after ends_with_carriage_return escaped reference_of
 no_break-escaped input c =

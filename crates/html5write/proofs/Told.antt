@@ -1,4 +1,4 @@
--- What a tag tells as it is written.
+-- What a written tag tells.
 use Rattle.std.proofs.Common.{◌≡◌, ℕ, Bool, true, false, List, [], ◌∷◌, ◌++◌, refl, ap, sym, ◌∙◌}
 use Rattle.std.specs.Prelude.{not, flat_map, map, codes, encode_utf8_all}
 use Rattle.std.specs.List.{list_all}

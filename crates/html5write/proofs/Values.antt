@@ -1,4 +1,4 @@
--- A value as it is written is read as that value.
+-- A written value is read as that value.
 use Rattle.std.proofs.Common.{◌≡◌, ℕ, zero, true, false, List, [], ◌∷◌, ◌++◌, refl, ap, ◌∙◌}
 use Rattle.std.specs.Prelude.{◌==◌, not, flat_map, encode_utf8, encode_utf8_all}
 use Rattle.std.specs.List.{list_all}

@@ -21,7 +21,7 @@ NoStopWithin bytes from to = NoneWithin IsStop bytes from to
 abbrev pub IsNull : ℕ → Type 0
 IsNull byte = byte ≡ 0
 
--- the text begins with characters that are written as they are, which take so many bytes
+-- the text begins with characters that are written as they are, which take this many bytes
 pub record BeginsPlain (text : List ℕ) (len : ℕ) : Type 0 where
   pub within : len ≤ length text
   pub rest_utf8 : IsUtf8 (drop len text)

@@ -145,7 +145,7 @@ pub record IsReadBack {S H : Type 0} (rules : Rules) (K : Start) (reply : S → 
   pub can : list_all can_write pieces ≡ true
   pub keeps : KeepsOn {S = S} reply pieces
 
--- ---- what it tells but for errors
+-- ---- what it tells except for errors
 
 abbrev pub proper_token : Told → List Told
 proper_token (Error message) = []

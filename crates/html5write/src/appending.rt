@@ -41,7 +41,7 @@ fn push_character<A: Allocator>(out: &mut String<A>, c: char) -> Result<(), Allo
     Ok(())
 }
 
-// Appends a text, with references for the characters that can't stand for themselves: what stands between them goes at
+// Appends a text, with references for the characters that can't stand for themselves: the text between them goes at
 // once.
 #[inline(never)]
 fn push_escaped<A: Allocator>(out: &mut String<A>, text: &str) -> Result<(), AllocError>

@@ -256,7 +256,7 @@ fn start_tag_refusal(name: &str, attributes: &[Attribute<'_>]) -> Option<WriteEr
     }
 }
 
-/// Why the piece can't be written, where it can't: of several reasons the first in the order of the text.
+/// Why the piece can't be written, if it can't: of several reasons the first in the order of the text.
 #[inline(always)]
 #[tactic(auto, unfolding(crate::specs::Refusals::refusal_of))]
 pub fn refusal_of(piece: &Piece<'_>) -> Option<WriteError>

@@ -27,7 +27,7 @@ use html5ever_interface::interface::sink::TokenSink;
 use html5ever_interface::interface::token::Token;
 use std::alloc::Allocator;
 
-/// A text as it is written, wherever it stands in Data, tells that text, however what follows goes on.
+/// A written text, wherever it stands in Data, tells that text, however the text after it goes on.
 /// No table is needed.
 pub fn text<S: TokenSink<Token<A>>, A: Allocator>()
     ensures { (rules : Rules) (K : Start) (s : S.State) (text : List ℕ) → IsOpen K → has_no_null text ≡ true
@@ -35,7 +35,7 @@ pub fn text<S: TokenSink<Token<A>>, A: Allocator>()
         (start_beyond K (escaped_text text) (Between Data) K.last_start_tag) }
 {}
 
-/// A start tag as it is written tells that tag at its `>`: its name, and its attributes in order, each
+/// A written start tag tells that tag at its `>`: its name, and its attributes in order, each
 /// with its value.
 pub fn start_tag<S: TokenSink<Token<A>>, A: Allocator>()
     ensures { (rules : Rules) (K : Start) (s : S.State) (name : List ℕ) (attributes : List NameAndValue)
@@ -45,7 +45,7 @@ pub fn start_tag<S: TokenSink<Token<A>>, A: Allocator>()
         (start_beyond K (piece_text (StartTagPiece name attributes)) (Between Data) (encode_utf8_all name)) }
 {}
 
-/// An end tag as it is written tells that tag at its `>`.
+/// A written end tag tells that tag at its `>`.
 pub fn end_tag<S: TokenSink<Token<A>>, A: Allocator>()
     ensures { (rules : Rules) (K : Start) (s : S.State) (name : List ℕ)
         → IsPieceReadBack {S = S.State} rules K S.means.reply (EndTagPiece name)
@@ -54,7 +54,7 @@ pub fn end_tag<S: TokenSink<Token<A>>, A: Allocator>()
         (start_beyond K (piece_text (EndTagPiece name)) (Between Data) K.last_start_tag) }
 {}
 
-/// A comment as it is written tells its text at its last character. No table is needed.
+/// A written comment tells its text at its last character. No table is needed.
 pub fn comment<S: TokenSink<Token<A>>, A: Allocator>()
     ensures { (rules : Rules) (K : Start) (s : S.State) (text : List ℕ) → IsOpen K
         → can_write (CommentPiece text) ≡ true
@@ -63,8 +63,8 @@ pub fn comment<S: TokenSink<Token<A>>, A: Allocator>()
         (start_beyond K (piece_text (CommentPiece text)) (Between Data) K.last_start_tag) }
 {}
 
-/// A page that is written piece by piece, wherever it is put in Data, tells its pieces. It is read to
-/// where nothing is open, so what follows it is read as it would be without it.
+/// A page that is written piece by piece, wherever it is put in Data, tells its pieces. It leaves nothing
+/// open, so the text after it is read as it would be without it.
 pub fn all_pieces<S: TokenSink<Token<A>>, A: Allocator>()
     ensures { (rules : Rules) (K : Start) (s : S.State) (pieces : List pieces.Piece)
         → IsReadBack {S = S.State} rules K S.means.reply pieces
@@ -90,7 +90,7 @@ pub fn whole_text<S: TokenSink<Token<A>>, A: Allocator>()
         → tokens_of (all_messages S.means rules K s (pieces_text pieces)) ≡ pieces_tokens pieces ++ End ∷ [] }
 {}
 
-/// The page of a writer is such a page: it is read, but for errors, as exactly the pieces that were
+/// The page of a writer is such a page: it is read, except for errors, as exactly the pieces that were
 /// written and the end.
 pub fn read_back<S: TokenSink<Token<A>>, A: Allocator + Copy>(writer: &Writer<A>)
     ensures { (rules : Rules) (K : Start) (s : S.State) → IsTable rules.references → IsOpen K
@@ -100,7 +100,7 @@ pub fn read_back<S: TokenSink<Token<A>>, A: Allocator + Copy>(writer: &Writer<A>
     let _written = writer.as_str();
 }
 
-/// A piece is refused for some reason exactly where it can't be written.
+/// A piece is refused for some reason exactly if it can't be written.
 pub fn refusals()
     ensures { (piece : pieces.Piece) → is_none (refusal_of piece) ≡ can_write piece }
 {}

@@ -6,7 +6,7 @@ ghost use Rattle.html5write.specs.Runs.{BeginsPlain, IsNull, IsPlainText, IsStop
 use markup5ever::blocks::{BLOCK, Sought, first_from, lowest_bit};
 use std::simd::prelude::*;
 
-// How many bytes are looked at in one step where there are fewer than a block.
+// How many bytes are looked at in one step if there are fewer than a block.
 const HALF: usize = 8;
 
 // Whether a byte is NUL, or may begin a character that is written as a reference.

@@ -16,7 +16,7 @@ use markup5ever::text::{push_long, push_text};
 use std::alloc::{AllocError, Allocator};
 use std::marker::Model;
 
-// Texts of so many bytes are appended without a call that copies bytes.
+// Texts of this many bytes are appended without a call that copies bytes.
 const SHORT: usize = 8;
 
 /// A piece that was looked at, and can be written. Contracts see the piece.
@@ -55,7 +55,7 @@ fn is_plain_piece(piece: &Piece<'_>) -> bool
 }
 
 impl<'a> Writable<'a> {
-    /// Looks at a piece: it is writable where nothing speaks against writing it.
+    /// Looks at a piece: it is writable if nothing speaks against writing it.
     #[inline(always)]
     pub fn new(piece: Piece<'a>) -> Result<Writable<'a>, WriteError>
         ensures same { IfOk result (λ writable. writable ≡ piece.entry) }

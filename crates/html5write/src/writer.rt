@@ -57,7 +57,7 @@ impl<A: Allocator + Copy> Writer<A> {
         }
     }
 
-    /// Writes a piece after the others. Where it is refused, nothing is written.
+    /// Writes a piece after the others. If it is refused, nothing is written.
     pub fn write(&mut self, piece: &Piece<'_>) -> Result<(), WriteError>
         ensures { Writes result self.old self.new (piece_of piece.now) }
     {

@@ -32,14 +32,14 @@ read_boundary text offset read = IsCharBoundary-from_drop text offset read.withi
 pub IsReadTo-start : (text : List ℕ) → IsUtf8 text → IsReadTo text 0
 IsReadTo-start text utf8 = record { within = omega arith; rest_utf8 = utf8 }
 
--- so many bytes further
+-- this many bytes further
 pub IsReadTo-more : (text front : List ℕ) (offset bytes : ℕ) → front ≡ drop offset text → bytes < length front → IsUtf8 (drop bytes front) → IsReadTo text (offset + bytes)
 IsReadTo-more text front offset bytes is within utf8 = record {
   within = omega (arith, within, ap length is, length-drop offset text);
   rest_utf8 = rw (is, drop-drop) at utf8;
 }
 
--- what waits is what so many bytes take, and what waits then
+-- the queued text is what this many bytes take, and the text queued then
 pub taken_apart : (text waiting : List ℕ) (offset bytes : ℕ) → IsReadTo text offset → chars (drop offset text) ≡ waiting → bytes ≤ length (encode_utf8_all waiting) → IsUtf8 (drop bytes (encode_utf8_all waiting)) → waiting ≡ chars (take bytes (encode_utf8_all waiting)) ++ chars (drop (offset + bytes) text)
 taken_apart text waiting offset bytes read is within utf8 =
     let front = drop offset text in
@@ -48,11 +48,11 @@ taken_apart text waiting offset bytes read is within utf8 =
     let cut : waiting ≡ chars (take bytes front) ++ chars (drop bytes front) = sym is ∙ chars_cut front bytes (IsUtf8-take front bytes read.rest_utf8 boundary) in
     cut ∙ ap (λ bs. chars (take bytes bs) ++ chars (drop bytes front)) (sym all) ∙ ap (λ bs. chars (take bytes (encode_utf8_all waiting)) ++ chars bs) (drop-drop bytes offset text)
 
--- the first bytes of a text, as a range and as a beginning
+-- the first bytes of a text, as a range and as a prefix
 pub range_from_start : (text : List ℕ) (bytes : ℕ) → slice_range text 0 bytes ≡ take bytes text
 range_from_start text bytes = ap (λ n. take n text) (omega arith)
 
--- so many bytes were taken, and their characters counted
+-- this many bytes were taken, and their characters counted
 pub takes_bytes : (old new : TextQueue) (text run : List ℕ) (offset bytes : ℕ) → IsReadTo text offset → chars (drop offset text) ≡ old.text → run ≡ take bytes (drop offset text) → bytes ≤ length (encode_utf8_all old.text) → IsUtf8 (drop bytes (encode_utf8_all old.text)) → new.text ≡ chars (drop (offset + bytes) text) → new.handed_in ≡ old.handed_in → new.taken ≡ old.taken + length (chars run) → Takes old new (chars (take bytes (encode_utf8_all old.text)))
 takes_bytes old new text run offset bytes read is run_is within utf8 rest_is handed_in taken =
     let all : drop offset text ≡ encode_utf8_all old.text = sym (waiting_bytes text old.text offset read is) in
@@ -81,7 +81,7 @@ pub ends_run : (set : ℕ) (text : List ℕ) → ((c : ℕ) (rest : List ℕ) �
 ends_run set [] stops = tt
 ends_run set (c ∷ rest) stops = stops c rest refl
 
--- a run that begins what waits, and after which each first character is a member of the set
+-- a run that begins the queued text, and after which each first character is a member of the set
 pub rest_ends_run : (set : ℕ) (front run rest : List ℕ) (len : ℕ) → IsUtf8 run → run ≡ take len front → chars front ≡ chars run ++ rest → ((c : ℕ) (cs : List ℕ) → chars (drop len front) ≡ c ∷ cs → IsMember set c) → EndsRun set rest
 rest_ends_run set front run rest len utf8 run_is split stops =
     let cut : chars front ≡ chars run ++ chars (drop len front) = rw run_is (chars_cut front len (rw run_is at utf8)) in

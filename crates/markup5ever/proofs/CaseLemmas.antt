@@ -70,7 +70,7 @@ ascii_from_folded IgnoreAscii text ascii = λ k. below_lower (slice_index text k
 ascii_from_like : (case : Case) (text pattern : List ℕ) → IsAscii pattern → folded case text ≡ folded case pattern → IsAscii text
 ascii_from_like case text pattern ascii like = ascii_from_folded case text (rw like (IsAscii-folded case pattern ascii))
 
--- ---- a beginning, said of as many characters as it has
+-- ---- a prefix, said of as many characters as it has
 
 front_from_begins : (case : Case) (text pattern : List ℕ) → BeginsLike case text pattern → (length pattern ≤ length text) × (folded case (take (length pattern) text) ≡ folded case pattern)
 front_from_begins case text pattern begins =

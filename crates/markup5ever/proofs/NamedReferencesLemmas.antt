@@ -1,4 +1,4 @@
--- What ascending entries answer, and what becomes of them with one more.
+-- What ascending entries answer, and the same with one entry more.
 use Rattle.std.proofs.Common.{◌≡◌, ℕ, Bool, true, false, ◌||◌, List, [], ◌∷◌, ◌++◌, take, drop, get_or, Option, None, Some, IsTrue, All, if◌then◌else◌, refl, sym, ap, ◌∙◌}
 use Rattle.std.specs.Bool.{nat_eq}
 use Rattle.std.specs.Cmp.Lexicographic.{slice_cmp}

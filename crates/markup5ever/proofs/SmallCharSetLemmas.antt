@@ -114,7 +114,7 @@ outside_from_bytes set (c ∷ cs) outside =
     let outside_c : ¬ IsMember set c = λ member. All-head Other c [] (rw (encode_ascii c (omega (arith, member.0))) at first) member in
     All-cons Other c cs outside_c (outside_from_bytes set cs others)
 
--- the first bytes are outside, and the next is a member where there is one
+-- the first bytes are outside, and the next is a member if there is one
 abbrev StopsAt : ℕ → List ℕ → ℕ → Type 0
 StopsAt set text len = IsFirstFrom (IsMember set) text 0 len
 

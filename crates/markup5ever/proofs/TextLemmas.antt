@@ -8,7 +8,7 @@ use Rattle.std.proofs.lemmas.Str.{chars-append, chars_past_char, encode_ascii, e
 
 -- ---- texts and their characters
 
--- the first byte is the first character, where it is ASCII
+-- the first byte is the first character, if it is ASCII
 pub begins_with_ascii : (bs : List ℕ) (b : ℕ) → 0 < length bs → b ≡ get_or bs 0 b → is_ascii b ≡ true → (rest : List ℕ) × (bs ≡ encode_utf8 b ++ rest)
 begins_with_ascii [] b filled first ascii = absurd (omega (arith, filled))
 begins_with_ascii (a ∷ bs) b filled first ascii = (bs, rw (first, encode_ascii a (rw first at (ltb-true b 128 ascii))) refl)
@@ -33,7 +33,7 @@ filled_chars bs utf8 filled =
 pub chars_cut : (bs : List ℕ) (n : ℕ) → IsUtf8 (take n bs) → chars bs ≡ chars (take n bs) ++ chars (drop n bs)
 chars_cut bs n utf8 = ap chars (sym (take-append-drop n bs)) ∙ chars-append (take n bs) (drop n bs) utf8
 
--- the first character, which takes so many bytes, and what follows it
+-- the first character, which takes this many bytes, and the text after it
 pub record BeginsWith (bs : List ℕ) (c width : ℕ) : Type 0 where
   pub within : width ≤ length bs
   pub rest_utf8 : IsUtf8 (drop width bs)

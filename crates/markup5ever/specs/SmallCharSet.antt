@@ -11,7 +11,7 @@ IsMember set c = (c < 64) × IsBitSet set c
 abbrev pub IsOutside : ℕ → List ℕ → Type 0
 IsOutside set cs = All (λ c. ¬ IsMember set c) cs
 
--- the text begins with characters outside the set, which take so many bytes
+-- the text begins with characters outside the set, which take this many bytes
 pub record BeginsOutside (set : ℕ) (text : List ℕ) (len : ℕ) : Type 0 where
   pub within : len ≤ length text
   pub rest_utf8 : IsUtf8 (drop len text)

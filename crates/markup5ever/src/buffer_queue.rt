@@ -74,7 +74,7 @@ impl<A: Allocator> Model for BufferQueue<A> {
     ghost invariant = { λ q. IsReadTo (string_bytes q.text) q.offset };
 }
 
-// Appends a text to one of which so many bytes were taken. What is left of it moves to the front of its
+// Appends a text to one of which this many bytes were taken. What is left of it moves to the front of its
 // memory first, once more than half was taken.
 fn append<A: Allocator>(
     text: &mut String<A>,
@@ -118,8 +118,8 @@ fn make_boundary<A: Allocator>(text: &mut String<A>, offset: usize, at: usize) -
     text.is_char_boundary(at)
 }
 
-// Writes a text over the end of what was taken, so that it waits in front of the rest. Answers `false` where there is no
-// room: then what waits stays.
+// Writes a text over the end of what was taken, so that it waits in front of the rest. Answers `false` if there is
+// no room: then the queued text stays.
 fn write_in_front<A: Allocator>(text: &mut String<A>, offset: &mut usize, front: &str) -> bool
     requires { IsReadTo (string_bytes text.old) offset.old }
     ensures written { IsTrue result → drop offset.new (string_bytes text.new)
@@ -142,8 +142,8 @@ fn write_in_front<A: Allocator>(text: &mut String<A>, offset: &mut usize, front:
     true
 }
 
-// Appends the rest to a text. A copy of the rest's first half comes before both, and the answer is its length: it is room
-// for further texts, so that many short ones don't copy the rest each time.
+// Appends the rest to a text. A copy of the rest's first half comes before both, and the answer is its length. It is
+// room for further texts, so that many short ones don't copy the rest each time.
 fn append_with_room<A: Allocator>(text: &mut String<A>, rest: &str) -> Result<usize, AllocError>
     ensures waits { IfOk result (λ offset. drop offset (string_bytes text.new)
         ≡ string_bytes text.old ++ rest.now) }
@@ -196,7 +196,7 @@ impl<A: Allocator> BufferQueue<A> {
         self.front_text().is_empty()
     }
 
-    /// Hands in a text, which comes back where there is no memory for it.
+    /// Hands in a text, which comes back if there is no memory for it.
     pub fn push_back(&mut self, text: String<A>) -> Result<(), String<A>>
         ensures ok { OnOk result (Gains self.old self.new (chars (string_bytes text))) }
         ensures err { OnErr result (self.new ≡ self.old) }
@@ -229,7 +229,7 @@ impl<A: Allocator> BufferQueue<A> {
         Ok(())
     }
 
-    /// Hands in a text in front of what waits. It comes back where there is no memory for it.
+    /// Hands in a text in front of the queued text. It comes back if there is no memory for it.
     pub fn push_front(&mut self, text: String<A>) -> Result<(), String<A>>
         ensures ok { OnOk result (GainsFront self.old self.new (chars (string_bytes text))) }
         ensures err { OnErr result (self.new ≡ self.old) }
@@ -242,7 +242,7 @@ impl<A: Allocator> BufferQueue<A> {
         Ok(())
     }
 
-    /// Puts a text that was handed in before in front of what waits. It comes back where there is no
+    /// Puts a text that was handed in before in front of the queued text. It comes back if there is no
     /// memory for it.
     pub fn give_back(&mut self, mut text: String<A>) -> Result<(), String<A>>
         ensures ok { OnOk result (TakesBack self.old self.new (chars (string_bytes text))) }
@@ -286,8 +286,8 @@ impl<A: Allocator> BufferQueue<A> {
         Some(c)
     }
 
-    /// Takes the pattern where what waits begins with it, and answers whether it does. `None` where
-    /// what waits ends before that is decided.
+    /// Takes the pattern if the queued text begins with it, and answers whether it does. `None` if the queued text ends
+    /// before that is decided.
     pub fn eat(&mut self, pat: &str, case: Case) -> Option<bool>
         requires filled { pat.now ≢ [] }
         requires ascii { IsAscii pat.now }
@@ -321,7 +321,7 @@ impl<A: Allocator> BufferQueue<A> {
         &text[self.offset..]
     }
 
-    /// Takes so many bytes of what waits.
+    /// Takes this many bytes of the queued text.
     #[inline(always)]
     pub fn skip(&mut self, bytes: usize)
         requires within { bytes ≤ length (encode_utf8_all self.old.text) }
@@ -339,7 +339,7 @@ impl<A: Allocator> BufferQueue<A> {
     }
 }
 
-// So many bytes are handed out in the queue's own memory. Fewer are copied.
+// This many bytes are handed out in the queue's own memory. Fewer are copied.
 const LENT: usize = 16;
 
 impl<A: Allocator + Copy> BufferQueue<A> {
@@ -366,7 +366,7 @@ impl<A: Allocator + Copy> BufferQueue<A> {
         Ok(Some(SetResult::NotFromSet(text)))
     }
 
-    /// Takes so many bytes as a text. Where these are all of the text, it is handed out as it is, unless
+    /// Takes this many bytes as a text. Where these are all of the text, it is handed out as it is, unless
     /// it is short: the queue then keeps its memory for what comes next.
     #[inline(always)]
     pub fn take_text(&mut self, bytes: usize) -> Result<String<A>, AllocError>

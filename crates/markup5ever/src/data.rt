@@ -313,7 +313,7 @@ const SLOTS: usize = 4096;
 // By which keys are multiplied. With this number those of the standard's names that pages use most have their slots.
 const SPREAD: u64 = 0xAB15_A7B1_CBF6_9201;
 
-// How many slots a table of so many names has. One without names asks for no memory.
+// How many slots a table of this many names has. One without names asks for no memory.
 fn slots_for(names: usize) -> usize {
     if names == 0 { 0 } else { SLOTS }
 }

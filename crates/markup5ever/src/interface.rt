@@ -8,7 +8,7 @@ use std::alloc::{AllocError, Allocator, Global};
 #[derive_where(Debug, PartialEq, Eq, PartialOrd, Ord, Hash)]
 pub struct LocalName<A: Allocator = Global>(pub String<A>);
 
-/// What stands before the colon of a name.
+/// The part of a name before its colon.
 #[derive(Drop)]
 #[derive_where(Debug, PartialEq, Eq, PartialOrd, Ord, Hash)]
 pub struct Prefix<A: Allocator = Global>(pub String<A>);

@@ -9,7 +9,7 @@ use crate::blocks::{BLOCK, Sought, first_from, lowest_bit};
 use std::marker::Model;
 use std::simd::prelude::*;
 
-// The bits of a byte, lowest first. What stands after them is never looked up.
+// The bits of a byte, lowest first. The entries after them are never looked up.
 const BITS: [u8; 16] = [1, 2, 4, 8, 16, 32, 64, 128, 0, 0, 0, 0, 0, 0, 0, 0];
 
 /// A set of characters below 64, as one number of 64 bits.
@@ -90,9 +90,9 @@ impl Sought for SmallCharSet {
     }
 }
 
-// A lane for each byte, which is not zero just where the byte is in the set of these bits. Two tables are looked up, each
-// for all bytes at once: by the higher bits of a byte eight bits of the set, and by its lowest three the one of them that
-// stands for it.
+// A lane for each byte, which is not zero just where the byte is in the set of these bits. Two tables are looked up,
+// each for all bytes at once. The higher bits of a byte give eight bits of the set, and its lowest three the one of
+// them that stands for it.
 #[inline(always)]
 fn marks(bits: u64, block: u8x16) -> u8x16
     ensures { (k : ℕ) → k < BLOCK

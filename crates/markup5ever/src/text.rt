@@ -18,7 +18,7 @@ fn push_with_room<A: Allocator>(text: &mut String<A>, more: &str) -> Result<(), 
     text.push_str(more)
 }
 
-// Appends a text of so many bytes. Where the compiler knows how many, it stores them.
+// Appends a text of this many bytes. Where the compiler knows how many, it stores them.
 #[inline(always)]
 fn push_short<A: Allocator>(text: &mut String<A>, more: &str, len: usize) -> Result<(), AllocError>
     requires { length more.now ≡ len }

@@ -17,6 +17,6 @@ waiting o = drop o.taken o.bytes
 abbrev pub adding : Outgoing → List ℕ → Outgoing
 adding o more = record o { bytes = o.bytes ++ more }
 
--- so many bytes more were taken
+-- this many bytes more were taken
 abbrev pub taking : Outgoing → ℕ → Outgoing
 taking o count = record o { taken = o.taken + count }

@@ -3,7 +3,7 @@ ghost use Rattle.std.specs.Prelude.{◌≡◌, ◌+◌, ◌/◌, ◌≤◌, drop
 
 use std::alloc::Allocator;
 
-/// What is left of the bytes once so many were skipped.
+/// What is left of the bytes once this many were skipped.
 pub fn rest_of<A: Allocator>(written: &Vec<u8, A>, skipped: usize) -> &[u8]
     requires { skipped ≤ vec_len written.now }
     ensures { result.now ≡ drop skipped written.now.items }
@@ -11,7 +11,7 @@ pub fn rest_of<A: Allocator>(written: &Vec<u8, A>, skipped: usize) -> &[u8]
     &written[skipped..]
 }
 
-// Lets so many bytes at the front go. What is left moves up.
+// Drops this many bytes at the front. What is left moves up.
 fn drop_front<A: Allocator>(written: &mut Vec<u8, A>, count: usize)
     requires { count ≤ vec_len written.old }
     ensures { written.new.items ≡ drop count written.old.items }
@@ -21,8 +21,8 @@ fn drop_front<A: Allocator>(written: &mut Vec<u8, A>, count: usize)
     written.truncate(rest);
 }
 
-/// Counts so many more bytes as skipped. What is left moves up once more than half is skipped, so that each byte moves
-/// at most once for each byte that is skipped.
+/// Counts this many more bytes as skipped. What is left moves up once more than half is skipped, so that each byte
+/// moves at most once for each byte that is skipped.
 pub fn skip_front<A: Allocator>(written: &mut Vec<u8, A>, skipped: &mut usize, count: usize)
     requires { skipped.old + count ≤ vec_len written.old }
     ensures rest { drop skipped.new written.new.items ≡ drop (skipped.old + count) written.old.items }

@@ -59,7 +59,7 @@ impl<A: Allocator> Outbox<A> {
         rest_of(&self.written, self.skipped)
     }
 
-    /// Takes so many bytes of those that wait.
+    /// Takes this many bytes of those that wait.
     pub fn skip(&mut self, count: usize)
         requires { count ≤ length (waiting self.old) }
         ensures { self.new ≡ taking self.old count }

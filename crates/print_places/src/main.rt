@@ -1,6 +1,7 @@
-//! Prints each token of standard input with its places: a line of the three numbers of `Places`, and then the lines that
-//! html5tok prints of the run before the token, where there is text in it, and of the token. The words and the statuses
-//! are those of html5tok, but for `--foreign`, which is not known here. Scripts compare that with what others see.
+//! Prints each token of standard input with its places. First a line of the three numbers of `Places`; then the
+//! lines that html5tok prints of the run before the token, if it has text, and of the token. The words and the
+//! statuses are those of html5tok, except for `--foreign`, which is not known here. Scripts compare that with what
+//! others see.
 #![tactic(auto)]
 
 ghost use Rattle.html5feed.specs.Starting.{CanStart};

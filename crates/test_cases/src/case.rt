@@ -1,4 +1,4 @@
-//! A worked case, as it is written.
+//! A worked case as text.
 use crate::check::failure_of;
 use std::alloc::{AllocError, Global};
 use testing_lines::{Case, CaseError, push_line, push_meant, push_word};
@@ -58,7 +58,7 @@ impl Case for WorkedCase {
         }
     }
 
-    // A mark, and what stands after the space that follows it.
+    // A mark, and the text after the space that follows it.
     fn read_line(&mut self, alloc: Global, line: &str) -> Result<(), CaseError> {
         let (mark, text) = line.split_once(' ').unwrap_or((line, ""));
         match mark {

@@ -29,7 +29,7 @@ struct Ran {
 struct Way {
     // With exact errors, beside the words of the case.
     exact: bool,
-    // In pieces of so many characters; 0 stands for the whole.
+    // In pieces of this many characters; 0 stands for the whole.
     cut: usize,
 }
 
@@ -72,7 +72,7 @@ fn is_told(alloc: Global, case: &WorkedCase, way: Way) -> Result<bool, AllocErro
     )
 }
 
-// Whether an input that may go on, cut in pieces of so many characters, tells what it must.
+// Whether an input that may go on, cut in pieces of this many characters, tells what it must.
 fn is_told_so_far(
     alloc: Global,
     case: &WorkedCase,

@@ -1,5 +1,5 @@
 //! Runs the worked cases of its input: each whole, in pieces of each length, and cut in two at each place.
-//! By the word `sweep` it reads each beginning of their inputs, too, with each short text after it.
+//! By the word `sweep` it reads each prefix of their inputs, too, with each short text after it.
 #![tactic(auto)]
 
 mod case;
@@ -25,7 +25,7 @@ fn asks_for_sweep(words: &[String]) -> bool {
     }
 }
 
-// Runs the cases of a text, and reads their beginnings, where the words ask for it.
+// Runs the cases of a text, and reads their prefixes, where the words ask for it.
 fn run_all(alloc: Global, words: &[String], text: &str) -> Result<Told, CaseError> {
     let mut told = check_cases::<WorkedCase>(alloc, text, "cases")?;
     if !asks_for_sweep(words) {

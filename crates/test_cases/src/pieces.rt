@@ -16,13 +16,13 @@ use testing_lines::CaseError;
 /// How an input is cut.
 #[derive(Clone, Copy, Debug, PartialEq, Eq)]
 pub enum Cutting {
-    /// In two, after so many characters.
+    /// In two, after this many characters.
     Afterwards(usize),
     /// Into its characters.
     Characters,
 }
 
-// The text before so many characters, and what follows it.
+// The text up to this many characters, and the rest.
 fn halves_of(alloc: Global, text: &str, count: usize) -> Result<Vec<String>, AllocError> {
     let mut first = String::new(alloc);
     let mut second = String::new(alloc);
@@ -68,14 +68,14 @@ pub struct Due {
 }
 
 impl Due {
-    // Whether lines so far are a beginning of those that are due: whole ones, and a text that is open.
+    // Whether lines so far are a prefix of those that are due: whole ones, and a text that is open.
     fn begins_with(&self, so_far: &str) -> bool {
         let (_, open) = so_far.rsplit_once('\n').unwrap_or(("", so_far));
         self.lines.starts_with(so_far) && (open.is_empty() || open.starts_with("text \""))
     }
 }
 
-// The answer of a call to a tokenizer as one about a case: its sinks fail for want of memory alone.
+// The answer of a call to a tokenizer as one about a case: its sinks fail only when out of memory.
 fn answered(answer: Result<(), TokenizerError>) -> Result<(), CaseError> {
     match answer {
         Ok(()) => Ok(()),
@@ -98,7 +98,7 @@ fn feed_piece<S: TokenSink<Token> + SoFar>(
     answered(feed_until_done(tokenizer, queue))
 }
 
-// Feeds the pieces. Answers whether after each a beginning of what is due was sent.
+// Feeds the pieces. Answers whether after each a prefix of what is due was sent.
 fn feed_all<S: TokenSink<Token> + SoFar>(
     alloc: Global,
     tokenizer: &mut Tokenizer<'_, S>,
@@ -136,7 +136,7 @@ fn is_told<S: TokenSink<Token> + SoFar>(
 }
 
 /// Feeds a new tokenizer the pieces one after another, and ends it. Answers whether its sink was sent
-/// after each piece a beginning of what is due, and all of it in the end; and the sink.
+/// after each piece a prefix of what is due, and all of it in the end; and the sink.
 pub fn feed_pieces<S: TokenSink<Token> + SoFar>(
     alloc: Global,
     sink: S,

@@ -1,4 +1,4 @@
-//! Each beginning of the inputs, with each short text after it, read by a collector at once and by its
+//! Each prefix of the inputs, with each short text after it, read by a collector at once and by its
 //! characters.
 ghost use Rattle.std.specs.Prelude.{IsSome};
 ghost use Rattle.html5feed.specs.Starting.{CanStart};
@@ -15,7 +15,7 @@ use std::alloc::{AllocError, Global};
 use std::collections::BTreeSet;
 use testing_lines::{CaseError, cases_of, push_line};
 
-// The characters of the texts after a beginning, of which each has at most two.
+// The characters of the texts after a prefix, of which each has at most two.
 const BEHIND: &str = "a-!</>=&;\" \0";
 
 /// What the runs told: a line for each text for which they differ.
@@ -24,11 +24,11 @@ pub struct Swept {
     pub lines: String,
     pub failed: u64,
     pub runs: u64,
-    // The beginnings that were read, with the words by which they were.
+    // The prefixes that were read, with the words by which they were.
     seen: BTreeSet<String>,
 }
 
-// What tells a beginning that is read by the words from all others.
+// What tells a prefix that is read by the words from all others.
 fn key_of(alloc: Global, words: &[String], beginning: &str) -> Result<String, AllocError> {
     let mut key = format!(in alloc; "{}", words.len())?;
     for word in words {
@@ -105,7 +105,7 @@ impl Swept {
         Ok(())
     }
 
-    // Reads a beginning with each text of at most two characters after it.
+    // Reads a prefix with each text of at most two characters after it.
     fn try_beginning(
         &mut self,
         alloc: Global,
@@ -129,7 +129,7 @@ impl Swept {
         Ok(())
     }
 
-    // Whether a beginning is read by the words for the first time.
+    // Whether a prefix is read by the words for the first time.
     fn is_new(
         &mut self,
         alloc: Global,
@@ -146,7 +146,7 @@ impl Swept {
         }
     }
 
-    // Reads each beginning of a case's input that is new, the empty and the whole one too.
+    // Reads each prefix of a case's input that is new, the empty and the whole one too.
     fn try_input(
         &mut self,
         alloc: Global,
@@ -172,7 +172,7 @@ impl Swept {
         Ok(())
     }
 
-    // Reads the beginnings of a case, where a collector can be sent it.
+    // Reads the prefixes of a case, where a collector can be sent it.
     fn try_case(&mut self, alloc: Global, case: &WorkedCase) -> Result<(), CaseError> {
         if case.status != 0 || case.steered {
             return Ok(());
@@ -184,7 +184,7 @@ impl Swept {
     }
 }
 
-/// Reads the beginnings of all cases, each once.
+/// Reads the prefixes of all cases, each once.
 pub fn sweep(alloc: Global, text: &str) -> Result<Swept, CaseError> {
     let mut swept = Swept {
         lines: String::new(alloc),

@@ -6,7 +6,7 @@ use url::Url;
 
 const BASES: [&str; 3] = ["https://h/a", "file:///x", "mailto:x"];
 
-// Addresses that are kept, and the schemes of the URLs that they lead to from these bases: "" where there is none.
+// Addresses that are kept, and the schemes of the URLs that they lead to from these bases: "" if there is none.
 const LEADS_TO: [(&str, [&str; 3]); 15] = [
     ("", ["https", "file", ""]),
     ("x", ["https", "file", ""]),

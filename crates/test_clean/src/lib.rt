@@ -1,4 +1,4 @@
-//! Tests of policies and of the cleaner, where no run of the program shows it.
+//! Tests of policies and of the cleaner that no run of the program shows.
 #![tactic(auto)]
 
 #[cfg(test)]

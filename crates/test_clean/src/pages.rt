@@ -13,7 +13,7 @@ const PAGE: &str =
 const WANTED: &str =
     "<p title=\"a\">a text of some length &#60;<a href=\"c\" rel=\"noopener me\">e</a></p><p>so that the page grows</p>";
 
-// Whether what is kept is what is wanted, or nothing where a growth was refused.
+// Whether the kept part is the wanted one, or nothing where a growth was refused.
 fn keeps<A: Allocator + Copy>(alloc: A) -> Option<bool> {
     let references = NamedReferences::check(alloc, Vec::new(alloc)).ok()?;
     let policy = Policy::parse(alloc, RULES).ok()?;

@@ -116,7 +116,7 @@ fn ended_again<A: Allocator + Copy>(
     1
 }
 
-// How often a growth is refused while a page is read on a heap that may refuse a request, or `None` where there was no
+// How often a growth is refused while a page is read on a heap that may refuse a request, or `None` if there was no
 // memory for the table.
 fn refusals<A: Allocator + Copy>(
     rt: &impl Abort,

@@ -92,7 +92,7 @@ fn texts_of_pages(rt: HostRuntime) {
     }
 }
 
-// A page of so many letters, a hint, and a byte.
+// A page of this many letters, a hint, and a byte.
 fn long_page(rt: &impl Abort, alloc: Global, letters: usize) -> Vec<u8> {
     let mut page = vec![in alloc; b'a'; letters].expect(rt, "memory");
     page.extend_from_slice(b"<meta charset=windows-1251>\xe9")

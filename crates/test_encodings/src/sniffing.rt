@@ -6,7 +6,7 @@ use std::alloc::{AllocError, Allocator, Global};
 use std::process::Abort;
 use testing_alloc::Refusing;
 
-// What is said of a page, or its fallback.
+// The encoding declared for a page, or its fallback.
 const NONE: Option<Encoding> = None;
 
 const KOI8_R: Option<Encoding> = Some(Encoding::SingleByte(SingleByte::Koi8R));
@@ -21,7 +21,7 @@ const BIG5: Option<Encoding> = Some(Encoding::Big5);
 
 const UTF_16: Option<Encoding> = Some(Encoding::Utf16Le);
 
-// A page, what is said of it, the fallback, and the name of its encoding.
+// A page, its declared encoding, the fallback, and the name of its encoding.
 const PAGES: [(&[u8], Option<Encoding>, Option<Encoding>, &str); 58] = [
     (b"", NONE, NONE, "UTF-8"),
     (b"plain", NONE, NONE, "UTF-8"),
@@ -217,7 +217,7 @@ pub fn named(label: &str) -> Option<Encoding> {
     Encoding::for_label(label)
 }
 
-// What a page's first bytes tell of its encoding, or `None` where there was no memory for the table.
+// What a page's first bytes tell of its encoding, or `None` if there was no memory for the table.
 fn sniffed<A: Allocator + Copy>(
     alloc: A,
     page: &[u8],

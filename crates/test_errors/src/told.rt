@@ -69,7 +69,7 @@ fn check_rows(rt: &impl Abort, alloc: Global, rows: &[(&str, &str)]) {
     }
 }
 
-// The same of doctypes, whose rows say what stands after such a keyword.
+// The same of doctypes, whose rows say what comes after such a keyword.
 fn check_doctypes(rt: &impl Abort, alloc: Global, keyword: &str, rows: &[(&str, &str)]) {
     for (rest, codes) in rows {
         let source = format!(in alloc; "<!DOCTYPE html {keyword}{rest}").expect(rt, "memory");

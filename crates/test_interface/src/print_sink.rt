@@ -81,7 +81,7 @@ fn a_refused_growth_leaves_no_part_of_a_line(rt: HostRuntime) {
     assert!(rt; refused > 5);
 }
 
-// Appends what stands in quotes for a character.
+// Appends the quoted form of a character.
 fn push_escaped(alloc: Global, page: &mut String, c: char) -> Result<(), AllocError> {
     match c {
         '\\' => page.push_str("\\\\"),
@@ -98,7 +98,7 @@ fn push_escaped(alloc: Global, page: &mut String, c: char) -> Result<(), AllocEr
     }
 }
 
-// That a text is printed with what stands in quotes for its characters.
+// That a text is printed with the quoted form of its characters.
 fn check_printed(rt: &impl Abort, alloc: Global, text: &str) {
     let mut page = String::from_str(alloc, "text \"").expect(rt, "memory");
     for c in text.chars() {

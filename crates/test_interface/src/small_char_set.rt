@@ -21,7 +21,7 @@ fn a_run_ends_before_the_first_member(rt: HostRuntime) {
     }
 }
 
-// That the first member of a set ends the run that a text is, and what stands after it changes nothing. The other set
+// That the first member of a set ends the run that a text is, and the text after it changes nothing. The other set
 // has no member.
 fn check_member(
     rt: &impl Abort,

@@ -71,7 +71,7 @@ pub fn failing_call<A: Allocator + Copy, H: PlacedHandler<Token<A>>>(
     None
 }
 
-// That a new reader answers calls as it must, and what stands in the places of the tokens then.
+// That a new reader answers calls as it must, and the text at the places of the tokens then.
 pub fn check_calls(rt: &impl Abort, alloc: Global, source: &str, calls: &[Call<'_>], wanted: &str) {
     let references = standard_references(alloc).expect(rt, "memory");
     let mut handler = Cuts::new(alloc, source);

@@ -4,7 +4,8 @@ use html5places::{Origin, Origins, PlaceError};
 use std::alloc::{Allocator, Global};
 use testing_alloc::Refusing;
 
-// Notes some stretches: so many bytes of the source, three of text 0 from its second byte on, and the rest of the source.
+// Notes some stretches: this many bytes of the source, three of text 0 from its second byte on, and the rest of the
+// source.
 fn noted<A: Allocator>(origins: &mut Origins<A>) -> Result<(), PlaceError> {
     origins.record(Origin::Source(0), 4)?;
     origins.record(Origin::PutIn { text: 0, at: 1 }, 3)?;

@@ -8,7 +8,7 @@ use html5places::{PlaceError, PlacedHandler, Places};
 use std::alloc::{Allocator, Global};
 use testing_alloc::Refusing;
 
-// What stands in the places of a page's tokens, each after the run before it.
+// The text at the places of a page's tokens, each after the run before it.
 const PAGES: [(&str, &str); 20] = [
     ("a<b>c", "a|<b>|tag;c||end;"),
     (
@@ -40,7 +40,7 @@ const PAGES: [(&str, &str); 20] = [
         "\r\n<b\r\nc>\r\n</b>",
         "\r\n|<b\r\nc>|tag;\r\n|</b>|tag;||end;",
     ),
-    // The CR is the line break that is no `>`.
+    // The CR is the line break that is not a `>`.
     ("<b/\r\n>", "|\r|error;|<b/\r\n>|tag;||end;"),
     (
         "<!--a\0--><b\0 c='\0'>",
@@ -235,7 +235,7 @@ fn a_refused_growth_leaves_a_beginning(rt: HostRuntime) {
     assert!(rt; finished);
 }
 
-// Takes so many tokens, and refuses the next one.
+// Takes this many tokens, and refuses the next one.
 #[derive(Drop)]
 struct Few {
     left: u64,
@@ -278,8 +278,8 @@ fn a_handler_may_refuse_a_token(rt: HostRuntime) {
     assert_eq!(rt; failing, None);
 }
 
-// Which of the calls a reader answers otherwise on a heap that refuses the request after so many, and whether it
-// refused one. The handler asks for none.
+// Which of the calls a reader answers otherwise on a heap that refuses the request after this many, and whether
+// it refused one. The handler asks for none.
 fn failing_of_few(alloc: Global, admitted: u64, calls: &[Call<'_>]) -> (Option<usize>, bool) {
     let heap = Refusing::<Global>::new(alloc, admitted);
     let Ok(references) = NamedReferences::check(&heap, Vec::new(&heap)) else {
@@ -305,7 +305,7 @@ fn want_of_memory_is_said_as_such(rt: HostRuntime) {
         assert_eq!(rt; failing, None, "after {admitted} requests");
     }
     assert!(rt; finished);
-    // Where none is refused, the page is read.
+    // If none is refused, the page is read.
     let (failing, _) = failing_of_few(rt.alloc(), u64::MAX, &[Call::Read(PAGE, Ok(()))]);
     assert_eq!(rt; failing, None);
 }

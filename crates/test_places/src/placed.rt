@@ -5,7 +5,7 @@ use html5places::{PlacedHandler, Places, read_places};
 use std::alloc::{AllocError, Allocator, Global};
 use std::process::Abort;
 
-// Keeps what stands in each token's place, after the text in the place of the run before it.
+// Keeps the text at each token's place, after the text in the place of the run before it.
 #[derive(Drop)]
 pub struct Cuts<'s, A: Allocator = Global> {
     pub source: &'s str,
@@ -68,7 +68,7 @@ impl<'s, A: Allocator> PlacedHandler<Token<A>> for Cuts<'s, A> {
     }
 }
 
-// Whether what stands in the places of a text's tokens is this.
+// Whether the text at the places of a text's tokens is this.
 pub fn stand_so<A: Allocator + Copy>(rt: &impl Abort, alloc: A, source: &str, cuts: &str) -> bool {
     let references = standard_references(alloc).expect(rt, "memory");
     let mut handler = Cuts::new(alloc, source);
@@ -77,7 +77,7 @@ pub fn stand_so<A: Allocator + Copy>(rt: &impl Abort, alloc: A, source: &str, cu
     read.is_ok() && handler.kept.as_str() == cuts
 }
 
-// That what stands in the places of each text's tokens is what the row says.
+// That the text at the places of each text's tokens is what the row says.
 fn check_rows(rt: &impl Abort, alloc: Global, rows: &[(&str, &str)]) {
     for (source, cuts) in rows {
         assert!(rt; stand_so(rt, alloc, source, cuts), "of {source}");

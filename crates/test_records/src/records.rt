@@ -112,7 +112,7 @@ fn replies_where_it_is_asked_to(rt: HostRuntime) {
     }
 }
 
-// A caller that chooses nothing gets what stands in a script as text.
+// A caller that chooses nothing gets the content of a script as text.
 #[test]
 fn replies_as_the_standard_where_nothing_is_chosen(rt: HostRuntime) {
     let options = RecordOptions::default();

@@ -4,7 +4,7 @@ use html5records::record_sink::{RecordOptions, RecordSink};
 use std::alloc::Global;
 use std::process::Abort;
 
-// All records, one after the other, so many times.
+// All records, one after the other, this many times.
 fn records(rt: &impl Abort, alloc: Global, rounds: usize) -> Vec<u8> {
     let mut all = Vec::new(alloc);
     for _ in 0..rounds {
@@ -15,7 +15,7 @@ fn records(rt: &impl Abort, alloc: Global, rounds: usize) -> Vec<u8> {
     all
 }
 
-// Takes what waits, in pieces of at most so many bytes, while it may.
+// Takes the waiting bytes, in pieces of at most this many bytes, while it may.
 fn take_pieces(
     rt: &impl Abort,
     sink: &mut RecordSink<Global>,
@@ -32,7 +32,7 @@ fn take_pieces(
     }
 }
 
-// Sends all tokens so many times, and takes some pieces after each token.
+// Sends all tokens this many times, and takes some pieces after each token.
 fn told_and_taken(
     rt: &impl Abort,
     alloc: Global,

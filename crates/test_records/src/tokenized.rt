@@ -16,7 +16,7 @@ fn take_all(sink: &mut RecordSink<Global>, taken: &mut Vec<u8>) -> Result<(), Al
     Ok(())
 }
 
-// The records of a text that arrives in two pieces: what waits is taken after each.
+// The records of a text that arrives in two pieces: the waiting bytes are taken after each.
 fn records_of_text(
     alloc: Global,
     references: &NamedReferences<Global>,

@@ -23,7 +23,7 @@ absolute base tag = with_absolute base (value_of (codes "href") tag.attributes) 
 abbrev pub linked : List ℕ → TagOf → TagOf
 linked base tag = absolute base (without_attribute (codes "target") tag)
 
--- `font` is dropped, and `nav` with what stands in it
+-- `font` is dropped, and `nav` with its content
 abbrev pub kept : TagOf → Keep
 kept tag =
     if bytes_eq tag.name (codes "font") then keep.ContentOnly

@@ -1,4 +1,4 @@
-//! A script of a queue and of a table of named references, as it is written.
+//! A script of a queue and of a table of named references, as text.
 mod calls;
 mod play;
 mod table;
@@ -10,17 +10,17 @@ use testing_lines::{CaseError, push_meant};
 /// A call of which a script says the answer.
 #[derive(Drop)]
 pub enum Call {
-    /// Hands a text in, after what waits.
+    /// Hands a text in, after the queued text.
     Push(String),
-    /// Hands a copy of a text in, after what waits.
+    /// Hands a copy of a text in, after the queued text.
     Copy(String),
-    /// Hands a text in, in front of what waits.
+    /// Hands a text in, in front of the queued text.
     Insert(String),
-    /// Puts a text back in front of what waits.
+    /// Puts a text back in front of the queued text.
     GiveBack(String),
     Next,
     Peek,
-    /// What waits.
+    /// The queued text.
     Waits,
     /// Takes a run, or the member of the set that stands first.
     Pop,

@@ -1,4 +1,4 @@
-//! A script, as it is written: what those of a tokenizer and those of a queue have in common.
+//! A script as text: what those of a tokenizer and those of a queue have in common.
 use crate::check::failure_of;
 use crate::queue::QueueScript;
 use crate::tokenizer::TokenizerScript;

@@ -1,4 +1,4 @@
-//! A script of a tokenizer, as it is written.
+//! A script of a tokenizer, as text.
 mod calls;
 mod play;
 mod player;
@@ -17,7 +17,7 @@ pub enum SinkKind {
     Alternate,
     Count,
     Print,
-    /// It faults after so many calls.
+    /// It faults after this many calls.
     FaultAfter(usize),
     FaultAtEnd,
 }
@@ -36,7 +36,7 @@ pub enum Cuts {
 pub enum Cutting {
     Whole,
     Characters,
-    /// Each in two, the first with so many characters.
+    /// Each in two, the first with this many characters.
     Two(usize),
 }
 
@@ -77,13 +77,13 @@ pub enum Call {
 /// A step of a tokenizer's script.
 #[derive(Drop)]
 pub enum Step {
-    /// A text after what waits.
+    /// A text after the queued text.
     Push(String),
-    /// A text in front of what waits.
+    /// A text in front of the queued text.
     Insert(String),
     /// A part of a whole text, after those before it.
     Piece(String),
-    /// A part of a whole text, in front of what waits.
+    /// A part of a whole text, in front of the queued text.
     Front(String),
     /// The rest is plain text.
     Plain,
@@ -91,7 +91,7 @@ pub enum Step {
     Fresh,
     /// A call, and its answer.
     Call(Call, String),
-    /// What waits.
+    /// The queued text.
     Left(String),
     /// The lines that the sink shows.
     Told(String),
@@ -217,7 +217,7 @@ impl TokenizerScript {
         }
     }
 
-    /// Reads a line of the script: a mark, and what stands after the space that follows it.
+    /// Reads a line of the script: a mark, and the text after the space that follows it.
     pub fn read_line(&mut self, alloc: Global, line: &str) -> Result<(), CaseError> {
         let line = expanded(alloc, line, &self.defined)?;
         let (mark, text) = line.split_once(' ').unwrap_or((&line, ""));

@@ -394,7 +394,7 @@ fn places_after_tags(rt: HostRuntime) {
     );
 }
 
-// Whether a start tag of `script` is written with so many growths, and the place after it.
+// Whether a start tag of `script` is written with this many growths, and the place after it.
 fn opens<A: Allocator + Copy>(alloc: A) -> (bool, Place) {
     let mut page = PageWriter::new(PageOptions::default());
     let mut out = String::new(alloc);

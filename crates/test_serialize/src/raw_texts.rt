@@ -19,7 +19,8 @@ fn written(alloc: Global, kind: RawKind, text: &str, after: &str) -> Result<Stri
     Ok(out)
 }
 
-// Whether these are a text, an end tag of `style` and the end, but for errors, and however the text is cut.
+// Whether these are a text, an end tag of `style` and the end, except for errors, and however the text is
+// cut.
 fn tells(alloc: Global, tokens: &[(Token, u64)], text: &str) -> Result<bool, AllocError> {
     let mut told = String::new(alloc);
     let mut tags = 0;

@@ -1,4 +1,4 @@
-//! What stands after a start tag, read, and tokens that are compared.
+//! The text after a start tag, read, and tokens that are compared.
 ghost use Rattle.std.specs.Prelude.{◌≡◌, true};
 ghost use Rattle.html5ever_interface.specs.States.{is_text_state};
 
@@ -21,7 +21,7 @@ fn state_of(place: Place) -> State
     }
 }
 
-// The tokens of what stands after a start tag of this name.
+// The tokens of the text after a start tag of this name.
 pub fn read(
     alloc: Global,
     references: &NamedReferences,
@@ -47,7 +47,7 @@ fn is_markup(token: &Token) -> bool {
     !matches!(token, Token::ParseError(_) | Token::CharacterTokens(_))
 }
 
-// Whether these are the same tokens but for errors and texts.
+// Whether these are the same tokens except for errors and texts.
 pub fn are_same(tokens: &[(Token, u64)], others: &[(Token, u64)]) -> bool {
     let mut rest = others.iter().filter(|entry| is_markup(&entry.0));
     for (token, _) in tokens {

@@ -14,7 +14,7 @@ pub struct Shouting<A: Allocator> {
     pub alloc: A,
 }
 
-// What becomes of a tag and of the run before it.
+// What happens to a tag and to the run before it.
 fn edit_tag<A: Allocator + Copy>(alloc: A, tag: &Tag<A>) -> Result<Edits<A>, AllocError>
     ensures { IfOk result (λ edits. edits_by edits ≡ shouted_tag tag.now.kind (string_bytes tag.now.name.0)) }
 {
@@ -31,7 +31,7 @@ fn edit_tag<A: Allocator + Copy>(alloc: A, tag: &Tag<A>) -> Result<Edits<A>, All
     }
 }
 
-// What becomes of a token and of the run before it.
+// What happens to a token and to the run before it.
 fn edit_token<A: Allocator + Copy>(alloc: A, token: &Token<A>) -> Result<Edits<A>, AllocError>
     ensures { IfOk result (λ edits. edits_by edits ≡ shouted (told_by token.now)) }
 {

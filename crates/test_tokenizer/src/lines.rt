@@ -20,7 +20,7 @@ fn emit_errors(sink: &mut Collector, alloc: Global, line: u64) -> Result<(), Tok
     teller.emit_bad_character('\u{1}')
 }
 
-// Compares what is told on a line.
+// Compares the messages on a line.
 fn check_line(rt: &impl Abort, alloc: Global, line: u64) {
     let mut sink = Collector::new(alloc, false);
     assert_eq!(rt;

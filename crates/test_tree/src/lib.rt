@@ -1,4 +1,4 @@
-//! Tests of elements that fit, and of a writer that makes them fit, where no page that is cleaned shows it.
+//! Tests of elements that fit, and of a writer that makes them fit, that no cleaned page shows.
 #![tactic(auto)]
 
 #[cfg(test)]

@@ -10,7 +10,7 @@ fn start_tag(name: &str) -> Item<'_> {
     }
 }
 
-// The page of these items, with so many elements open at most.
+// The page of these items, with this many elements open at most.
 fn made(alloc: Global, limit: usize, items: &[Item<'_>]) -> Result<String, WriteError> {
     let mut page = NestedWriter::new(alloc, limit);
     for item in items {

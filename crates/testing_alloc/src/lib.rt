@@ -5,8 +5,8 @@ use std::alloc::{AllocError, Allocator};
 use std::cell::Cell;
 
 /// An allocator that passes requests on to another and refuses one of them, so that a test can show
-/// what a refusal leaves. A block that grows or shrinks is one request, and a block that goes back is
-/// none. Pass it on as `&heap`.
+/// what a refusal leaves. A block that grows or shrinks is one request, and freeing a block is not
+/// one. Pass it on as `&heap`.
 #[derive(Drop)]
 pub struct Refusing<B: Allocator> {
     inner: B,

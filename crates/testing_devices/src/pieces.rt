@@ -6,7 +6,7 @@ use ghost_counts::Count;
 use std::io;
 use std::io::Read;
 
-/// A source that gives at most so many bytes a read, and at least one.
+/// A source that gives at most this many bytes a read, and at least one.
 #[derive(Drop)]
 pub struct PieceSource<'a> {
     bytes: &'a [u8],

@@ -29,7 +29,7 @@ fn push_case<C: Case>(cases: &mut Vec<C>, case: C) -> Result<(), CaseError> {
     }
 }
 
-/// The cases of a text, in their order. A line that begins with `#` is none of a case.
+/// The cases of a text, in their order. A line that begins with `#` belongs to no case.
 pub fn cases_of<C: Case>(alloc: Global, text: &str) -> Result<Vec<C>, CaseError> {
     let mut cases = Vec::new(alloc);
     let mut case = C::begin(alloc);

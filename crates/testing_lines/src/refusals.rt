@@ -78,7 +78,7 @@ impl Wanted {
         }
     }
 
-    // Whether so many may be found.
+    // Whether this many may be found.
     fn allows(&self, found: &Refusals) -> bool {
         match self {
             Wanted::AtLeast(least) => found.reaches(least),
@@ -87,7 +87,7 @@ impl Wanted {
     }
 }
 
-// Whether the lines, the last of which is a text without its quote and LF, are a beginning of others.
+// Whether the lines, the last of which is a text without its quote and LF, are a prefix of others.
 fn is_cut_text(lines: &str, others: &str) -> bool {
     let last = match lines.rsplit_once('\n') {
         Some((_, last)) => last,
@@ -120,7 +120,7 @@ fn error_of(played: &Played) -> Option<&str> {
     }
 }
 
-// Counts a refusal by the word of its error. One of the script's own memory is none of the tokenizer.
+// Counts a refusal by the word of its error. One of the script's own memory is not the tokenizer's.
 fn count(refusals: &mut Refusals, error: &str) {
     match error {
         "memory" => refusals.in_tokenizer = refusals.in_tokenizer.wrapping_add(1),

@@ -46,7 +46,7 @@ abbrev pub tags_with : ℕ → Told → ℕ
 tags_with tags (Tag tag) = suc tags
 tags_with tags other = tags
 
--- what is replied to what is sent, with which there are so many tags
+-- what is replied to what is sent, with which there are this many tags
 abbrev pub reply_at : ℕ → Told → Reply ℕ
 reply_at tags (Tag tag) = if tags % 3 == 0 then RunScript tags else KeepOn
 reply_at tags other = KeepOn

@@ -9,7 +9,7 @@ use html5ever_interface::interface::sink::TokenSink;
 use html5ever_interface::interface::token::{SinkFault, Token, TokenSinkResult};
 use std::alloc::{Allocator, Global};
 
-// How many tags there are with this token, where so many can be counted.
+// How many tags there are with this token, where this many can be counted.
 fn tags_with<A: Allocator>(tags: u32, token: &Token<A>) -> Option<u32>
     ensures { IfSome result (λ counted. counted ≡ tags_with tags (told_by token.now)) }
 {
@@ -19,7 +19,7 @@ fn tags_with<A: Allocator>(tags: u32, token: &Token<A>) -> Option<u32>
     }
 }
 
-// What is replied to a token, with which there are so many tags.
+// What is replied to a token, with which there are this many tags.
 fn reply_at<A: Allocator>(tags: u32, token: &Token<A>) -> TokenSinkResult<u32, String<A>>
     ensures { reply_of string_bytes result ≡ reply_at tags (told_by token.now) }
 {

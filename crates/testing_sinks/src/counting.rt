@@ -8,7 +8,7 @@ use html5ever_interface::interface::sink::TokenSink;
 use html5ever_interface::interface::token::{SinkFault, Token, TokenSinkResult};
 use std::alloc::Allocator;
 
-// How many tokens other than text there are with this one, where so many can be counted.
+// How many tokens other than text there are with this one, where this many can be counted.
 fn counted_with<A: Allocator>(count: u64, token: &Token<A>) -> Option<u64>
     ensures { IfSome result (λ counted. counted ≡ counted_with count (told_by token.now)) }
 {

@@ -5,7 +5,7 @@ use html5ever_interface::interface::token::{SinkFault, Token, TokenSinkResult};
 use std::alloc::Allocator;
 
 /// Takes some tokens and faults at the call after them, at the next token or at its end; or takes all
-/// and faults at its end. It knows whether it took a token that is no text. To it all content is
+/// and faults at its end. It knows whether it took a token that is not text. To it all content is
 /// foreign.
 #[derive(Drop)]
 pub struct FaultySink {

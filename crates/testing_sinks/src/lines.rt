@@ -84,7 +84,7 @@ fn push_tag<A: Allocator>(
     Ok(())
 }
 
-// Appends a part of a DOCTYPE after a space, or a dash where it has none.
+// Appends a part of a DOCTYPE after a space, or a dash if it has none.
 fn push_part<A: Allocator>(
     alloc: Global,
     out: &mut String,

@@ -18,7 +18,7 @@ added true M = quoted_bytes (first_text M) ++ (codes "\"\n" ++ printed_lines (af
 unfoldable pub closed_lines : Output → List ℕ
 closed_lines p = p.lines ++ text_closing p.in_text
 
--- a token that is no text closes an open one
+-- a token that is not text closes an open one
 added-other : (in_text : Bool) (m : Message) (M : List Message) → is_text m.token ≡ false → told_text m.token ≡ []
     → added in_text (m ∷ M) ≡ text_closing in_text ++ (printed_line m.token m.line ++ added false M)
 unfolding added printed_lines first_text after_first_text quoted_bytes

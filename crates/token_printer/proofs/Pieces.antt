@@ -21,7 +21,7 @@ pieces-three r old one two next a b c printed_one printed_two printed =
     (λ (whole : next ≡ two ++ c). pieces-more old two next (a ++ b) c front whole ∙ ap (λ l. old ++ l) (simp append_assoc))
     (ok_from_if r next (two ++ c) two printed)
 
--- a line that has a text and no more: its word, and what follows
+-- a line that has a text and no more: its word, and the rest
 pub pieces-line : {T E : Type 0} (r : Result T E) (old one next closing word number text : List ℕ)
     → one ≡ old ++ (closing ++ word)
     → OnOk r (next ≡ one ++ (number ++ (codes " \"" ++ text) ++ codes "\"\n"))
@@ -30,7 +30,7 @@ pieces-line r old one next closing word number text begun =
     on_ok_weaker r (λ (whole : next ≡ one ++ (number ++ (codes " \"" ++ text) ++ codes "\"\n")).
     pieces-more old one next (closing ++ word) _ begun whole ∙ ap (λ l. old ++ l) (simp append_assoc refl))
 
--- the line of a tag: its kind, its number and name, its attributes, and what follows
+-- the line of a tag: its kind, its number and name, its attributes, and the rest
 pub pieces-tag : {T E : Type 0} (r : Result T E) (old one two three next closing word number name listed attributes marks : List ℕ)
     → listed ++ codes "\"" ≡ codes "\"" ++ attributes
     → one ≡ old ++ (closing ++ word)

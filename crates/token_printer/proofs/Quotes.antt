@@ -90,7 +90,7 @@ quoted_bytes-run old output next text start end before low high plain printed =
     ∙ append_assoc old (quoted_bytes (take start text)) (run text start end)
     ∙ ap (λ l. old ++ l) (sym whole)
 
--- and then what stands for another byte
+-- and then the escape of another byte
 pub quoted_bytes-escape : (old output next text : List ℕ) (i : ℕ) → output ≡ old ++ quoted_bytes (take i text) → i < length text
     → needs_escape (get_or text i 0) ≡ true → next ≡ output ++ escape (get_or text i 0) → next ≡ old ++ quoted_bytes (take (i + 1) text)
 quoted_bytes-escape old output next text i before within special printed =

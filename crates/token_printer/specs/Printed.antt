@@ -24,7 +24,7 @@ NeedsEscape byte = needs_escape byte ≡ true
 abbrev pub IsPlainWithin : List ℕ → ℕ → ℕ → Type 0
 IsPlainWithin bytes from to = NoneWithin NeedsEscape bytes from to
 
--- what stands in quotes for such a byte
+-- the escape of such a byte in quotes
 unfoldable pub escape : ℕ → List ℕ
 escape byte =
     if byte == 0x5C then codes "\\\\"
@@ -32,11 +32,11 @@ escape byte =
     else if byte == 0x0A then codes "\\n"
     else codes "\\u{" ++ digits 16 false byte ++ codes "}"
 
--- what stands in quotes for a byte
+-- the quoted form of a byte
 unfoldable pub quoted_byte : ℕ → List ℕ
 quoted_byte byte = if needs_escape byte then escape byte else byte ∷ []
 
--- what stands for a text in quotes
+-- the quoted form of a text
 unfoldable pub quoted_bytes : List ℕ → List ℕ
 quoted_bytes text = flat_map quoted_byte text
 
@@ -44,7 +44,7 @@ quoted_bytes text = flat_map quoted_byte text
 unfoldable pub quoted : List ℕ → List ℕ
 quoted text = codes "\"" ++ quoted_bytes text ++ codes "\""
 
--- a mark, where it is set
+-- a mark, if it is set
 unfoldable pub mark_where : Bool → List ℕ → List ℕ
 mark_where true mark = mark
 mark_where false mark = []
@@ -54,7 +54,7 @@ abbrev pub kind_word : TagKind → List ℕ
 kind_word StartTag = codes "start "
 kind_word EndTag = codes "end "
 
--- what stands in a tag's line for an attribute: its local name and its value
+-- an attribute in a tag's line: its local name and its value
 unfoldable pub printed_attribute : AttributeOf → List ℕ
 printed_attribute attribute = codes " " ++ quoted attribute.name.local ++ codes "=" ++ quoted attribute.value
 
@@ -69,7 +69,7 @@ open_attribute attribute =
 unfoldable pub open_attributes : List AttributeOf → List ℕ
 open_attributes attributes = flat_map open_attribute attributes
 
--- what stands in a doctype's line for a part that it may lack
+-- the part of a doctype's line for what it may lack
 abbrev pub printed_option : Option (List ℕ) → List ℕ
 printed_option None = codes " -"
 printed_option (Some text) = codes " " ++ quoted text

@@ -36,9 +36,9 @@ fn print_and_reply<A: Allocator + Copy>(
 /// Prints what it is sent: a line for each token, and a line for each pause. Adjacent texts share one
 /// line, and an empty text has none. A token that could not be printed leaves no part of a line.
 ///
-/// It replies to the start tag `plaintext` to read plain text, to the start tags of eight names to
-/// read raw text, such as `title`, `style` and `script`, to a start tag `meta` with an attribute
-/// `charset` to switch the encoding, and to the end tag `script` to run the script.
+/// It replies to the start tag `plaintext` to read plain text, and to the start tags of eight names,
+/// such as `title`, `style` and `script`, to read raw text. To a start tag `meta` with an attribute
+/// `charset` it replies to switch the encoding, and to the end tag `script` to run the script.
 #[derive(Drop)]
 pub struct PrintSink<A: Allocator = Global> {
     output: Vec<u8, A>,

@@ -117,7 +117,7 @@ impl Sought for Escaped {
     }
 }
 
-// Appends what stands in quotes for a byte that may not stand there as it is, but for a line feed.
+// Appends the quoted form of a byte that may not stand there as it is, except for a line feed.
 #[tactic(auto, using(std::proofs::lemmas::Fmt::hex_one_digit, std::proofs::lemmas::Fmt::hex_two_digits), unfolding(crate::specs::Printed::escape))]
 fn push_rare_escape<A: Allocator>(output: &mut Vec<u8, A>, byte: u8) -> Result<(), AllocError>
     requires { byte ≢ 10 }
@@ -135,7 +135,7 @@ fn push_rare_escape<A: Allocator>(output: &mut Vec<u8, A>, byte: u8) -> Result<(
     }
 }
 
-// Appends what stands in quotes for a byte that may not stand there as it is. Most are line feeds.
+// Appends the quoted form of a byte that may not stand there as it is. Most are line feeds.
 #[inline(always)]
 #[tactic(auto, unfolding(crate::specs::Printed::escape))]
 fn push_escape<A: Allocator>(output: &mut Vec<u8, A>, byte: u8) -> Result<(), AllocError>
@@ -148,7 +148,7 @@ fn push_escape<A: Allocator>(output: &mut Vec<u8, A>, byte: u8) -> Result<(), Al
     push_rare_escape(output, byte)
 }
 
-// Appends what stands in quotes for a byte.
+// Appends the quoted form of a byte.
 #[inline(always)]
 #[tactic(auto, unfolding(crate::specs::Printed::quoted_byte))]
 fn push_quoted_byte<A: Allocator>(output: &mut Vec<u8, A>, byte: u8) -> Result<(), AllocError>
@@ -162,7 +162,7 @@ fn push_quoted_byte<A: Allocator>(output: &mut Vec<u8, A>, byte: u8) -> Result<(
     Ok(())
 }
 
-// Appends what stands for a text in quotes: runs of bytes that stand as they are go at once.
+// Appends the quoted form of a text: runs of bytes that stand as they are go at once.
 fn push_quoted_runs<A: Allocator>(output: &mut Vec<u8, A>, text: &[u8]) -> Result<(), AllocError>
     ensures ok { OnOk result (output.new.items ≡ output.old.items ++ quoted_bytes text.now) }
     ensures err { OnErr result (BeginsWith output.new.items output.old.items) }
@@ -179,7 +179,7 @@ fn push_quoted_runs<A: Allocator>(output: &mut Vec<u8, A>, text: &[u8]) -> Resul
     }
 }
 
-// Appends what stands for a short text in quotes, byte after byte.
+// Appends the quoted form of a short text, byte after byte.
 #[inline(always)]
 fn push_quoted_short<A: Allocator>(output: &mut Vec<u8, A>, text: &[u8]) -> Result<(), AllocError>
     ensures ok { OnOk result (output.new.items ≡ output.old.items ++ quoted_bytes text.now) }
@@ -191,7 +191,7 @@ fn push_quoted_short<A: Allocator>(output: &mut Vec<u8, A>, text: &[u8]) -> Resu
     Ok(())
 }
 
-/// Appends what stands for a text in quotes, straight to the output.
+/// Appends the quoted form of a text, straight to the output.
 #[inline(always)]
 pub fn push_quoted_bytes<A: Allocator>(
     output: &mut Vec<u8, A>,
@@ -216,7 +216,7 @@ pub fn push_quoted<A: Allocator>(output: &mut Vec<u8, A>, text: &[u8]) -> Result
     output.extend_from_slice(b"\"")
 }
 
-/// Appends a mark, where it is set.
+/// Appends a mark, if it is set.
 #[tactic(auto, unfolding(crate::specs::Printed::mark_where))]
 pub fn push_mark<A: Allocator>(
     output: &mut Vec<u8, A>,
@@ -232,7 +232,7 @@ pub fn push_mark<A: Allocator>(
     Ok(())
 }
 
-// Closes the quote that is open, and appends an attribute but for its last quote.
+// Closes the quote that is open, and appends an attribute except for its last quote.
 #[tactic(auto, unfolding(crate::specs::Printed::open_attribute))]
 fn push_attribute<A: Allocator>(
     output: &mut Vec<u8, A>,
@@ -277,7 +277,7 @@ fn push_marked_end<A: Allocator>(output: &mut Vec<u8, A>, tag: &Tag<A>) -> Resul
     output.extend_from_slice(b"\n")
 }
 
-/// Closes a quote, and appends what follows the attributes in the line of a tag. Few tags have marks.
+/// Closes a quote, and appends the rest of the line of a tag after its attributes. Few tags have marks.
 #[inline(always)]
 #[tactic(auto, unfolding(crate::specs::Printed::tag_marks, crate::specs::Printed::mark_where))]
 pub fn push_tag_end<A: Allocator>(output: &mut Vec<u8, A>, tag: &Tag<A>) -> Result<(), AllocError>

@@ -172,7 +172,7 @@ no_fault_three c k scalar low high some short =
       | inr p ↦ let two : k ≡ 2 = omega arith in rw two (grind (arith, nat_tests))
     ])
 
--- a beginning of a character of four bytes is no fault
+-- a prefix of a character of four bytes is no fault
 no_fault_four : (c k : ℕ) → IsScalar c → 65536 ≤ c → 0 < k → k < length (encode_utf8 c) → utf8_error_len (take k (encode_utf8 c)) ≡ None
 unfolding encode_utf8 utf8_error_len
 no_fault_four c k scalar low some short =
@@ -189,7 +189,7 @@ no_fault_four c k scalar low some short =
       ]
     ])
 
--- a beginning of a character is no fault
+-- a prefix of a character is no fault
 no_fault : (c k : ℕ) → IsScalar c → 0 < k → k < length (encode_utf8 c) → utf8_error_len (take k (encode_utf8 c)) ≡ None
 no_fault c k scalar some short =
     elim (leb_tells 65536 c) [

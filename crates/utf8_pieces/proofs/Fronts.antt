@@ -63,7 +63,7 @@ take_past xs ys n m is =
     ap (λ k. take k (xs ++ ys)) is ∙ take-add (length xs) m (xs ++ ys)
     ∙ ap (λ t. t ++ take m (drop (length xs) (xs ++ ys))) (take_at xs ys (length xs) refl) ∙ ap (λ t. xs ++ take m t) (drop_at xs ys (length xs) refl)
 
--- what is held and the bytes after it, up to four, are the first four of both
+-- the held bytes and the bytes after them, up to four, are the first four of both
 pub joined_is : (held bytes h ys zeros : List ℕ) (len k : ℕ) → h ≡ held → ys ≡ take (len - length held) bytes → length held ≤ 3
     → len ≡ min 4 (length held + length bytes) → take len (put_mid (length held) k (h ++ zeros) ys) ≡ take 4 (held ++ bytes)
 joined_is held bytes h ys zeros len k h_is ys_is short len_is =
@@ -207,7 +207,7 @@ EndsAtFault-after old new first bytes text n utf8 never part longest is held tak
   taken = taken;
 }
 
--- where the first four bytes of what is held and a piece begin no text, and the bytes are never UTF-8, no front of them is text
+-- if the first four bytes of the held ones and a piece begin no text, and the bytes are never UTF-8, no front of them is text
 pub none_valid : (held now bytes front : List ℕ) (len first : ℕ) → held ≡ now → take len front ≡ take 4 (held ++ bytes)
     → len ≡ min 4 (length held + length bytes) → first ≤ 0 → IsNeverUtf8 (now ++ bytes)
     → (first < length (take len front) → IsValidUpTo (take len front) first) → IsValidUpTo (now ++ bytes) 0
@@ -258,7 +258,7 @@ Decodes-refused {Z} old new first bytes n error utf8 valid never named same =
       unchanged = same;
     }
 
--- want of memory leaves all as it was
+-- when out of memory, all stays as it was
 pub Decodes-memory : {Z : Type 0} (old new : Decoding) (first bytes : List ℕ) (n : ℕ) (error : DecodeError) → IsUtf8 first → IsTextThenCut bytes n
     → error ≡ Memory → new ≡ old → Decodes {Z = Z} old new (first ++ bytes) (Err error)
 Decodes-memory {Z} old new first bytes n error utf8 parts memory same =

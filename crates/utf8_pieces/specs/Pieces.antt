@@ -20,11 +20,11 @@ pub record IsCutCharacter (bytes : List ℕ) : Type 0 where
   pub some : 0 < length rest
   pub whole : encode_utf8 character ≡ bytes ++ rest
 
--- whatever follows them, the bytes are no UTF-8
+-- whatever follows them, the bytes are not UTF-8
 abbrev pub IsNeverUtf8 : List ℕ → Type 0
 IsNeverUtf8 bytes = (later : List ℕ) → ¬ (IsUtf8 (bytes ++ later))
 
--- the place so many bytes after another, as a `u64` counts: it stays at the greatest once there
+-- the place this many bytes after another, as a `u64` counts: it stays at the greatest once there
 abbrev pub place_after : ℕ → ℕ → ℕ
 place_after place count = min (place + count) (2 ^ 64 - 1)
 

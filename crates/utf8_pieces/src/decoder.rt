@@ -48,15 +48,15 @@ impl Decoder {
         self.count == 0
     }
 
-    /// Takes a piece, and gives the text that it completes: what was held and the piece, but for the bytes
-    /// at the end that may begin a character. Bytes that are no UTF-8, whatever follows, are `NotUtf8`.
+    /// Takes a piece, and gives the text that it completes: what was held and the piece, except for the bytes
+    /// at the end that may begin a character. Bytes that are not UTF-8, whatever follows, are `NotUtf8`.
     /// After an error the decoder stands as before, so a refused growth can be tried again.
     pub fn decode<A: Allocator + Copy>(
         &mut self,
         alloc: A,
         bytes: &[u8],
     ) -> Result<String<A>, DecodeError>
-        // What is given and what is held are all that came, in its order, and no whole character is held.
+        // The given text and the held bytes are all that came, in their order, and no whole character is held.
         ensures text { IfOk result (λ text. self.old.held ++ bytes.now ≡ string_bytes text ++ self.new.held) }
         ensures cut { OnOk result (IsCutCharacter self.new.held) }
         ensures few { OnOk result (length self.new.held ≤ 3) }
@@ -125,7 +125,7 @@ impl Decoder {
         self.front_after(alloc, text, &bytes[first - count..])
     }
 
-    // Takes the front of a piece after a text that stands in place of what is held.
+    // Takes the front of a piece after a text that stands in place of the held bytes.
     fn front_after<A: Allocator + Copy>(
         &mut self,
         alloc: A,
@@ -144,7 +144,7 @@ impl Decoder {
         Ok(text)
     }
 
-    // Takes a piece after a text that stands in place of what is held.
+    // Takes a piece after a text that stands in place of the held bytes.
     fn decode_after<A: Allocator + Copy>(
         &mut self,
         alloc: A,
@@ -167,7 +167,7 @@ impl Decoder {
         Ok(text)
     }
 
-    // Holds these bytes, so many bytes after where the ones held until now stood.
+    // Holds these bytes, this many bytes after where the ones held until now stood.
     fn hold(&mut self, bytes: &[u8], given: usize)
         requires { IsCutCharacter bytes.now }
         ensures held { self.new.held ≡ bytes.now }
@@ -192,8 +192,7 @@ impl Decoder {
     }
 }
 
-/// The text of pieces, one after the other. A character that is cut at the end is `NotUtf8`, as other
-/// bytes that are none.
+/// The text of pieces, one after the other. A character that is cut at the end is `NotUtf8`, as other invalid bytes.
 pub fn decode_all<A: Allocator + Copy>(alloc: A, pieces: &[&[u8]]) -> Result<String<A>, DecodeError>
     ensures text { IfOk result (λ text. string_bytes text ≡ bytes_of pieces.now) }
     ensures fault { IfErr result (λ error. (error ≡ DecodeError.Memory) ⊎ IsFault 0 (bytes_of pieces.now) error) }

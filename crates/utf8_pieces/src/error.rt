@@ -9,7 +9,7 @@ use thiserror::Error;
 #[derive(Clone, Copy, Debug, PartialEq, Eq, Error)]
 pub enum DecodeError {
     /// The bytes stop being UTF-8 at this place, counted in bytes from the first of the first piece,
-    /// which is at 0. A place past `u64::MAX` is said to be `u64::MAX`.
+    /// which is at 0. A place past `u64::MAX` counts as `u64::MAX`.
     #[error("the bytes from place {valid_up_to} on are no UTF-8")]
     NotUtf8 { valid_up_to: u64 },
     /// A growth was refused.

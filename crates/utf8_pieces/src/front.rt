@@ -82,7 +82,7 @@ pub(crate) fn text_of<A: Allocator>(
     Ok(text)
 }
 
-// The place so many bytes after another.
+// The place this many bytes after another.
 pub(crate) fn place_after(place: u64, count: usize) -> u64
     ensures { result ≡ place_after place count }
 {

@@ -7,7 +7,7 @@ from typing import Any, Iterable, Optional, Tuple, Type, TypeVar
 
 _Member = TypeVar("_Member", bound=enum.IntEnum)
 
-# A name of a tag as it is told: other characters end it, or are told as others.
+# A name of a tag in a token: other characters end it, or become others.
 _TAG = re.compile(r"[a-z][^\t\n\f\r />A-Z\0]*")
 
 
@@ -79,7 +79,7 @@ def _name(argument: str, given: Any, example: str) -> str:
 
 
 def tag_name(argument: str, name: str) -> str:
-    """The name of a tag, as it is told: of others none ever is."""
+    """The name of a tag, as in a token: no tag has another."""
     if not _TAG.fullmatch(name):
         raise ValueError(f"{argument}: {name!r} is never the name of a tag, which has small letters and no spaces")
     return name

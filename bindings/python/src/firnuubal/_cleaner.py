@@ -16,12 +16,12 @@ class Cleaner(Session):
     """Cleans pages by a policy, one after the other, each as its pieces arrive.
 
     Use it in a `with`, so that its memory is given back at once. One call at a time may use it: another, of another thread or
-    from within, is a RuntimeError. `limit` is how many bytes it may hold: what was fed since all was read and no item was open,
+    from within, is a RuntimeError. `limit` is how many bytes it may hold: those fed since all was read and no item was open,
     and the text that no tag has ended yet. A piece that goes past it is refused (`Status.LIMIT`), and nothing changes.
 
     The pieces of a page are all texts, or all bytes. Bytes are read in the encoding that the page tells as to a browser
     ("auto"), or in that of a label of the Encoding Standard, as "shift_jis", which a byte order mark overrules. An unknown
-    label is a LookupError. Bytes that are none of the encoding are U+FFFD. With `encoding="utf-8", errors="strict"` they are
+    label is a LookupError. Bytes invalid in the encoding are U+FFFD. With `encoding="utf-8", errors="strict"` they are
     refused (`Status.NOT_UTF8`). A text is itself, so it goes with no label but UTF-8's.
     """
 
@@ -80,7 +80,7 @@ class Cleaner(Session):
 
     @alone
     def feed(self, piece: Piece) -> str:
-        """Reads the next piece, a text or bytes, and gives what is kept of the page so far.
+        """Reads the next piece, a text or bytes, and gives the kept part of the page so far.
 
         Where there is no limit a piece of more than 1 MiB is read in parts, and signals are seen between them; where a part is
         refused, those before it were read."""
@@ -88,7 +88,7 @@ class Cleaner(Session):
 
     @alone
     def end(self) -> str:
-        """Ends the page, and gives the rest of what is kept of it. The next piece begins another page."""
+        """Ends the page, and gives the rest of its kept part. The next piece begins another page."""
         return self._ended()
 
     @alone
@@ -98,7 +98,7 @@ class Cleaner(Session):
 
     @alone
     def clean(self, page: Page) -> str:
-        """What is kept of a whole page: a text, bytes, a file of either, or an iterable of pieces of either."""
+        """The kept part of a whole page: a text, bytes, a file of either, or an iterable of pieces of either."""
         return self._cleaned(page)
 
     def _cleaned(self, page: Page) -> str:
@@ -158,7 +158,7 @@ class Cleaner(Session):
         self._is_begun = False
 
     def _taken(self) -> str:
-        """What waits, which is cut between two characters."""
+        """The waiting text, which is cut between two characters."""
         return taken(library.html5_cleaner_take, self._handle, self._room).decode()
 
     def _check(self, status: int) -> None:
@@ -172,7 +172,7 @@ _MOST = 16
 
 
 def _cleaned(page: Page, said: Said, label: Optional[bytes]) -> str:
-    """What is kept of a page, by a cleaner that no other call has meanwhile, such as one of the page's own pieces."""
+    """The kept part of a page, by a cleaner that no other call has meanwhile, such as one of the page's own pieces."""
     known: Dict[Tuple[Said, Optional[bytes]], Cleaner] = _cleaners.__dict__.setdefault("known", {})
     cleaner = known.pop((said, label), None) or Cleaner._by(said, label)
     kept = cleaner._cleaned(page)
@@ -197,15 +197,15 @@ def clean(
     encoding: str = "auto",
     errors: str = "replace",
 ) -> str:
-    """What is kept of a page: a text, bytes, a file of either, or an iterable of pieces of either.
+    """The kept part of a page: a text, bytes, a file of either, or an iterable of pieces of either.
 
     Without a policy and keywords the policy is the standard one. The keywords are those of `Policy`, with its defaults and its
     refusals; a policy of keywords is kept for the next call. `encoding` and `errors` are those of `Cleaner`: bytes are read as
     the page tells, and a text is itself.
 
-    What is kept is made to fit, or balanced, as `Policy` says. A tokenizer that goes on after the kept tags, as the standard's
+    The kept part is made to fit, or balanced, as `Policy` says. A tokenizer that goes on after the kept tags, as the standard's
     does, reads it as exactly these tags and the text. Where it is made to fit, what a browser builds of it in a `div`, by the
-    standard's rules, is the nesting of these tags, but for a line feed straight after a `<pre>` or `<listing>`, which is
+    standard's rules, is the nesting of these tags, except a line feed straight after a `<pre>` or `<listing>`, which is
     ignored; else no promise is made of the tree.
 
     >>> clean("<p onclick=x>1")

@@ -6,20 +6,20 @@ from ._records import ParseError, Placed, Token
 
 
 class Characters:
-    """Tells places in characters, by what was fed.
+    """Tells places in characters, by the fed bytes.
 
     A token begins no earlier than the one before it ended, errors apart, and so does the text before it. Errors come before
-    the text in which they stand. So what stands before the last token that is no error is let go."""
+    the text in which they stand. So the text before the last token other than an error is let go."""
 
     def __init__(self) -> None:
-        # What was fed, from this byte on.
+        # The fed bytes, from this one on.
         self._data = bytearray()
         self._first = 0
-        # A byte and the number of its character: where the last token ended, and of the last place that was told.
+        # A byte and the number of its character: where the last token ended, and of the last place that was given.
         self._end = self._last = (0, 0)
 
     def add(self, piece: bytes) -> None:
-        """Adds what was fed."""
+        """Adds the fed bytes."""
         self._data += piece
 
     def told(self, tokens: List[Placed]) -> List[Placed]:

@@ -1,4 +1,4 @@
-"""Policies: what is kept of a page."""
+"""Policies: what a cleaner keeps of a page."""
 
 import ctypes
 import enum
@@ -36,7 +36,7 @@ ALLOWED_ATTRIBUTES: Dict[str, FrozenSet[str]] = {
 _STANDARD = dict(ALLOWED_ATTRIBUTES)
 ALLOWED_URL_SCHEMES = frozenset({"http", "https", "mailto", "tel"})
 
-# The words of `rel` where none are said. A caller's own text of these words is another object, which tells that it was said.
+# The words of `rel` if none are given. A caller's own text of these words is another object, which tells that it was said.
 _REL = ("noopener", "noreferrer")
 LINK_REL: Optional[str] = " ".join(_REL)
 
@@ -102,7 +102,7 @@ def keywords_of(
     tree: Optional[bool],
     depth: Optional[int],
 ) -> Optional[Keywords]:
-    """These keywords, or None where none is said."""
+    """These keywords, or None if none is given."""
     if link_rel is LINK_REL and clean_content_tags is _NONE:
         if tags is attributes is url_schemes is None and balance is tree is depth is None:
             return None
@@ -156,7 +156,7 @@ def _standard_attributes(tags: Iterable[str]) -> _Attributes:
 
 
 def _lines(said: Keywords) -> Iterator[_Line]:
-    """The rules that keywords say, but for those of the whole page."""
+    """The rules that keywords say, except those of the whole page."""
     tags = ALLOWED_TAGS if said.tags is None else frozenset(said.tags)
     attributes = _standard_attributes(tags) if said.attributes is None else said.attributes
     _check_names("tags", tags, PolicyFault.ELEMENT_NAME)
@@ -191,7 +191,7 @@ def _check(status: int) -> None:
 
 
 def _add(handle: Handle, rule: _Rule, name: str = "", attribute: str = "") -> int:
-    """Adds a rule, and answers the status. A lone surrogate, which is in no name, is no UTF-8."""
+    """Adds a rule, and answers the status. A lone surrogate, which is in no name, is not UTF-8."""
     words = name.encode("utf-8", "surrogatepass"), attribute.encode("utf-8", "surrogatepass")
     return int(library.html5_policy_add(handle, rule, words[0], len(words[0]), words[1], len(words[1])))
 
@@ -263,7 +263,7 @@ def cleaner_handle(said: Said) -> Handle:
 
 
 class Policy:
-    """What is kept of a page.
+    """What a cleaner keeps of a page.
 
     `Policy()` is the standard policy, which keeps what ALLOWED_TAGS, ALLOWED_ATTRIBUTES and ALLOWED_URL_SCHEMES list.
     `Policy(text)` has the rules of a text (policy.md in the package); one of an empty text keeps nothing but text.
@@ -274,15 +274,15 @@ class Policy:
     - their `attributes`: a mapping from elements to names, "*" for each element,
     - addresses of the `url_schemes`, and relative ones.
 
-    Where one of the three isn't given it is the standard's. Elements of `clean_content_tags` are dropped with what stands in
-    them, and of other elements just the tags. Each link gets the words of `link_rel` as its `rel`; None adds none.
+    Where one of the three isn't given it is the standard's. Elements of `clean_content_tags` are dropped with their
+    content, and of other elements just the tags. Each link gets the words of `link_rel` as its `rel`; None adds none.
 
-    The page is made to fit, so that a browser builds it as its tags are nested, with no more than `depth` elements open (256
-    where nothing is said), where all tags have a place in that tree. Else it is balanced: each end tag closes what was opened
+    The page is made to fit, so that a browser builds it with the nesting of its tags, with no more than `depth` elements open
+    (by default 256), where all tags have a place in that tree. Else it is balanced: each end tag closes what was opened
     inside its element. `tree=True` wants it made to fit, and `tree=False` balanced; with `balance=False` as well it is neither.
 
-    A rule that no policy takes is a PolicyError: what runs scripts, or acts on more of the page than its place, or a name that
-    is none. Names are taken as they are: none is a pattern.
+    A rule that no policy takes is a PolicyError: what runs scripts, or acts on more of the page than its place, or what is not a
+    name. Names are taken as they are: none is a pattern.
     """
 
     def __init__(

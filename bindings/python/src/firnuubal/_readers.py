@@ -18,7 +18,7 @@ _NAME = f"{__package__}._fast"
 
 
 def _extension() -> Any:
-    """The extension, or None where there is none for this Python, as on PyPy."""
+    """The extension, or None if there is none for this Python, as on PyPy."""
     if os.environ.get("FIRNUUBAL_PURE"):
         return None
     spec = importlib.machinery.PathFinder.find_spec(_NAME, [str(HERE), str(FOLDER)])

@@ -84,7 +84,7 @@ class Comment(NamedTuple):
 
 @_token
 class Instruction(NamedTuple):
-    """A processing instruction: what stands between `<?` and `>`."""
+    """A processing instruction: the text between `<?` and `>`."""
 
     line: int
     content: str
@@ -140,11 +140,11 @@ Token = Union[StartTag, EndTag, Text, Comment, Instruction, Doctype, NullCharact
 
 
 class Placed(NamedTuple):
-    """A token with its place in the page: where it begins, and where what follows it does. So `page[begin:end]` is the token
-    as it is written, in characters of a text or in bytes.
+    """A token with its place in the page: where it begins and where the text after it does. So `page[begin:end]` is the token
+    in its source, in characters of a text or in bytes.
 
     A text has the place of its run, with its references as they are written. An error has that of the character at which it
-    is told; the end has an empty one."""
+    is reported; the end has an empty one."""
 
     token: Token
     begin: int
@@ -200,7 +200,7 @@ def _doctype(data: bytes, at: int) -> Tuple[Token, int]:
 
 
 def _other(kind: int, data: bytes, at: int) -> Tuple[Any, int]:
-    """A token that is no tag and no text, from the place after its kind, and the place after it."""
+    """A token other than a tag or a text, from the place after its kind, and the place after it."""
     if kind == _DOCTYPE:
         return _doctype(data, at)
     if kind in _LINE_ALONE:

@@ -37,7 +37,7 @@ class Replies(enum.IntEnum):
 
 
 class Fed(enum.IntEnum):
-    """What a feed came to: all was read, or it paused and what follows waits."""
+    """What a feed came to: all was read, or it paused and the rest waits."""
 
     DONE = 0
     SCRIPT = 1
@@ -65,14 +65,14 @@ class Tokenizer(Session):
 
     The pieces of a page are all texts, or all bytes; the first that isn't empty decides. Bytes are read in the encoding that
     the page tells as to a browser ("auto"), or in that of a label of the Encoding Standard, as "shift_jis", which a byte order
-    mark overrules. An unknown label is a LookupError. Bytes that are none of the encoding are U+FFFD. With
+    mark overrules. An unknown label is a LookupError. Bytes invalid in the encoding are U+FFFD. With
     `encoding="utf-8", errors="strict"` they are refused (`Status.NOT_UTF8`). A text is itself, so it goes with no label but
     UTF-8's.
 
     With `places` each token has its place (`placed_tokens`), in characters where the pieces are texts, and else in bytes. They
     go only with the standard's replies and in content that is not foreign, and bytes are UTF-8 alone then, and others refused.
     Nothing pauses, and what steers the reading is refused. A text comes with the token after it, and an error before the text
-    in which it stands. It is slower, and holds what was fed since the last token.
+    in which it stands. It is slower, and holds the bytes fed since the last token.
     """
 
     _spares = Spares(4)
@@ -138,7 +138,7 @@ class Tokenizer(Session):
 
     @alone
     def close(self) -> None:
-        """Gives the memory back, but for a table of names that the next tokenizer takes over. Tokens that were read stay."""
+        """Gives the memory back, except a table of names that the next tokenizer takes over. Tokens that were read stay."""
         handle, kept = self._handle, self._kept
         self._handle = Handle()
         self._kept = (None, None, False)
@@ -149,14 +149,14 @@ class Tokenizer(Session):
             handle.close()
 
     def feed(self, piece: Piece) -> Fed:
-        """Reads the next piece, a text or bytes. After a pause it goes on, with what waits and this piece.
+        """Reads the next piece, a text or bytes. After a pause it goes on, with the waiting text and this piece.
 
-        Where bytes are no UTF-8, and are to be, all before them is read, and then it is refused (`Status.NOT_UTF8`). A pause
+        Where bytes are not UTF-8, and are to be, all before them is read, and then it is refused (`Status.NOT_UTF8`). A pause
         before them comes first: then no feed takes anything until that was said.
 
         A piece of more than 1 MiB is read in parts, and signals are seen between them; where a part is refused, those before it
         were read. It is not so where there is a limit, which a whole piece is within or isn't, and with replies that pause,
-        since what follows a pause waits in the library."""
+        since the text after a pause waits in the library."""
         # As `alone` does it, in less time.
         turn = self._turn
         try:
@@ -209,13 +209,13 @@ class Tokenizer(Session):
 
     @alone
     def insert(self, text: str) -> None:
-        """Puts a text in front of what waits, as document.write does."""
+        """Puts a text in front of the waiting text, as document.write does."""
         data = bytes_of(text)
         self._check(library.html5_insert(self._begun(), data, len(data)))
 
     @alone
     def reply(self, state: Union[State, int]) -> None:
-        """Reads what follows in a state, as a tree builder asks after a start tag. Raw text is read up to the end tag of
+        """Reads the rest in a state, as a tree builder asks after a start tag. Raw text is read up to the end tag of
         the last start tag. Within a tag or another item, which is never so after a pause, it is refused."""
         self._check(library.html5_reply(self._begun(), member("state", state, State)))
 
@@ -226,7 +226,7 @@ class Tokenizer(Session):
 
     @alone
     def end(self) -> Fed:
-        """Ends the page. What is held of its bytes, until they tell their encoding, is read first, and may pause: then it is
+        """Ends the page. The bytes held until they tell their encoding are read first, and may pause: then it is
         ended again."""
         return self._ended()
 
@@ -367,13 +367,13 @@ def placed_tokens(
     tags: Optional[Iterable[str]] = None,
     limit: Optional[int] = None,
 ) -> Iterator[Placed]:
-    """The tokens of a page, each with its place: `page[begin:end]` is the token as it is written, where the page is a text or
+    """The tokens of a page, each with its place: `page[begin:end]` is the token's source, where the page is a text or
     bytes. Of a file or an iterable of texts places count characters, and of others bytes.
 
         for token, begin, end in firnuubal.placed_tokens(page):
             print(page[begin:end])
 
-    The page and the keywords are those of `tokens`, but for what `places` of `Tokenizer` doesn't go with: bytes are UTF-8, and
+    The page and the keywords are those of `tokens`, except what `places` of `Tokenizer` doesn't go with: bytes are UTF-8, and
     others are refused.
     """
     tokenizer = Tokenizer(

@@ -99,7 +99,7 @@ impl<Sink, A: Allocator + Copy> DetachedTokenizer<Sink, A> {
         self.position.nothing_open()
     }
 
-    /// Reads what follows in the state, as a tree builder asks after a start tag. Raw text is read up to the
+    /// Reads the rest in the state, as a tree builder asks after a start tag. Raw text is read up to the
     /// end tag of the last start tag.
     pub fn set_state(&mut self, state: State)
         requires can_start { CanStart (Some state) }

@@ -46,9 +46,9 @@ fn feed_each<S: TokenSink<Token<A>>, A: Allocator + Copy>(
     Ok(())
 }
 
-/// Hands in the pieces one after another, each at the back of what waits. After each it feeds until
-/// nothing waits, past all pauses. It stops at the first refusal, and drops the pieces after that.
-/// Where there was no room for a piece the tokenizer has not failed, and can go on.
+/// Hands in the pieces one after another, each at the back of the queue. After each it feeds until
+/// the queue is empty, past all pauses. It stops at the first refusal, and drops the pieces after
+/// that. If there was no room for a piece the tokenizer has not failed, and can go on.
 pub fn feed_pieces<S: TokenSink<Token<A>>, A: Allocator + Copy>(
     tokenizer: &mut Tokenizer<'_, S, A>,
     queue: &mut BufferQueue<A>,

@@ -56,9 +56,9 @@ pub fn feed_until_done<S: TokenSink<Token<A>>, A: Allocator + Copy>(
 /// What a run hands in before it feeds once more.
 #[derive(Drop)]
 pub enum Step<A: Allocator = Global> {
-    /// A text after what waits.
+    /// A text after the queued text.
     Push(String<A>),
-    /// A text in front of what waits.
+    /// A text in front of the queued text.
     Insert(String<A>),
 }
 
@@ -126,7 +126,7 @@ fn take_steps<S: TokenSink<Token<A>>, A: Allocator + Copy>(
 
 /// Runs a tokenizer from the start of a stream. Each step hands in its text and feeds once. After the
 /// last one it feeds until nothing waits, and ends. Hands the sink back. The sink was sent all that
-/// the text taken tells, and finished. After a refusal it was sent a beginning of that.
+/// the text taken tells, and finished. After a refusal it received a prefix of that.
 pub fn run_steps<S: TokenSink<Token<A>>, A: Allocator + Copy>(
     alloc: A,
     sink: S,

@@ -17,7 +17,7 @@ use markup5ever::buffer_queue::BufferQueue;
 use markup5ever::data::NamedReferences;
 use std::alloc::Allocator;
 
-// Feeds a tokenizer what waits, and ends.
+// Feeds a tokenizer the queued text, and ends.
 fn read_waiting<S: TokenSink<Token<A>>, A: Allocator + Copy>(
     tokenizer: &mut Tokenizer<'_, S, A>,
     queue: &mut BufferQueue<A>,
@@ -34,7 +34,7 @@ fn read_waiting<S: TokenSink<Token<A>>, A: Allocator + Copy>(
     tokenizer.end()
 }
 
-// Reads what waits from the start of a stream.
+// Reads the queued text from the start of a stream.
 fn read_from_start<S: TokenSink<Token<A>>, A: Allocator + Copy>(
     alloc: A,
     sink: S,
@@ -74,7 +74,7 @@ fn hand_in_pieces<A: Allocator + Copy>(
 }
 
 /// Reads a whole text from the start of a stream, and hands the sink back. The sink was sent all that
-/// the text tells, and finished. After a refusal it was sent a beginning of that.
+/// the text tells, and finished. After a refusal it received a prefix of that.
 pub fn read_whole<S: TokenSink<Token<A>>, A: Allocator + Copy>(
     alloc: A,
     sink: S,

@@ -58,7 +58,7 @@ pub enum Token<A: Allocator = Global> {
     TagToken(Tag<A>),
     /// A comment's text, without `<!--` and `-->`, or that of a bogus comment.
     CommentToken(String<A>),
-    /// The content of a processing instruction, as `<?x>`: what stands between `<?` and `>`.
+    /// The content of a processing instruction, as `<?x>`: the text between `<?` and `>`.
     ProcessingInstructionToken(String<A>),
     /// Text, never empty: line breaks are LF. A run of text may come in any number of these.
     CharacterTokens(String<A>),

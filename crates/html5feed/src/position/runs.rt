@@ -28,9 +28,9 @@ use markup5ever::data::NamedReferences;
 use std::alloc::{AllocError, Allocator};
 
 impl<A: Allocator + Copy> Position<A> {
-    /// How many bytes of a text can be read at once from here. They are those of a run. There are none where a
-    /// first character may be dropped. Where errors are exact, the run ends before a bad character and before one
-    /// that is not of ASCII, and there is none in a value without quotes.
+    /// How many bytes of a text can be read at once from here. They are those of a run. There are none if a first
+    /// character may be dropped. Where errors are exact, the run ends before a bad character and before one that
+    /// is not of ASCII, and there is none in a value without quotes.
     #[inline(always)]
     pub fn run_len(&self, rules: &Rules<'_, A>, text: &str) -> usize
         ensures within { result ≤ length text.now }

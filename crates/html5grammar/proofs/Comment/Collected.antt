@@ -43,7 +43,7 @@ module _ (exact : Bool) where
   TellNoText-odd [] = tt
   TellNoText-odd (c ∷ content) = ((refl, HasNoText-where _ _), TellNoText-bogus content)
 
-  -- an opening, what follows it, and the `>`
+  -- an opening, the text after it, and the `>`
   keeps-spelled : (input : Input) (opening : List ℕ) (cells : List Spelled) (errors : List Told) (content : List ℕ) → TellNoText cells → HasNoText errors
       → KeepsAll (spelled_messages exact input [] (spell_silent opening ++ (cells ++ spell_end errors content)))
   keeps-spelled input opening cells errors content h g c =

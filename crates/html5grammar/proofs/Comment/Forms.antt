@@ -119,7 +119,7 @@ ended-by before word ending e can h ends =
       is_end = can content (content-of content (runs_on-beginning [] content word (subst (λ l. runs_on [] l ≡ true) parts h)));
     }
 
--- where a `>` ends a comment, what stands before it is a content and an end
+-- if a `>` ends a comment, the text before it is a content and an end
 pub ended : (before : List ℕ) → runs_on [] before ≡ true → ends_comment before ≡ true → Ended before
 unfolding ends_comment
 ended before h ends =

@@ -1,4 +1,4 @@
--- What is held of a keyword after `<!`, where none comes.
+-- The held text of a keyword after `<!`, when none comes.
 use Rattle.std.proofs.Common.{◌≡◌, ℕ, Bool, true, false, List, [], ◌∷◌, ◌++◌, take, length, refl, ap, sym, ◌∙◌, subst, arith}
 use Rattle.std.specs.Prelude.{◌==◌, ◌||◌, not, codes, nat_eq, ◌&&◌, nat_le, if◌then◌else◌}
 use Rattle.std.specs.Char.{to_ascii_lowercase}
@@ -26,11 +26,11 @@ use Rattle.html5grammar.proofs.HeldWords.{IsPlain, plain-beginning, plain-word, 
 use Rattle.html5reading.specs.Machine.{step_at, brought_at, declaration_step, declaration_answer_step}
 use Rattle.html5reading.proofs.Traces.{trace_brought, trace, with_messages, none_without_beginning}
 
--- whether a text is a beginning of a keyword, by the sink's answer
+-- whether a text is a prefix of a keyword, by the sink's answer
 unfoldable pub begins_declaration : Bool → List ℕ → Bool
 begins_declaration foreign held = begins_keyword held || (foreign && begins_cdata held)
 
--- the longest beginning of a content that is one, and what follows it
+-- the longest prefix of a content that is one, and the text after it
 abbrev pub held_of : Bool → List ℕ → List ℕ
 held_of foreign content = run_while (begins_declaration foreign) [] content
 

@@ -41,7 +41,7 @@ pub characters-odd : (exact : Bool) (content : List ℕ) → characters (spell_o
 characters-odd exact [] = refl
 characters-odd exact (c ∷ content) = ap (λ l. c ∷ l) (characters-spell (null_error exact state.BogusComment) content)
 
--- an opening, what follows it, and the `>`
+-- an opening, the text after it, and the `>`
 characters-three : (opening : List ℕ) (cells : List Spelled) (text : List ℕ) (errors : List Told) (content : List ℕ) → characters cells ≡ text
     → characters (spell_silent opening ++ (cells ++ spell_end errors content)) ≡ opening ++ (text ++ greater_than ∷ [])
 characters-three opening cells text errors content e =
@@ -72,7 +72,7 @@ spelled-nothing exact input tells none before (c ∷ run) good =
     let q = and_parts (not (is_bad_character c)) (not (c == null)) p.0 in
     rw (none c p.0, not-true (is_bad_character c) q.0, and-false exact) (spelled-nothing exact input tells none (before ++ c ∷ []) run p.1)
 
--- so what is held in front of a bogus comment tells nothing as its content
+-- so the held text in front of a bogus comment tells nothing as its content
 spelled-held : (exact : Bool) (input : Input) (before held rest content : List ℕ) → held ++ rest ≡ content → list_all is_good held ≡ true
     → spelled_messages exact input before (spell_bogus exact content ++ spell_end [] content)
     ≡ spelled_messages exact input (before ++ held) (spell_bogus exact rest ++ spell_end [] content)

@@ -37,7 +37,7 @@ record Content (content : List ℕ) : Type 0 where
   no_dashes : occurs (codes "-->") content ≡ false
   no_bang : occurs (codes "--!>") content ≡ false
 
--- what is asked of a content, as a record of its four parts
+-- the conditions on a content, as a record of its four parts
 content_parts : (content : List ℕ) → is_content content ≡ true → Content content
 unfolding is_content
 content_parts content h =

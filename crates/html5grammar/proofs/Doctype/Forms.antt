@@ -53,7 +53,7 @@ no_end-first c text h = not-true (c == greater_than) (and_parts (in_skipped_rest
 
 -- ---- forms
 
--- a form of this text, as it is written
+-- a form whose source is this text
 record Form {B : Type 0} (is_form : B → Bool) (text_of : B → List ℕ) (text : List ℕ) : Type 0 where
   form : B
   fits : is_form form ≡ true

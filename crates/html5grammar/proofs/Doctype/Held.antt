@@ -1,4 +1,4 @@
--- What is held of `doctype`, `public` and `system`, also where no keyword comes.
+-- The held text of `doctype`, `public` and `system`, also when no keyword comes.
 use Rattle.std.proofs.Common.{◌≡◌, ℕ, Bool, true, false, List, [], ◌∷◌, ◌++◌, length, refl, ap, sym, ◌∙◌}
 use Rattle.std.specs.Prelude.{◌==◌, ◌||◌, not, codes, nat_eq}
 use Rattle.std.specs.Char.{to_ascii_lowercase}
@@ -37,7 +37,7 @@ no_dashes past rest e = false_from_ne_true (bytes_eq past (codes "--")) (λ h.
     let f : lower_case (codes "--" ++ rest) ≡ codes "doctype" = ap (λ l. lower_case (l ++ rest)) (sym (same_text past (codes "--") (sym h))) ∙ e in
     false≢true (sym (ap (begins_with (codes "--")) f)))
 
--- a beginning of a word, of which more follows
+-- a prefix of a word, of which more follows
 parts_of : (past : List ℕ) (c : ℕ) (rest word : List ℕ) → lower_case (past ++ c ∷ rest) ≡ word → lower_case past ++ (to_ascii_lowercase c ∷ lower_case rest) ≡ word
 parts_of past c rest word e = sym (map-append to_ascii_lowercase past (c ∷ rest)) ∙ e
 
@@ -68,7 +68,7 @@ leads-doctype_word rules (c ∷ word) h =
 
 -- ---- `public` and `system`
 
--- a beginning of one keyword is none of the other
+-- a prefix of one keyword does not begin the other
 no_other : (kind other : DoctypeIdKind) (past rest : List ℕ) → begins_with (keyword_of other) (keyword_of kind) ≡ false
     → lower_case (past ++ rest) ≡ keyword_of kind → is_keyword other past ≡ false
 no_other kind other past rest apart e =
@@ -78,7 +78,7 @@ module _ (rules : Rules) (d : DoctypeOf) where
   abbrev undecided : List ℕ → Open
   undecided held = InDoctypeKeyword held d
 
-  -- a proper beginning of a keyword is held
+  -- a proper prefix of a keyword is held
   holds : (kind : DoctypeIdKind) (held : List ℕ) (c b : ℕ) (rest : List ℕ) → lower_case ((held ++ c ∷ []) ++ b ∷ rest) ≡ keyword_of kind → IsHeld rules undecided held c
   unfolding brought_at doctype_keyword_step begins_doctype_keyword
   holds Public held c b rest e foreign =
@@ -151,7 +151,7 @@ module _ (rules : Rules) (d : DoctypeOf) where
       → Leads rules (InDoctype AfterName d) (spell_silent keyword) (InDoctype (AfterKeyword kind) d)
   leads-keyword kind keyword h = leads-letters kind keyword (same_text (lower_case keyword) (keyword_of kind) (sym h))
 
--- ---- where no keyword comes
+-- ---- when no keyword comes
 
 -- no keyword comes within a rest that begins with none
 no_keyword : (kind : DoctypeIdKind) (rest held : List ℕ) (c : ℕ) (later : List ℕ) → begins_with (keyword_of kind) (lower_case rest) ≡ false

@@ -159,7 +159,7 @@ module _ (exact : Bool) where
       (goes-begun exact opened space named kind d quotes run wants all)
       (cut-end inside (InIdentifier quotes kind) (whole exact kind d run) errors later E refl refl)
 
-  -- an identifier in its quotes, and what stands after it up to the text's end
+  -- an identifier in its quotes, and what comes after it up to the text's end
   cut-closed : (opened : Open) (space : List ℕ) (named : State) (kind : DoctypeIdKind) (d : DoctypeOf) (quotes : Quotes) (run : List ℕ) (cells : List Spelled) (E : List Told)
       → Wants exact opened space named kind d (quote_mark quotes) → list_all (in_identifier quotes) run ≡ true
       → Cut (InDoctype (AfterIdentifier kind) (whole exact kind d run)) cells E
@@ -192,7 +192,7 @@ module _ (exact : Bool) where
       cut-append (InDoctype (AfterIdentifier System) d) (InDoctype (AfterIdentifier System) d) (spell_silent space) _ _
       (goes-stay exact (InDoctype (AfterIdentifier System) d) (step-after_system exact d) space all) (cut-rest_after_system d rest h)
 
-  -- what stands where a system identifier can, up to the text's end
+  -- what comes at the place of a system identifier, up to the text's end
   cut-system : (opened : Open) (space : List ℕ) (named : State) (name : List ℕ) (public_id : Option (List ℕ)) (system : SystemIdentifier)
       → ((c : ℕ) → is_white_space c ≡ false → (c == greater_than) ≡ false → Wants exact opened space named System (named_doctype name public_id None false) c)
       → Ends opened named (named_doctype name public_id None false)
@@ -240,7 +240,7 @@ module _ (exact : Bool) where
   abbrev told_public : List ℕ → List ℕ → SystemIdentifier → DoctypeOf
   told_public name public_id system = named_doctype name (Some public_id) (identifier_told system) (has_system_quirks system)
 
-  -- what stands after a public identifier, up to the text's end
+  -- what comes after a public identifier, up to the text's end
   cut-after_public : (name public_id space : List ℕ) (system : SystemIdentifier) → list_all is_white_space space ≡ true → is_system system ≡ true
       → Cut (InDoctype (AfterIdentifier Public) (named_doctype name (Some public_id) None false))
       (spell_silent space ++ spell_after_public exact (told_public name public_id system) space system)
@@ -254,7 +254,7 @@ module _ (exact : Bool) where
   cut-after_public name public_id space (Unclosed quotes run) all h = cut-some_system name public_id space (Unclosed quotes run) all h
   cut-after_public name public_id space (Closed quotes run later rest) all h = cut-some_system name public_id space (Closed quotes run later rest) all h
 
-  -- what stands where a public identifier can, up to the text's end
+  -- what comes at the place of a public identifier, up to the text's end
   cut-public : (opened : Open) (space : List ℕ) (named : State) (name : List ℕ) (identifier : PublicIdentifier)
       → ((c : ℕ) → is_white_space c ≡ false → Wants exact opened space named Public (named_doctype name None None false) c)
       → Ends opened named (named_doctype name None None false)
@@ -355,13 +355,13 @@ module _ {X S H : Type 0} (means : Means X S H) (rules : Rules) where
         at_end = cut.at_end;
       }
 
-  -- what stands after a name and white space is read, and tells its messages
+  -- what comes after a name and white space is read, and tells its messages
   abbrev ReadsAfter : Input → List ℕ → S → List ℕ → List ℕ → Open → List ℕ → RestAfterName → Type 0
   ReadsAfter input before s last name opened space afterwards =
       ReadsOpen input before s last opened (after_name_text afterwards) (messages_after_open_name rules.exact input before (told_after_name name afterwards) afterwards)
       (keyword_error_at_end rules.exact afterwards ++ doctype_end rules.exact (after_name_end space afterwards) (told_after_name name afterwards))
 
-  -- where nothing stands after a name and white space
+  -- when nothing comes after a name and white space
   reads-nothing : (input : Input) (before : List ℕ) (s : S) (last name space : List ℕ)
       → ReadsAfter input before s last name (after_name rules (named_doctype name None None false) space) space (NoKeyword [])
   unfolding messages_after_open_name told_at_doctype_end doctype_state_at
@@ -487,7 +487,7 @@ module _ {X S H : Type 0} (means : Means X S H) (rules : Rules) where
           reads-decided input before s last d c rest p.0 e f q.1
       by false false e f = reads-odd input before s last name c rest f (and_parts (begins_no_keyword (c ∷ rest)) (is_rest is_white_space (c ∷ rest)) h).1
 
-  -- what stands after a name and white space, up to the text's end
+  -- what comes after a name and white space, up to the text's end
   reads-after : (input : Input) (before : List ℕ) (s : S) (last name space : List ℕ) (afterwards : RestAfterName) → can_stand_after space afterwards ≡ true
       → ReadsAfter input before s last name (after_name rules (named_doctype name None None false) space) space afterwards
   unfolding messages_after_open_name
@@ -521,7 +521,7 @@ module _ {X S H : Type 0} (means : Means X S H) (rules : Rules) where
   tokens-word [] = refl
   tokens-word (c ∷ space) = refl
 
-  -- where no name stands
+  -- when there is no name
   reads-no_name : (input : Input) (last : List ℕ) (s : S) (word space : List ℕ) → bytes_eq (lower_case word) (codes "doctype") ≡ true → list_all is_white_space space ≡ true
       → ReadsOpen input [] s last (Between Data) (opening word space ++ []) (spelled_messages rules.exact input [] (spell_silent (opening word space)))
       (open_doctype_at_end rules.exact space NoName)
@@ -533,7 +533,7 @@ module _ {X S H : Type 0} (means : Means X S H) (rules : Rules) where
     at_end = tokens-word space;
   }
 
-  -- what stands after `doctype` and white space, up to the text's end
+  -- what comes after `doctype` and white space, up to the text's end
   reads-content : (input : Input) (last : List ℕ) (s : S) (word space : List ℕ) (content : Content) → bytes_eq (lower_case word) (codes "doctype") ≡ true → list_all is_white_space space ≡ true → is_content content ≡ true
       → ReadsOpen input [] s last (Between Data) (opening word space ++ content_text content) (open_doctype_messages rules.exact input word space content)
       (open_doctype_at_end rules.exact space content)

@@ -61,7 +61,7 @@ with_public name identifier = named_doctype name (identifier_told identifier) (s
 module _ (exact : Bool) where
   -- ---- the identifier of the system
 
-  -- what stands where a system identifier can, up to the `>`
+  -- what comes at the place of a system identifier, up to the `>`
   goes-system : (opened : Open) (space : List ℕ) (named : State) (name : List ℕ) (public_id : Option (List ℕ)) (system : SystemIdentifier)
       → ((c : ℕ) → is_white_space c ≡ false → (c == greater_than) ≡ false → Wants exact opened space named System (named_doctype name public_id None false) c)
       → (is_nothing system ≡ true → Wants exact opened space named System (named_doctype name public_id None false) greater_than)
@@ -116,7 +116,7 @@ module _ (exact : Bool) where
       (goes-system (after_public d space) space (between_state space) name (Some public_id) system
       (λ c no_white no_end. step-between d space c no_white ∙ rw no_end refl) (λ none. absurd (false≢true (sym some ∙ none))) h)
 
-  -- what stands after a public identifier, up to the `>`
+  -- what comes after a public identifier, up to the `>`
   goes-after_public : (name public_id space : List ℕ) (system : SystemIdentifier) → list_all is_white_space space ≡ true → is_system system ≡ true
       → Goes exact (InDoctype (AfterIdentifier Public) (named_doctype name (Some public_id) None false))
       (spell_silent space ++ spell_after_public exact (named_doctype name (Some public_id) (identifier_told system) (has_system_quirks system)) space system) (Between Data)
@@ -132,7 +132,7 @@ module _ (exact : Bool) where
 
   -- ---- the public identifier
 
-  -- what stands where a public identifier can, up to the `>`
+  -- what comes at the place of a public identifier, up to the `>`
   goes-public : (opened : Open) (space : List ℕ) (named : State) (name : List ℕ) (identifier : PublicIdentifier)
       → ((c : ℕ) → is_white_space c ≡ false → Wants exact opened space named Public (named_doctype name None None false) c)
       → is_public identifier ≡ true

@@ -44,7 +44,7 @@ module _ {S H : Type 0} (step : S → Told → ℕ → S) (reply : S → Told �
   abbrev d : DoctypeOf
   d = named_doctype name None None false
 
-  -- what stands after the name is read, and tells its messages
+  -- what comes after the name is read, and tells its messages
   abbrev IsReadAfter : S → Open → RestAfterName → Type 0
   IsReadAfter s opened afterwards =
       trace step reply foreign rules s (line_after input before) last opened (after_name_text afterwards ++ greater_than ∷ [])

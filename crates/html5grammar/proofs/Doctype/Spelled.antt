@@ -65,7 +65,7 @@ module _ (exact : Bool) where
   characters-after_public d space (Closed quotes run later rest) =
       characters-identifier System (between_state space) d space (spell_after_system exact d) (λ rest. rest) (characters-after_system d) (Closed quotes run later rest)
 
-  -- a keyword, white space, and what stands where its identifier can
+  -- a keyword, white space, and what comes at the place of its identifier
   characters-keyword : {B : Type 0} → (kind : DoctypeIdKind) (d : DoctypeOf) (keyword space : List ℕ) (spell_after : List ℕ → B → List Spelled) (text_after : B → List ℕ)
       → ((later : List ℕ) (afterwards : B) → characters (spell_after later afterwards) ≡ text_after afterwards ++ greater_than ∷ [])
       → (identifier : Identifier B)

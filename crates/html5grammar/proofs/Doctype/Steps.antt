@@ -137,7 +137,7 @@ module _ (exact : Bool) where
   step-closed DoubleQuotes kind d = refl
   step-closed SingleQuotes kind d = refl
 
-  -- the three forms of what stands where an identifier is wanted
+  -- the three forms at the place of a wanted identifier
 
   pub goes-missing : (opened : Open) (space : List ℕ) (named : State) (kind : DoctypeIdKind) (d : DoctypeOf) (c : ℕ) (rest : List ℕ)
       → Wants opened space named kind d c → is_rest belongs_before (c ∷ rest) ≡ true
@@ -159,7 +159,7 @@ module _ (exact : Bool) where
       (Goes-one exact (InDoctype (InIdentifier quotes kind) (whole kind d run)) (Between Data) greater_than
       (error_in exact (identifier_state quotes kind) greater_than ∷ Doctype (with_quirks (whole kind d run)) ∷ []) (step-cut quotes kind (whole kind d run)))
 
-  -- an identifier in its quotes, and what stands after it
+  -- an identifier in its quotes, and what comes after it
   pub goes-closed : (opened : Open) (space : List ℕ) (named : State) (kind : DoctypeIdKind) (d : DoctypeOf) (quotes : Quotes) (run : List ℕ) (cells : List Spelled)
       → Wants opened space named kind d (quote_mark quotes) → list_all (in_identifier quotes) run ≡ true
       → Goes exact (InDoctype (AfterIdentifier kind) (whole kind d run)) cells (Between Data)

@@ -182,7 +182,7 @@ form-end raw (d ∷ name) (first ∷ rest) c F T single all n e =
     let p : Parts InName (c ∷ F) = parts-from c F (ends-no_name c n.ends) in
     form-ending raw (d ∷ name) first rest c F p.list p.tail T (rw (single, (and_parts (is_letter first) (list_all is_letter rest) all).1, n.same) refl) all p.follow p.parts p.ending e
 
--- after `</` where no switch stands
+-- after `</` when no switch stands
 form-letters : (raw : Raw) (name letters rest T : List ℕ) → is_double_escaped (kind_of raw) ≡ false → list_all is_letter letters ≡ true → next_is is_letter rest ≡ false
     → T ≡ solidus ∷ letters ++ rest → RawForm raw name T
 form-letters raw name letters [] T single all ends e =
@@ -210,7 +210,7 @@ unfolding kind_of
 form-rawtext name c T true h = form-solidus Rawtext name T c refl h
 form-rawtext name c T false h = form-later Rawtext name LessThan c T (c ∷ T) refl (rw h refl) refl
 
--- two dashes, and what follows them
+-- two dashes, and the text after them
 dashes-parts : (T : List ℕ) → begins_dashes T ≡ true → (F : List ℕ) × (T ≡ hyphen ∷ hyphen ∷ F)
 dashes-parts [] h = absurd (false≢true h)
 dashes-parts (c ∷ []) h = absurd (false≢true (sym (and-false (c == hyphen)) ∙ h))

@@ -109,7 +109,7 @@ record IsMarkup (exact : Bool) (raw : Raw) (name : List ℕ) (c : ℕ) : Type 0 
   same : (c == line_feed) ≡ false
   anew : (standing : Standing) → continues name standing c ≡ false
 
--- a character of raw text that is no text by itself is markup
+-- a character of raw text that is not text by itself is markup
 is-markup : (exact : Bool) (raw : Raw) (name : List ℕ) (c : ℕ) → is_raw_text raw c ≡ false → IsMarkup exact raw name c
 unfolding raw_step is_bad_character
 is-markup exact raw name c h = at (c == less_than) (is_rcdata raw && (c == ampersand)) refl refl h
@@ -179,7 +179,7 @@ afterwards exact name raw (Letters letters) text h can =
     }
 
 module _ {X S H : Type 0} (means : Means X S H) (rules : Rules) where
-  -- ---- what is open and is not continued
+  -- ---- an open item that is not continued
 
   trace-character : (s : S) (line : ℕ) (last : List ℕ) (opened later : Open) (c : ℕ) (text : List ℕ) (told : List Told) → is_undecided_open opened ≡ false → step_at rules.exact opened c ≡ Tells told later
       → let M : List Message = on_line (line_past line c) (bad_character_error rules.exact c ++ told) in
@@ -220,7 +220,8 @@ module _ {X S H : Type 0} (means : Means X S H) (rules : Rules) where
   IsAlike name standing text = carried_at standing ≡ [] → fits name standing text ≡ true → in_letters standing text ≡ false
       → Alike means rules (opened_at name standing) (Between (RawText (raw_at standing) name)) text
 
-  -- a character that continues what is open is text there as between items; any other is read as between items
+  -- a character that continues the open item is text there as between items; any other is read as between
+  -- items
   alike-first : (name : List ℕ) (standing : Standing) (c : ℕ) (text : List ℕ) (b : Bool) → continues name standing c ≡ b → ((next : Standing) → IsAlike name next text) → IsAlike name standing (c ∷ text)
   unfolding step_at
   alike-first name standing c text false h further none f letters =
@@ -365,7 +366,7 @@ module _ {X S H : Type 0} (means : Means X S H) (rules : Rules) where
 
   -- ---- raw text that ends within an item
 
-  -- the whole text tells what it spells, and its end what is open there
+  -- the whole text tells what it spells, and its end tells the open item there
   tells-ends : (K : Start) (s : S) (Y : List ℕ) (opened afterwards : Open) (cells : List Spelled) (E : List Told)
       → K.opened ≡ opened → normalised K.input Y ≡ characters cells → is_undecided_open afterwards ≡ false → Goes rules.exact opened cells afterwards → tokens_at_end rules afterwards ≡ E
       → TellsAll means rules K s Y (spelled_messages rules.exact K.input [] cells) (on_line (line_after (input_after K.input Y) []) E)

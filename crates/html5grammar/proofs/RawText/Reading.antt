@@ -153,7 +153,7 @@ pub greater_than-ends : ends_name greater_than ≡ true
 unfolding ends_name is_white_space
 greater_than-ends = refl
 
--- what stands after the name of a tag ends it
+-- the text after the name of a tag ends it
 pub parts-end_name : (parts : List Part) (text : List ℕ) → one_tag.can_follow InName parts ≡ true → (nat_eq (length parts) 0 ≡ true → next_is ends_name text ≡ true)
     → next_is ends_name (flat_map part_text parts ++ text) ≡ true
 unfolding one_tag.can_follow ends_name is_white_space
@@ -204,7 +204,7 @@ record IsEnded (name : List ℕ) (raw : Raw) (items : List RawItem) (first : ℕ
   name_is : bytes_eq (lower (first ∷ rest)) name ≡ true
   parts_follow : one_tag.can_follow InName parts ≡ true
 
--- what is asked of raw text with an end tag, as a record of its parts
+-- the conditions on raw text with an end tag, as a record of its parts
 is_ended : (name : List ℕ) (raw : Raw) (items : List RawItem) (first : ℕ) (rest : List ℕ) (parts : List Part)
     → is_raw name raw (record { items = items; end_tag = Some (end_tag_of first rest parts) }) ≡ true → IsEnded name raw items first rest parts
 unfolding is_raw one_tag.is_written
@@ -268,7 +268,7 @@ module _ {Q S H : Type 0} (means : Means Q S H) (rules : Rules) where
   trace-same s line last a b is_kind [] no_a no_b h same = absurd (false≢true h)
   trace-same s line last a b is_kind (c ∷ text) no_a no_b h same = rw (brought-step rules (means.foreign s) a c no_a, brought-step rules (means.foreign s) b c no_b, same c h) refl
 
-  -- the sink keeps on after the end tag, where there is one
+  -- the sink keeps on after the end tag, if there is one
   abbrev pub KeepsOn : Option WrittenTag → Type 0
   KeepsOn end_tag = (tag : WrittenTag) (t : S) (line : ℕ) → end_tag ≡ Some tag → means.reply t (Tag (tag_told rules tag)) line ≡ KeepOn
 

@@ -76,7 +76,7 @@ in_letters standing text = false
 abbrev pub end_from : Standing → List ℕ → Raw → Raw
 end_from standing text raw = if in_letters standing text then DoubleEscaped NoDash else raw
 
--- whether c continues what is open
+-- whether c continues the open item
 abbrev pub continues : List ℕ → Standing → ℕ → Bool
 continues name (Free raw) c = false
 continues name (Within (AfterLessThan kind)) c = (c == solidus) || (begins_mark kind c || begins_switch kind c)
@@ -101,7 +101,7 @@ unfolding raw_character
 told-plain exact raw c h = rw h refl
 
 module _ (exact : Bool) (name : List ℕ) where
-  -- what does not continue what is open is read as raw text, after what is carried
+  -- a character that does not continue the open item is read as raw text, after what is carried
   pub reads_anew : (standing : Standing) (c : ℕ) → continues name standing c ≡ false
       → step_at exact (opened_at name standing) c ≡ raw_step exact (raw_at standing) name (carried_at standing) c
   unfolding step_at raw_place_step raw_less_than_step end_name_step mark_step mark_and_dash_step switch_step
@@ -195,7 +195,7 @@ module _ (exact : Bool) (name : List ℕ) where
   letters-in_switch escape_kind.Escaped letters more c T h = rw h refl
   letters-in_switch escape_kind.DoubleEscaped letters more c T h = refl
 
-  -- a character that continues what is open
+  -- a character that continues the open item
 
   -- a character after letters that may switch
   reads-in_switch : (kind : ScriptEscapeKind) (letters : List ℕ) (c : ℕ) (text : List ℕ) (b : Bool) → is_letter c ≡ b
@@ -254,7 +254,7 @@ module _ (exact : Bool) (name : List ℕ) where
         letters_is = λ T. refl;
       }
 
-  -- a character that goes on with what is open
+  -- a character that goes on with the open item
   reads-on_character : (standing : Standing) (c : ℕ) (text : List ℕ) → fits name standing (c ∷ text) ≡ true
       → continues name standing c ≡ true → ReadsCharacter standing c text
   unfolding step_at raw_place_step mark_step raw_after raw_character

@@ -291,7 +291,7 @@ ends-held (d ∷ held) c h =
     let q = and_parts (has_digits held) (c == semicolon) p.1 in
     subst (λ e. (is_ascii_alphanumeric e || (e == number_sign) || (e == semicolon)) ≡ true) (sym (eqb-true c semicolon q.1)) refl
 
--- the character after what is held decides
+-- the character after the held text decides
 later-decides : (begins : List ℕ → Bool) (before text : List ℕ) (c : ℕ) (more : List ℕ) → after_while begins before text ≡ c ∷ more
     → begins ((before ++ run_while begins before text) ++ c ∷ []) ≡ false
 unfolding run_while after_while
@@ -314,7 +314,7 @@ module _ {X S H : Type 0} (means : Means X S H) (rules : Rules) where
   abbrev pub IsLine : ℕ → Type 0
   IsLine line = (c : ℕ) → (c == line_feed) ≡ false → line_past line c ≡ line
 
-  -- what is held of a reference tells nothing
+  -- the held text of a reference tells nothing
   pub trace-run : (stand : Stand) (s : S) (line : ℕ) (last held F : List ℕ) → IsLine line → list_all is_held_character (run_while (is_undecided rules.references) held F) ≡ true
       → trace means.step means.reply means.foreign rules s line last (InReference stand held) F
       ≡ trace means.step means.reply means.foreign rules s line last (InReference stand (held ++ run_while (is_undecided rules.references) held F)) (after_while (is_undecided rules.references) held F)
@@ -387,7 +387,7 @@ module _ {X S H : Type 0} (means : Means X S H) (rules : Rules) where
   unfolding trace trace_brought trace_here brought_at reference_step stepped
   trace-ended_step stand s line last run c more same h e f = rw (e, f, good-held c h, and-false rules.exact, same c (none-line_feed c h)) refl
 
-  -- the character after what is held decides, and is read anew
+  -- the character after the held text decides, and is read anew
   trace-decided : (stand : Stand) (s : S) (line : ℕ) (last run : List ℕ) (c : ℕ) (more : List ℕ) → takes_reference stand ≡ true → IsLine line → list_all is_held_character run ≡ true
       → is_undecided rules.references (run ++ c ∷ []) ≡ false → (ends : Bool) → ends_number run c ≡ ends
       → let found : Found = reference rules (in_value stand) run (Some c) in
@@ -423,7 +423,7 @@ module _ {X S H : Type 0} (means : Means X S H) (rules : Rules) where
       ∙ ap (with_messages M) (sym (trace-plain stand (stepped means.step s M) line last (characters_in found) held (c ∷ more) takes same (held-drop found.taken run all)))
       ∙ ap (λ l. with_messages M (trace means.step means.reply means.foreign rules (stepped means.step s M) line last (opened_in stand (characters_in found)) l)) (sym (drop-append-le found.taken run (c ∷ more) (taken-within rules (in_value stand) run c ends)))
 
-  -- a reference after its `&`: by what is held of the text F and the character after that
+  -- a reference after its `&`: by the held part of the text F, and the character after that
   pub trace-reference : (stand : Stand) (s : S) (line : ℕ) (last F : List ℕ) (c : ℕ) (more : List ℕ) → takes_reference stand ≡ true → IsLine line
       → All (λ entry. IsTrue (is_plain_name entry.name)) rules.references
       → after_while (is_undecided rules.references) [] F ≡ c ∷ more

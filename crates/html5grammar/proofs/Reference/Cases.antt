@@ -1,4 +1,4 @@
--- Worked cases of one reference as it is written.
+-- Worked cases of one reference as source text.
 use Rattle.std.specs.Prelude.{◌≡◌, ℕ, Bool, true, false, List, [], ◌∷◌, codes, refl, map, None, Some}
 use Rattle.std.specs.Fmt.{digits}
 use lib.Utf8.{encode}

@@ -69,7 +69,7 @@ good-x x h = good_between x (grind (arith, nat_tests)) (grind (arith, nat_tests)
 digit-no_x : (d : ℕ) → is_ascii_digit d ≡ true → is_x d ≡ false
 digit-no_x d h = grind (arith, nat_tests)
 
--- ---- a number as it is written
+-- ---- a number as source text
 
 after-written : (x : Option ℕ) (digits : List ℕ) → is_base x ≡ true → list_all (is_base_digit x) digits ≡ true → after_x (x_text x ++ digits) ≡ digits
 after-written None [] base all = refl
@@ -101,7 +101,7 @@ is_number-ended (Some x) digits base some all =
     is_number-cons x (digits ++ semicolon ∷ [])
     ∙ rw base (list_all-append is_ascii_hexdigit digits (semicolon ∷ []) ∙ and-false (list_all is_ascii_hexdigit digits))
 
--- ---- what is held: each character leaves the reference undecided, and is no bad one
+-- ---- the held text: each character leaves the reference undecided, and is not a bad one
 
 unfoldable pub Holds : List NamedReference → List ℕ → List ℕ → Type 0
 Holds references held [] = Unit {0}
@@ -167,7 +167,7 @@ pub has_digits-written : (x : Option ℕ) (digits : List ℕ) → is_base x ≡ 
 unfolding has_digits
 has_digits-written x digits base some all = rw (after-written x digits base all) some
 
--- what follows a number decides whether a semicolon is missing
+-- the character after a number decides whether a semicolon is missing
 abbrev pub found_number : Bool → Option ℕ → List ℕ → Option ℕ → Found
 found_number exact x digits next = record {
   taken = suc (length (x_text x ++ digits)) + semicolon_len next;

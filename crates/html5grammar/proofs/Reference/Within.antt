@@ -1,4 +1,4 @@
--- A reference within a text: what follows it decides it, and is then read anew.
+-- A reference within a text: the text after it decides it, and is then read anew.
 use Rattle.std.proofs.Common.{◌≡◌, ℕ, Bool, true, false, List, [], ◌∷◌, ◌++◌, drop, length, Option, None, Some, refl, ap, sym, ◌∙◌, subst, arith}
 use Rattle.std.specs.Prelude.{suc, ◌+◌, not, nat_eq, ◌==◌, codes}
 use Rattle.std.specs.List.{list_all}

@@ -1,4 +1,4 @@
--- Each text after the first letter of a tag's name is the rest of a tag as it is written, and more, or one without its end.
+-- Each text after the first letter of a tag's name is the rest of a tag as source text, and more, or one without its end.
 use Rattle.std.proofs.Common.{◌≡◌, ◌⊎◌, inl, inr, ℕ, Bool, true, false, List, [], ◌∷◌, ◌++◌, refl, ap, sym, ◌∙◌, subst}
 use Rattle.std.specs.Prelude.{◌==◌, flat_map}
 use Rattle.std.specs.List.{list_all}

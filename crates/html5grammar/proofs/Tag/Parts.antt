@@ -41,7 +41,7 @@ use Rattle.html5grammar.proofs.Tag.Stops.{IsStop}
 use Rattle.markup5ever.specs.NamedReferences.{IsTable, is_plain_name}
 use Rattle.markup5ever.specs.Names.{AttributeOf}
 
--- ---- what follows a value without quotes
+-- ---- the text after a value without quotes
 
 -- the text begins with a character that ends each reference
 pub record Stops (text : List ℕ) : Type 0 where
@@ -228,7 +228,7 @@ module _ {X S H : Type 0} (means : Means X S H) (rules : Rules) where
   abbrev pub named_tag : WrittenTag → OpenTag
   named_tag tag = with_name (begun tag.kind) (tag.first ∷ tag.rest)
 
-  -- where nothing is open they are read as that
+  -- when nothing is open they are read as that
   pub passes-name : (tag : WrittenTag) (rest : List ℕ) → is_letter tag.first ≡ true → list_all in_tag_name tag.rest ≡ true
       → Passes means rules (Between Data) (name_cells tag) (InTag InName (named_tag tag)) rest
   passes-name tag rest letter all =

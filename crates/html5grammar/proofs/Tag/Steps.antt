@@ -145,7 +145,7 @@ module _ (exact : Bool) where
   step-end AfterQuotedValue tag ends = refl
   step-end AfterSolidus tag ends = refl
 
-  -- ---- where nothing is open
+  -- ---- when nothing is open
 
   -- after `<`, or `</`, a letter begins the name
   pub goes-opening : (kind : TagKind) (cells : List Spelled) (later : Open) (c : ℕ)

@@ -29,7 +29,7 @@ stop-parts : (c : ℕ) → IsStop c → (is_ascii_alphanumeric c ≡ false) × (
 unfolding is_held_character
 stop-parts c stop = or_none (is_ascii_alphanumeric c) (c == number_sign) (c == semicolon) stop.other
 
--- what is held doesn't go on with it
+-- the held text doesn't go on with it
 stop-decides : (references : List NamedReference) (held : List ℕ) (c : ℕ) → All (λ entry. IsTrue (is_plain_name entry.name)) references → IsStop c → is_undecided references (held ++ c ∷ []) ≡ false
 stop-decides references held c plain stop =
     false_from_ne_true (is_undecided references (held ++ c ∷ [])) (λ e.

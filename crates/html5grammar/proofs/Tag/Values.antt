@@ -129,7 +129,7 @@ module _ {X S H : Type 0} (means : Means X S H) (rules : Rules) where
       ap (λ value. record tag { last_value = value })
       (append_assoc tag.last_value (flat_map value_bytes xs) (flat_map value_bytes ys) ∙ ap (λ l. tag.last_value ++ l) (sym (bytes-append xs ys)))
 
-  -- a character that is no reference
+  -- a character that is not a reference
   pub step-in_value : (kind : AttrValueKind) (tag : OpenTag) (c : ℕ) → is_in_value kind c ≡ true → (c == ampersand) ≡ false
       → step_at rules.exact (InTag (InValue kind) tag) c ≡ Tells (value_error rules.exact kind c) (InTag (InValue kind) (with_value tag (c ∷ [])))
   unfolding is_in_value step_at tag_step quoted_step unquoted_step in_quoted in_unquoted

@@ -1,4 +1,4 @@
-//! What stands in a page for each piece.
+//! The text of a page for each piece.
 use html5write::{Attribute, Piece, Writer};
 
 #[test]

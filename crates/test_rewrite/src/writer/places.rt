@@ -5,7 +5,7 @@ use std::alloc::{AllocError, Allocator};
 // The texts are longer than two steps of a search.
 const LONGEST: usize = 36;
 
-// So many letters, a text, and so many letters.
+// This many letters, a text, and this many letters.
 fn between<A: Allocator + Copy>(
     alloc: A,
     before: usize,
@@ -23,7 +23,7 @@ fn between<A: Allocator + Copy>(
     Ok(whole)
 }
 
-// Whether a text is written so, between so many letters.
+// Whether a text is written so, between this many letters.
 fn is_written<A: Allocator + Copy>(
     page: &mut Writer<A>,
     alloc: A,

@@ -83,7 +83,7 @@ pub fn peek<A: Allocator>(ample: Global, queue: &BufferQueue<A>) -> Result<Strin
     Ok(words_of(ample, queue.peek())?)
 }
 
-/// What waits.
+/// The queued text.
 pub fn waiting<A: Allocator>(ample: Global, queue: &BufferQueue<A>) -> Result<String, Stop> {
     let text = queue.front_text();
     if queue.is_empty() != text.is_empty() {

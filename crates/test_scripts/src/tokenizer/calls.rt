@@ -86,7 +86,7 @@ fn words_of<H: Numbered + Drop, A: Allocator>(
     }
 }
 
-// Feeds a tokenizer what waits, with nothing said of it.
+// Feeds a tokenizer the queued text, with nothing said of it.
 fn fed<S: TokenSink<Token<A>> + Drop, A: Allocator + Copy>(
     tokenizer: &mut Tokenizer<'_, S, A>,
     queue: &mut BufferQueue<A>,
@@ -96,7 +96,7 @@ fn fed<S: TokenSink<Token<A>> + Drop, A: Allocator + Copy>(
     tokenizer.feed(queue)
 }
 
-/// Feeds a tokenizer what waits.
+/// Feeds a tokenizer the queued text.
 pub fn feed<S: TokenSink<Token<A>> + Drop, A: Allocator + Copy>(
     ample: Global,
     tokenizer: &mut Tokenizer<'_, S, A>,

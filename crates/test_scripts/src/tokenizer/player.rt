@@ -70,7 +70,7 @@ fn push_characters<A: Allocator + Copy>(
     Ok(())
 }
 
-// Appends two pieces, the first with so many characters of a text.
+// Appends two pieces, the first with this many characters of a text.
 fn push_two<A: Allocator + Copy>(
     heap: A,
     parts: &mut Vec<steps::Step<A>, A>,
@@ -174,7 +174,7 @@ where
         self.spare.take().ok_or(Stop::BadStep)
     }
 
-    // Puts a fresh sink in, where nothing is pending.
+    // Puts a fresh sink in, when nothing is pending.
     fn put_fresh_sink(&mut self) -> Result<(), Stop> {
         if !self.tokenizer.nothing_pending() {
             return Err(Stop::BadStep);
@@ -220,8 +220,8 @@ where
         compare_answer(self.stage.ample, answer, found)
     }
 
-    // Looks at what is left where pieces were fed: nothing, where there was a piece and all are taken.
-    // Where there was no room for a piece the tokenizer has not failed.
+    // Looks at what is left where pieces were fed: nothing, if there was a piece and all are taken.
+    // If there was no room for a piece the tokenizer has not failed.
     fn check_fed_pieces(&self, has_pieces: bool, found: &str) -> Result<(), Stop> {
         if has_pieces && !is_error(found) {
             compare(self.stage.ample, "", self.queue.front_text())?;
@@ -232,7 +232,7 @@ where
         self.check_state(is_error(found), false)
     }
 
-    // Looks at what each feed leaves: an end of what waited, and nothing where it is done.
+    // Looks at what each feed leaves: a suffix of the text that waited, and nothing where it is done.
     fn check_fed(&self, before: &str, found: &str) -> Result<(), Stop> {
         let ample = self.stage.ample;
         let left = self.queue.front_text();
@@ -310,7 +310,7 @@ where
         }
     }
 
-    // What waits, and the lines that the sink shows.
+    // The queued text, and the lines that the sink shows.
     fn left(&self) -> Result<(String, String), AllocError> {
         let waiting = String::from_str(self.stage.ample, self.queue.front_text())?;
         Ok((waiting, self.lines()?))

@@ -20,7 +20,7 @@ fn push_part(text: &mut String, part: &str, number: &str) -> Result<(), CaseErro
     Ok(())
 }
 
-/// Reads how many parts there are, and the part: the text of so many, each with its end.
+/// Reads how many parts there are, and the part: the text of this many, each with its end.
 pub fn many(alloc: Global, written: &str, end: &str) -> Result<String, CaseError> {
     let Some((count, part)) = written.split_once(' ') else {
         return Err(CaseError::BadLine);

@@ -1,4 +1,4 @@
--- the search gives up at a text of so many characters
+-- the search gives up at a text of this many characters
 use Rattle.std.proofs.Common.{codes, ◌++◌, ap, ◌∙◌, append_assoc}
 use Rattle.html5check.proofs.lines.push_meant_name.Goals as goal
 

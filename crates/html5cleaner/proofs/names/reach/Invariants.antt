@@ -2,7 +2,7 @@ use Rattle.std.proofs.Common.{◌≡◌, ◌+◌, ◌≤◌, chars, length}
 use Rattle.html5cleaner.specs.Open.{names_of, reach}
 use Rattle.html5cleaner.proofs.names.reach.Given as goal
 
--- it is none of those that were passed
+-- it is not among those that were passed
 abbrev pub invariant-loop-inner : goal.invariant-loop-inner
 invariant-loop-inner g l = (reach (names_of l.names) (chars l.name) + length l.left ≡ length l.names + reach (names_of l.left) (chars l.name)) × (length l.left ≤ length l.names)
 

@@ -1,4 +1,4 @@
--- where no log of SARIF is a format, none is printed
+-- a command without the format SARIF prints no such log
 use Rattle.std.proofs.Common.{map, string_bytes}
 use Rattle.html5commands.proofs.NoLogs.{prints-links, prints-tokens}
 use Rattle.html5commands.proofs.running.by_command.Goals as goal

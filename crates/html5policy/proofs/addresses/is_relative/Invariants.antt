@@ -2,6 +2,6 @@ use Rattle.std.proofs.Common.{◌≡◌, drop}
 use Rattle.html5policy.specs.Addresses.{is_relative}
 use Rattle.html5policy.proofs.addresses.is_relative.Given as goal
 
--- what stands before this byte decides nothing
+-- the bytes before this one decide nothing
 abbrev pub invariant-loop-byte : goal.invariant-loop-byte
 invariant-loop-byte l = is_relative l.address ≡ is_relative (drop l.byte-index l.address)

@@ -1,4 +1,4 @@
--- What was read so far is written but for what the decoder holds, and nothing failed yet.
+-- What was read so far is written except for what the decoder holds, and nothing failed yet.
 use Rattle.std.proofs.Common.{◌≡◌, ◌<◌, length}
 use Rattle.html5splice.proofs.Sources.{HasSpliced}
 use Rattle.html5splice.specs.Splicing.{splicing_of}

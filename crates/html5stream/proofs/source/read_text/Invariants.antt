@@ -1,4 +1,4 @@
--- What was read so far is fed but for what the decoder holds, nothing waits, and nothing failed yet.
+-- What was read so far is fed except for what the decoder holds, nothing waits, and nothing failed yet.
 use Rattle.std.proofs.Common.{◌≡◌, ◌<◌, [], length}
 use Rattle.html5stream.specs.Streams.{GivesAtLeast}
 use Rattle.html5stream.proofs.Streaming.{HasRead}

@@ -1,6 +1,6 @@
 use Rattle.std.proofs.Common.{◌≡◌, drop}
 use Rattle.html5cleaner.proofs.open_elements.OpenElements.close.Given as goal
 
--- so many were closed
+-- this many were closed
 abbrev pub invariant-loop : goal.invariant-loop
 invariant-loop g l = l.self ≡ drop l.counter l.initial.self

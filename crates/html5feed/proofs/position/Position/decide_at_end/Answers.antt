@@ -1,4 +1,5 @@
--- Each answer composes what the end decides of what is held with what it sends. The tactic closes single calls only.
+-- Each answer composes what the end decides of the held text with what it sends. The tactic closes single calls
+-- only.
 use Rattle.std.proofs.Common.{◌≡◌, [], ◌∙◌, refl, sym, false, true, rules}
 use Rattle.std.proofs.lemmas.List.{append-nil}
 use Rattle.html5ever_interface.specs.Sink.{stepped}

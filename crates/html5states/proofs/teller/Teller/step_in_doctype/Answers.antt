@@ -8,7 +8,7 @@ use Rattle.html5partial.specs.CurrentTag.{after_doctype_name}
 use Rattle.html5states.proofs.Tellings.{reads_as}
 use Rattle.html5states.proofs.teller.Teller.step_in_doctype.Goals as goal
 
--- nothing is held after the name where nothing is undecided
+-- nothing is held after the name when nothing is undecided
 step-after_name : (exact : Bool) (held : List ℕ) (d : DoctypeOf) (c : ℕ) → is_undecided_open (after_doctype_name held d) ≡ false
     → step_at exact (after_doctype_name held d) c ≡ doctype_step exact AfterName d c
 unfolding step_at
