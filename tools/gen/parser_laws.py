@@ -7,7 +7,7 @@
 A law of tree construction says that each step keeps a property of the parser. Nearly all definitions only compose others,
 so the proof of a clause is the clause again, with a lemma in place of each definition. This script writes these proofs, for
 each definition of crates/tree_construction/specs whose result is a parser or a page. Those that change what the property
-speaks of are proved by hand: a law has a file of them, `proofs/LAW.antt`, and from it comes `proofs/LAWSteps.antt`. With
+speaks of are proved by hand: a law has a file of them in crates/tree_laws/proofs, as Growing, and from it comes another, as GrowingSteps. With
 `--check` nothing is written, and the status is 1 if a file isn't what would be written.
 """
 
@@ -18,16 +18,19 @@ from collections import namedtuple
 
 TOP = pathlib.Path(__file__).resolve().parent.parent.parent
 CRATE = TOP / "crates" / "tree_construction"
+PROOFS = TOP / "crates" / "tree_laws" / "proofs"
 MODULES = ["Page", "Parser", "Formatting", "Adoption", "Resetting", "BeforeBody", "InBody", "Tables", "AfterBody",
            "ForeignContent", "Construction"]
 WIDTH = 150
 
 # A law: the name of its file, what its lemmas begin with, its property of a page and of a parser, the fields of a parser that it
-# speaks of, and what it has as a parameter.
-Law = namedtuple("Law", "file prefix page parser fields parameter says")
+# speaks of, and the name and the type of what all its lemmas take first.
+Law = namedtuple("Law", "file prefix page parser fields given type says")
 LAWS = [
-    Law("Growing", "grows", "Extends first {}.edits", "Extends first {}.page.edits", {"page"}, "(first : List Edit)",
+    Law("Growing", "grows", "Extends first {}.edits", "Extends first {}.page.edits", {"page"}, "first", "List Edit",
         "Each step of tree construction only adds edits."),
+    Law("Numbers", "numbers", "PageNumbers k {}", "Numbers k {}", {"page", "formatting", "head", "form"}, "k", "ℕ",
+        "Each step of tree construction makes numbers in their order, and names those that were made."),
 ]
 
 Definition = namedtuple("Definition", "module name opens parameters result clauses")
@@ -41,6 +44,10 @@ TOKEN = re.compile(r'"(?:[^"\\]|\\.)*"|[A-Za-zℕ_][\w\-]*(?:\.[A-Za-z_]\w*)*|\d
 # What is kept, and functions of it that a definition takes, by their types.
 SUBJECTS = ("Parser", "Page")
 FUNCTIONS = {"Again": ("Parser", "Token"), "InHtml": ("Token", "Parser"), "(Parser → Parser)": ("Parser",), "(Page → Page)": ("Page",)}
+
+
+# The definition that all others serve.
+LAST = "told_all"
 
 
 class Unprovable(Exception):
@@ -189,15 +196,20 @@ def subject_of(definition):
 class Prover:
     """Writes the lemmas of a law."""
 
-    def __init__(self, law, definitions, by_hand):
+    def __init__(self, law):
         self.law = law
-        self.by_hand = by_hand
-        self.definitions = {it.name: it for it in definitions}
+        self.definitions = {}  # those that have a lemma
+        self.unproved = {}     # of each other one why not
 
     def lemma_of(self, name):
-        """The lemma of a name. One by hand stands in another file, so it takes the law's parameter."""
-        lemma = f"{self.law.prefix}-{name}"
-        return " ".join([lemma, *re.findall(r"\((\w+) :", self.law.parameter)]) if lemma in self.by_hand else lemma
+        """The lemma of a definition, with what each lemma takes first."""
+        return f"{self.law.prefix}-{name} {self.law.given}"
+
+    def fields(self, kind):
+        """The fields that the property speaks of."""
+        if kind == "Parser":
+            return self.law.fields
+        return {"edits"} if self.law.fields == {"page"} else {"edits", "next", "opened"}
 
     def property(self, kind, text):
         return (self.law.page if kind == "Page" else self.law.parser).format(text)
@@ -211,9 +223,7 @@ class Prover:
             return f"{self.lemma_of('if-' + kind.lower())} ({shown(term.test)}) {branches} {proofs}"
         if isinstance(term, Let):
             return self.proof_of_let(term, known, kind)
-        if isinstance(term, Update) and not set(term.fields) & (self.law.fields if kind == "Parser" else {"edits", "next", "opened"}):
-            return self.proof(term.base, known, kind)
-        if isinstance(term, Update) and kind == "Page" and "edits" not in term.fields and self.law.fields == {"page"}:
+        if isinstance(term, Update) and not set(term.fields) & self.fields(kind):
             return self.proof(term.base, known, kind)
         if isinstance(term, Apply):
             return self.proof_of_call(term.atoms[0][0], term.atoms[1:], known)
@@ -233,7 +243,7 @@ class Prover:
         if isinstance(known.get(name), tuple):
             at = next(at for at, it in enumerate(known[name]) if it in SUBJECTS)
             inner = self.proof(arguments[at], known, known[name][at])
-            return f"h-{name} {' '.join(argument(shown(it)) for it in arguments)} {argument(inner)}"
+            return f"h-{name} {self.law.given} {' '.join(argument(shown(it)) for it in arguments)} {argument(inner)}"
         definition = self.definitions.get(name)
         if definition is None or len(arguments) != len(definition.parameters):
             raise Unprovable(f"{name} {len(arguments)}")
@@ -257,17 +267,17 @@ class Prover:
         if isinstance(term, Lambda):
             functions = {name: it for name, it in known.items() if isinstance(it, tuple)}
             own = term.names[at]
-            return f"λ {' '.join(term.names)} h-{own}. {self.proof(term.body, {**functions, own: f'h-{own}'}, kinds[at])}"
+            return f"λ {self.law.given} {' '.join(term.names)} h-{own}. {self.proof(term.body, {**functions, own: f'h-{own}'}, kinds[at])}"
         name, arguments = term.atoms[0][0], term.atoms[1:]
         if isinstance(known.get(name), tuple) and not arguments:
             return f"h-{name}"
         if name in self.definitions:
-            return self.lemma_with(self.definitions[name], arguments, known)
+            return f"λ {self.law.given}. {self.lemma_with(self.definitions[name], arguments, known)}"
         raise Unprovable(shown(tokens))
 
     def statement(self, definition):
         """The lemma's parameters, in the definition's own names, and what it says."""
-        names, parts = [], []
+        names, parts = [], [f"({self.law.given} : {self.law.type})"]
         for at, kind in enumerate(definition.parameters):
             names.append(name_of(definition, at, names))
             parts.append(f"({names[-1]} : {kind})")
@@ -279,9 +289,21 @@ class Prover:
 
     def hypothesis(self, name, kinds):
         names = ["q" if it in SUBJECTS else "t" for it in kinds]
-        binders = " ".join(f"({own} : {kind})" for own, kind in zip(names, kinds))
+        binders = " ".join(f"({own} : {kind})" for own, kind in [(self.law.given, self.law.type), *zip(names, kinds)])
         kind = next(it for it in kinds if it in SUBJECTS)
         return f"({binders} → {self.property(kind, 'q')} → {self.property(kind, f'({name} ' + ' '.join(names) + ')')})"
+
+    def lemmas_for(self, definition, by_hand):
+        """The lines of a definition's lemma: none if it is proved by hand, or if no composition of lemmas proves it."""
+        self.definitions[definition.name] = definition
+        if f"{self.law.prefix}-{definition.name}" in by_hand:
+            return []
+        try:
+            return self.lemma(definition)
+        except Unprovable as why:
+            del self.definitions[definition.name]
+            self.unproved[definition.name] = str(why)
+            return []
 
     def lemma(self, definition):
         name = f"{self.law.prefix}-{definition.name}"
@@ -289,7 +311,7 @@ class Prover:
         if definition.opens:
             lines.append(f"unfolding {definition.name}")
         for patterns, term in definition.clauses:
-            known, left = {}, [name]
+            known, left = {}, [name, self.law.given]
             for kind, pattern in zip(definition.parameters, patterns):
                 left.append(shown(pattern))
                 if kind in FUNCTIONS:
@@ -310,15 +332,15 @@ def name_of(definition, at, taken):
 # ---- files
 
 
-def wrapped(line, indent):
+def wrapped(line):
     """A line, cut where it is too long."""
-    lines, rest = [], indent + line
+    lines, rest = [], line
     while len(rest) > WIDTH:
-        cut = max((it.start() for it in re.finditer(r" (?=[(→])", rest[:WIDTH]) if it.start() > len(indent) + 8), default=0)
+        cut = max((it.start() for it in re.finditer(r" (?=[(→])", rest[:WIDTH]) if it.start() > 8), default=0)
         if not cut:
             break
         lines.append(rest[:cut])
-        rest = f"{indent}    {rest[cut + 1 :]}"
+        rest = f"    {rest[cut + 1 :]}"
     return [*lines, rest]
 
 
@@ -342,29 +364,31 @@ def imports_for(text, law, by_hand):
     for name, (source, written) in sorted(names_by_module().items()):
         if name in words and source != "Rattle.std.specs.Prelude":
             groups.setdefault(source, []).append(written)
-    used = sorted(it for it in by_hand if it in words)
-    groups[f"Rattle.tree_construction.proofs.{law.file}"] = used
+    groups[f"Rattle.tree_laws.proofs.{law.file}"] = sorted(it for it in by_hand if it in words)
     return "".join(f"use {source}.{{{', '.join(names)}}}\n" for source, names in sorted(groups.items()))
 
 
 COMMON = """\
 use Rattle.std.proofs.Common.{◌≡◌, ℕ, Bool, true, false, List, [], ◌∷◌, ◌++◌}
 use Rattle.std.specs.Prelude.{suc, zero, ◌+◌, ◌==◌, ◌&&◌, ◌||◌, not, length, map, Option, Some, None, codes, if◌then◌else◌}
-use Rattle.tree_construction.specs.Laws.{Extends}
+use Rattle.tree_laws.specs.Laws.{Extends}
 """
 
 
 def written(law):
     """The file of a law's lemmas."""
-    hand = (CRATE / "proofs" / f"{law.file}.antt").read_text(encoding="utf-8")
-    by_hand = set(re.findall(rf"(?m)^ *pub ({law.prefix}-[\w\-]+) :", hand))
+    hand = (PROOFS / f"{law.file}.antt").read_text(encoding="utf-8")
+    by_hand = set(re.findall(rf"(?m)^ *pub ({law.prefix}-[\w\-]+) :|^(?:abbrev )?pub (?:record )?(\w+) ", hand))
+    by_hand = {lemma or name for lemma, name in by_hand}
     definitions = [it for module in MODULES for it in definitions_in(module)]
-    prover = Prover(law, definitions, by_hand)
+    prover = Prover(law)
     lines = []
     for it in definitions:
-        if f"{law.prefix}-{it.name}" not in by_hand:
-            lines += ["", *(cut for line in prover.lemma(it) for cut in wrapped(line, "  "))]
-    body = f"\nmodule _ {law.parameter} where\n" + "\n".join(lines).lstrip("\n") + "\n"
+        found = prover.lemmas_for(it, by_hand)
+        lines += ["", *(cut for line in found for cut in wrapped(line))] if found else []
+    if LAST not in prover.definitions:
+        raise Unprovable(f"{law.file}: {prover.unproved}")
+    body = "\n".join(lines) + "\n"
     head = f"-- {law.says} By `python3 tools/gen/parser_laws.py`, and not by hand; the steps that it rests on are in {law.file}.\n"
     return head + COMMON + imports_for(body, law, by_hand) + body
 
@@ -374,7 +398,7 @@ def main():
         sys.exit(__doc__)
     stale = []
     for law in LAWS:
-        file, text = CRATE / "proofs" / f"{law.file}Steps.antt", written(law)
+        file, text = PROOFS / f"{law.file}Steps.antt", written(law)
         if not sys.argv[1:]:
             file.write_text(text, encoding="utf-8")
         elif not file.exists() or file.read_text(encoding="utf-8") != text:

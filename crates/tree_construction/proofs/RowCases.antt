@@ -3774,6 +3774,22 @@ rows_78 =
     ∷ (document false (Doctype (record { name = (Some (codes "html")); public_id = None; system_id = None; force_quirks = false }) ∷ start_tag (codes "p") [] ∷ start_tag (codes "b") (attribute (codes "class") (codes "x") ∷ []) ∷ start_tag (codes "b") (attribute (codes "class") (codes "x") ∷ []) ∷ start_tag (codes "b") [] ∷ start_tag (codes "b") (attribute (codes "class") (codes "x") ∷ []) ∷ start_tag (codes "b") (attribute (codes "class") (codes "x") ∷ []) ∷ start_tag (codes "b") [] ∷ Text (codes "X") ∷ start_tag (codes "p") [] ∷ Text (codes "X") ∷ start_tag (codes "p") [] ∷ start_tag (codes "b") [] ∷ start_tag (codes "b") (attribute (codes "class") (codes "x") ∷ []) ∷ start_tag (codes "b") [] ∷ Text (codes "X") ∷ start_tag (codes "p") [] ∷ end_tag (codes "b") ∷ end_tag (codes "b") ∷ end_tag (codes "b") ∷ end_tag (codes "b") ∷ end_tag (codes "b") ∷ end_tag (codes "b") ∷ Text (codes "X") ∷ Text [] ∷ End ∷ []))
     -- a table in a p, without a doctype: "<p>1<table>2<td><b>3</p>4"
     ∷ (document false (start_tag (codes "p") [] ∷ Text (codes "1") ∷ start_tag (codes "table") [] ∷ Text (codes "2") ∷ start_tag (codes "td") [] ∷ start_tag (codes "b") [] ∷ Text (codes "3") ∷ end_tag (codes "p") ∷ Text (codes "4") ∷ Text [] ∷ End ∷ []))
+    -- the bookmark of the adoption agency: "<!DOCTYPE html><a><div><div><div><em><div><i><section><section><div><div><p>y<p></a>y</div>yz"
+    ∷ (document false (Doctype (record { name = (Some (codes "html")); public_id = None; system_id = None; force_quirks = false }) ∷ start_tag (codes "a") [] ∷ start_tag (codes "div") [] ∷ start_tag (codes "div") [] ∷ start_tag (codes "div") [] ∷ start_tag (codes "em") [] ∷ start_tag (codes "div") [] ∷ start_tag (codes "i") [] ∷ start_tag (codes "section") [] ∷ start_tag (codes "section") [] ∷ start_tag (codes "div") [] ∷ start_tag (codes "div") [] ∷ start_tag (codes "p") [] ∷ Text (codes "y") ∷ start_tag (codes "p") [] ∷ end_tag (codes "a") ∷ Text (codes "y") ∷ end_tag (codes "div") ∷ Text (codes "yz") ∷ Text [] ∷ End ∷ []))
+    -- the bookmark of the adoption agency: "<!DOCTYPE html><a><u><div><p><div><div><section><div><div><em><section><div><a><em></div><a>yxz"
+    ∷ (document false (Doctype (record { name = (Some (codes "html")); public_id = None; system_id = None; force_quirks = false }) ∷ start_tag (codes "a") [] ∷ start_tag (codes "u") [] ∷ start_tag (codes "div") [] ∷ start_tag (codes "p") [] ∷ start_tag (codes "div") [] ∷ start_tag (codes "div") [] ∷ start_tag (codes "section") [] ∷ start_tag (codes "div") [] ∷ start_tag (codes "div") [] ∷ start_tag (codes "em") [] ∷ start_tag (codes "section") [] ∷ start_tag (codes "div") [] ∷ start_tag (codes "a") [] ∷ start_tag (codes "em") [] ∷ end_tag (codes "div") ∷ start_tag (codes "a") [] ∷ Text (codes "yxz") ∷ Text [] ∷ End ∷ []))
+    -- the bookmark of the adoption agency: "<!DOCTYPE html><u><a><em><section><em><section><u><p><div><s><div><div><i><div><div><p><a></div>z"
+    ∷ (document false (Doctype (record { name = (Some (codes "html")); public_id = None; system_id = None; force_quirks = false }) ∷ start_tag (codes "u") [] ∷ start_tag (codes "a") [] ∷ start_tag (codes "em") [] ∷ start_tag (codes "section") [] ∷ start_tag (codes "em") [] ∷ start_tag (codes "section") [] ∷ start_tag (codes "u") [] ∷ start_tag (codes "p") [] ∷ start_tag (codes "div") [] ∷ start_tag (codes "s") [] ∷ start_tag (codes "div") [] ∷ start_tag (codes "div") [] ∷ start_tag (codes "i") [] ∷ start_tag (codes "div") [] ∷ start_tag (codes "div") [] ∷ start_tag (codes "p") [] ∷ start_tag (codes "a") [] ∷ end_tag (codes "div") ∷ Text (codes "z") ∷ Text [] ∷ End ∷ []))
+    -- a caption has a marker: "<p><b><table><caption>y</caption></table></p>x"
+    ∷ (document false (start_tag (codes "p") [] ∷ start_tag (codes "b") [] ∷ start_tag (codes "table") [] ∷ start_tag (codes "caption") [] ∷ Text (codes "y") ∷ end_tag (codes "caption") ∷ end_tag (codes "table") ∷ end_tag (codes "p") ∷ Text (codes "x") ∷ Text [] ∷ End ∷ []))
+    -- a doctype of another name: "<!DOCTYPE x><p><table>"
+    ∷ (document false (Doctype (record { name = (Some (codes "x")); public_id = None; system_id = None; force_quirks = false }) ∷ start_tag (codes "p") [] ∷ start_tag (codes "table") [] ∷ End ∷ []))
+    -- an object bounds the search for an open anchor: "<a href=1><object><a href=2>x</a></object>y"
+    ∷ (document false (start_tag (codes "a") (attribute (codes "href") (codes "1") ∷ []) ∷ start_tag (codes "object") [] ∷ start_tag (codes "a") (attribute (codes "href") (codes "2") ∷ []) ∷ Text (codes "x") ∷ end_tag (codes "a") ∷ end_tag (codes "object") ∷ Text (codes "y") ∷ Text [] ∷ End ∷ []))
+    -- a p breaks out of svg: "<svg><p>x"
+    ∷ (document false (start_tag (codes "svg") [] ∷ start_tag (codes "p") [] ∷ Text (codes "x") ∷ Text [] ∷ End ∷ []))
+    -- an end tag of svg in lower case: "<svg><foreignObject></foreignobject><path>"
+    ∷ (document false (start_tag (codes "svg") [] ∷ start_tag (codes "foreignobject") [] ∷ end_tag (codes "foreignobject") ∷ start_tag (codes "path") [] ∷ End ∷ []))
     ∷ []
 
 trees_78 : List (List ℕ)
@@ -3782,8 +3798,31 @@ trees_78 =
     ∷ (codes "| <html>\n|   <head>\n|   <body>\n|     <b>\n|     <b>\n|       \"bbb\"\n|     <table>\n|       <tbody>\n|         <tr>\n|           <td>\n|             \"aaa\"\n|     <b>\n|       \"ccc\"\n")
     ∷ (codes "| <!DOCTYPE html>\n| <html>\n|   <head>\n|   <body>\n|     <p>\n|       <b>\n|         class=\"x\"\n|         <b>\n|           class=\"x\"\n|           <b>\n|             <b>\n|               class=\"x\"\n|               <b>\n|                 class=\"x\"\n|                 <b>\n|                   \"X\"\n|     <p>\n|       <b>\n|         class=\"x\"\n|         <b>\n|           <b>\n|             class=\"x\"\n|             <b>\n|               class=\"x\"\n|               <b>\n|                 \"X\"\n|     <p>\n|       <b>\n|         class=\"x\"\n|         <b>\n|           <b>\n|             class=\"x\"\n|             <b>\n|               class=\"x\"\n|               <b>\n|                 <b>\n|                   <b>\n|                     class=\"x\"\n|                     <b>\n|                       \"X\"\n|     <p>\n|       \"X\"\n")
     ∷ (codes "| <html>\n|   <head>\n|   <body>\n|     <p>\n|       \"12\"\n|       <table>\n|         <tbody>\n|           <tr>\n|             <td>\n|               <b>\n|                 \"3\"\n|                 <p>\n|                 \"4\"\n")
+    ∷ (codes "| <!DOCTYPE html>\n| <html>\n|   <head>\n|   <body>\n|     <a>\n|     <div>\n|       <a>\n|       <div>\n|         <a>\n|         <div>\n|           <a>\n|             <em>\n|           <em>\n|             <div>\n|               <a>\n|                 <i>\n|               <i>\n|                 <section>\n|                   <a>\n|                   <section>\n|                     <a>\n|                     <div>\n|                       <a>\n|                       <div>\n|                         <a>\n|                           <p>\n|                             \"y\"\n|                           <p>\n|                             \"y\"\n|                       <a>\n|                         \"yz\"\n")
+    ∷ (codes "| <!DOCTYPE html>\n| <html>\n|   <head>\n|   <body>\n|     <a>\n|       <u>\n|     <u>\n|       <div>\n|         <a>\n|           <p>\n|         <div>\n|           <a>\n|           <div>\n|             <a>\n|             <section>\n|               <a>\n|               <div>\n|                 <a>\n|                 <div>\n|                   <a>\n|                     <em>\n|                   <em>\n|                     <section>\n|                       <a>\n|                       <div>\n|                         <a>\n|                           <a>\n|                             <em>\n|                       <a>\n|                         <em>\n|                           <a>\n|                             \"yxz\"\n")
+    ∷ (codes "| <!DOCTYPE html>\n| <html>\n|   <head>\n|   <body>\n|     <u>\n|       <a>\n|         <em>\n|       <em>\n|         <section>\n|           <a>\n|             <em>\n|           <em>\n|             <section>\n|               <a>\n|                 <u>\n|                   <p>\n|               <u>\n|                 <div>\n|                   <a>\n|                     <s>\n|                   <s>\n|                     <div>\n|                       <a>\n|                       <div>\n|                         <a>\n|                           <i>\n|                         <i>\n|                           <div>\n|                             <a>\n|                             <div>\n|                               <a>\n|                               <p>\n|                                 <a>\n|                                   <a>\n|                             <a>\n|                               <a>\n|                                 \"z\"\n")
+    ∷ (codes "| <html>\n|   <head>\n|   <body>\n|     <p>\n|       <b>\n|         <table>\n|           <caption>\n|             \"y\"\n|     <b>\n|       \"x\"\n")
+    ∷ (codes "| <!DOCTYPE x>\n| <html>\n|   <head>\n|   <body>\n|     <p>\n|       <table>\n")
+    ∷ (codes "| <html>\n|   <head>\n|   <body>\n|     <a>\n|       href=\"1\"\n|       <object>\n|         <a>\n|           href=\"2\"\n|           \"x\"\n|       \"y\"\n")
+    ∷ (codes "| <html>\n|   <head>\n|   <body>\n|     <svg svg>\n|     <p>\n|       \"x\"\n")
+    ∷ (codes "| <html>\n|   <head>\n|   <body>\n|     <svg svg>\n|       <svg foreignObject>\n|       <svg path>\n")
     ∷ []
 
 built_78 : map shown_of rows_78 ≡ trees_78
 unfolding rows_78 trees_78 adjusted_attributes adjusted_name adjusted_tag_name cased foreign_attributes math_attribute_names svg_attribute_names svg_tag_names added_after adopted ended_by entry_of furthest_block inner_loop nth_open opened_inside opened_outside outer_loop replaced process run start step told_all begins_with begins_with_one html_4_01_beginnings limited_quirks_beginnings means_limited_quirks means_quirks quirks_beginnings quirks_public_ids quirks_system_ids added_before built changed has_one_like lacking row_of tree_from without_node foreign_end are_among cleared count_alike has_attribute_like has_entry last_named reopened still_listed to_reopen with_entry without_earliest without_entry item_met all_names breaks_out ends_scope ends_table_scope has_such is_among is_body_context is_formatting is_fostering is_implied is_implied_thoroughly is_listed is_row_context is_special kind_in kind_in_namespace kind_of may_stay_open namespace_of first_open foster_place_in has_in_scope has_open popped_to_first_in popped_until_in popped_while_in second_body without_open mode_of flushed_as_space flushed_fostered is_all_space mode_of_request reply_of value_of among attribute_lines comes_before indent shown shown_of sorted
 built_78 = refl
+
+rows_79 : List Case
+rows_79 =
+    -- a template within a template: "<template><template></template><td>x"
+    (document false (start_tag (codes "template") [] ∷ start_tag (codes "template") [] ∷ end_tag (codes "template") ∷ start_tag (codes "td") [] ∷ Text (codes "x") ∷ Text [] ∷ End ∷ []))
+    ∷ []
+
+trees_79 : List (List ℕ)
+trees_79 =
+    (codes "| <html>\n|   <head>\n|     <template>\n|       content\n|         <template>\n|           content\n|         <td>\n|           \"x\"\n|   <body>\n")
+    ∷ []
+
+built_79 : map shown_of rows_79 ≡ trees_79
+unfolding rows_79 trees_79 adjusted_attributes adjusted_name adjusted_tag_name cased foreign_attributes math_attribute_names svg_attribute_names svg_tag_names added_after adopted ended_by entry_of furthest_block inner_loop nth_open opened_inside opened_outside outer_loop replaced process run start step told_all begins_with begins_with_one html_4_01_beginnings limited_quirks_beginnings means_limited_quirks means_quirks quirks_beginnings quirks_public_ids quirks_system_ids added_before built changed has_one_like lacking row_of tree_from without_node foreign_end are_among cleared count_alike has_attribute_like has_entry last_named reopened still_listed to_reopen with_entry without_earliest without_entry item_met all_names breaks_out ends_scope ends_table_scope has_such is_among is_body_context is_formatting is_fostering is_implied is_implied_thoroughly is_listed is_row_context is_special kind_in kind_in_namespace kind_of may_stay_open namespace_of first_open foster_place_in has_in_scope has_open popped_to_first_in popped_until_in popped_while_in second_body without_open mode_of flushed_as_space flushed_fostered is_all_space mode_of_request reply_of value_of among attribute_lines comes_before indent shown shown_of sorted
+built_79 = refl

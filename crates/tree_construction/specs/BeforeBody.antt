@@ -249,12 +249,15 @@ abbrev pub after_head_other : Again → Token → Parser → Parser
 after_head_other again token p = again (insert_body (bare_tag (codes "body")) p) token
 
 -- "Push the node pointed to by the head element pointer onto the stack of open elements", "in head", "remove" it "from the stack"
-abbrev pub within_head : Option ℕ → (Parser → Parser) → Parser → Parser
-within_head None change p = change p
-within_head (Some n) change p = on_page (removed_from_stack n) (change (on_page (pushed Head (codes "head") n) p))
+abbrev pub within_head_of : Option ℕ → (Parser → Parser) → Parser → Parser
+within_head_of None change p = change p
+within_head_of (Some n) change p = on_page (removed_from_stack n) (change (on_page (pushed Head (codes "head") n) p))
+
+abbrev pub within_head : (Parser → Parser) → Parser → Parser
+within_head change p = within_head_of p.head change p
 
 abbrev pub start_after_head : Kind → StartTagOf → Parser → Parser
-start_after_head kind tag p = within_head p.head (start_in_head kind tag) (unexpected p)
+start_after_head kind tag p = within_head (start_in_head kind tag) (unexpected p)
 
 abbrev pub after_head_start : Again → Kind → StartTagOf → Parser → Parser
 after_head_start again HtmlRoot tag p = start_html tag p

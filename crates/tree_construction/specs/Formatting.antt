@@ -4,9 +4,8 @@ use Rattle.std.specs.Str.{bytes_eq}
 use Rattle.markup5ever.specs.Names.{AttributeOf}
 use Rattle.tree_construction.specs.declared.kinds.Kind.{Kind}
 use Rattle.tree_construction.specs.Tokens.{StartTagOf}
-use Rattle.tree_construction.specs.Names.{kind_of}
 use Rattle.tree_construction.specs.Page.{Open, has_number, has_open}
-use Rattle.tree_construction.specs.Parser.{Parser, Entry, insert, inserted}
+use Rattle.tree_construction.specs.Parser.{Parser, Entry, inserted}
 use Rattle.tree_construction.specs.Parser.Entry.{Marker, Active}
 
 abbrev pub is_entry_of : ℕ → Entry → Bool
@@ -74,9 +73,9 @@ with_entry n kind name attributes list =
     ∷ (if nat_le 3 (count_alike name attributes list) then without_earliest name attributes list else list)
 
 -- "Insert an HTML element for the token, and push onto the list of active formatting elements that element"
-abbrev pub insert_formatting : StartTagOf → Parser → Parser
-insert_formatting tag p =
-    record (insert tag p) { formatting = with_entry p.page.next (kind_of tag.name) tag.name tag.attributes p.formatting }
+abbrev pub insert_formatting : Kind → StartTagOf → Parser → Parser
+insert_formatting kind tag p =
+    record (inserted kind tag.name tag.attributes p) { formatting = with_entry p.page.next kind tag.name tag.attributes p.formatting }
 
 -- ---- markers
 

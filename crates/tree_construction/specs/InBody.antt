@@ -169,6 +169,13 @@ start_button tag p =
 
 -- ---- formatting elements
 
+-- "`b`, `big`, `code`, .."
+abbrev pub start_formatting : StartTagOf → Parser → Parser
+start_formatting tag p = insert_formatting Formatting tag (reconstructed p)
+
+abbrev pub start_font : StartTagOf → Parser → Parser
+start_font tag p = insert_formatting Font tag (reconstructed p)
+
 -- `a`: the adoption agency for the one that the list has after the last marker, which then leaves the list and the stack
 abbrev pub removed_if_open : ℕ → Parser → Parser
 removed_if_open n p = if has_open (has_number n) p.page.opened then on_page (removed_from_stack n) p else p
@@ -180,14 +187,14 @@ without_anchor name (Some e) p =
     removed_if_open e.node (record later { formatting = without_entry e.node later.formatting })
 
 abbrev pub start_anchor : StartTagOf → Parser → Parser
-start_anchor tag p = insert_formatting tag (reconstructed (without_anchor tag.name (last_named tag.name p.formatting) p))
+start_anchor tag p = insert_formatting Anchor tag (reconstructed (without_anchor tag.name (last_named tag.name p.formatting) p))
 
 -- `nobr`: where one is in scope. The algorithm may find none after the last marker; then this is like an end tag.
 abbrev pub without_no_break : List ℕ → Parser → Parser
 without_no_break name p = if in_scope (has_kind is_no_break) p then reconstructed (adoption_agency name (unexpected p)) else p
 
 abbrev pub start_no_break : StartTagOf → Parser → Parser
-start_no_break tag p = insert_formatting tag (without_no_break tag.name (reconstructed p))
+start_no_break tag p = insert_formatting NoBreak tag (without_no_break tag.name (reconstructed p))
 
 -- ---- `applet`, `marquee`, `object`
 
@@ -345,8 +352,8 @@ start_in_body again Plaintext tag p = start_plaintext tag p
 start_in_body again Button tag p = start_button tag p
 start_in_body again Anchor tag p = start_anchor tag p
 -- "`b`, `big`, `code`, .."
-start_in_body again Formatting tag p = insert_formatting tag (reconstructed p)
-start_in_body again Font tag p = insert_formatting tag (reconstructed p)
+start_in_body again Formatting tag p = start_formatting tag p
+start_in_body again Font tag p = start_font tag p
 start_in_body again NoBreak tag p = start_no_break tag p
 start_in_body again Applet tag p = start_marked tag p
 start_in_body again Object tag p = start_marked tag p

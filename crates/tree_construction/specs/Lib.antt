@@ -15,4 +15,3 @@ pub mod ForeignContent
 pub mod Construction
 pub mod Document
 pub mod Text
-pub mod Laws

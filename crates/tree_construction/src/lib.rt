@@ -3,6 +3,5 @@
 #![tactic(auto)]
 
 pub mod kinds;
-pub mod laws;
 pub mod mistakes;
 pub mod modes;

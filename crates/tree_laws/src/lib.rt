@@ -1,11 +1,13 @@
-//! What is proved of tree construction.
+//! What is proved of tree construction: laws of the definitions in tree_construction. There is no code that runs.
+#![tactic(auto)]
+
 ghost use Rattle.std.specs.Prelude.{◌≡◌, ℕ, List, [], ◌++◌, false};
 ghost use Rattle.html5ever_interface.specs.Token.{Told, is_tag};
 ghost use Rattle.html5ever_interface.specs.Token.Told.{Text};
 ghost use Rattle.html5ever_interface.specs.Token.Reply.{KeepOn};
 ghost use Rattle.html5reading.specs.Start.{Rules};
 ghost use Rattle.tree_construction.specs.Construction.{told_all};
-ghost use Rattle.tree_construction.specs.Laws.{Extends};
+ghost use Rattle.tree_laws.specs.Laws.{Extends};
 ghost use Rattle.tree_construction.specs.Parser.{Options, Parser};
 ghost use Rattle.tree_construction.specs.Text.{parser_of_text, parser_so_far, replied_by, taken_by};
 

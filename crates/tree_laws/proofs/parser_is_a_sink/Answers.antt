@@ -1,5 +1,5 @@
-use Rattle.tree_construction.proofs.TextLaws.{empty-text, texts-join}
-use Rattle.tree_construction.proofs.laws.parser_is_a_sink.Goals as goal
+use Rattle.tree_laws.proofs.TextLaws.{empty-text, texts-join}
+use Rattle.tree_laws.proofs.parser_is_a_sink.Goals as goal
 
 pub returns-clause-joins : goal.returns-clause-joins
 returns-clause-joins c = texts-join

@@ -6,7 +6,7 @@ use Rattle.tree_construction.specs.declared.kinds.Kind.{Kind}
 use Rattle.tree_construction.specs.Adjusting.{adjusted_attributes}
 use Rattle.tree_construction.specs.Adoption.{Inner, adopted, adopted_after, cloned, entry_of, inner_loop, inner_start, list_at, nth_open, opened_inside, opened_outside, remake, with_clone}
 use Rattle.tree_construction.specs.Formatting.{Listed}
-use Rattle.tree_construction.specs.Laws.{Extends}
+use Rattle.tree_laws.specs.Laws.{Extends}
 use Rattle.tree_construction.specs.Names.{is_template, namespace_of}
 use Rattle.tree_construction.specs.Page.{Edit, Open, Page, Place, comment_put, edited, left, made, removed_from_stack}
 use Rattle.tree_construction.specs.Page.Edit.{MakeContents, MakeElement, MakeComment, MoveChildren, Pop, Put, Remove}
@@ -29,9 +29,9 @@ module _ (first : List Edit) where
   grows-if-page true p q g h = g
   grows-if-page false p q g h = h
 
-  pub grows-on_page : (change : Page → Page) → ((page : Page) → Extends first page.edits → Extends first (change page).edits) → (p : Parser)
-      → Extends first p.page.edits → Extends first (on_page change p).page.edits
-  grows-on_page change keeps p h = keeps p.page h
+  pub grows-on_page : (change : Page → Page) → ((first : List Edit) (page : Page) → Extends first page.edits → Extends first (change page).edits)
+      → (p : Parser) → Extends first p.page.edits → Extends first (on_page change p).page.edits
+  grows-on_page change keeps p h = keeps first p.page h
 
   pub grows-edited : (edit : Edit) (page : Page) → Extends first page.edits → Extends first (edited edit page).edits
   grows-edited edit page h = grows-by edit page.edits h

@@ -12,14 +12,14 @@ use Rattle.html5reading.specs.Reading.{Event, is_among, messages, reading}
 use Rattle.html5reading.specs.Start.{Rules, Start}
 use Rattle.html5reading.proofs.Splitting.{told-within}
 use Rattle.tree_construction.specs.Construction.{is_foreign, run, start, told}
-use Rattle.tree_construction.specs.Laws.{Extends}
+use Rattle.tree_laws.specs.Laws.{Extends}
 use Rattle.tree_construction.specs.Page.{Edit}
 use Rattle.tree_construction.specs.Parser.{Options, Parser}
 use Rattle.tree_construction.specs.Tokens.{Token}
 use Rattle.tree_construction.specs.Tokens.Token.{Character}
 use Rattle.tree_construction.specs.Text.{messages_so_far, parser_of_text, parser_so_far, replied_by, taken_by, text_start}
-use Rattle.tree_construction.proofs.Growing.{extends-itself}
-use Rattle.tree_construction.proofs.GrowingSteps.{grows-told}
+use Rattle.tree_laws.proofs.Growing.{extends-itself}
+use Rattle.tree_laws.proofs.GrowingSteps.{grows-told}
 
 -- ---- a sink
 

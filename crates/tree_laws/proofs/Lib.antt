@@ -1,0 +1,5 @@
+pub mod Growing
+pub mod GrowingSteps
+pub mod TextLaws
+pub mod Numbers
+pub mod NumbersSteps
