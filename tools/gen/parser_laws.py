@@ -364,7 +364,9 @@ def imports_for(text, law, by_hand):
     for name, (source, written) in sorted(names_by_module().items()):
         if name in words and source != "Rattle.std.specs.Prelude":
             groups.setdefault(source, []).append(written)
-    groups[f"Rattle.tree_laws.proofs.{law.file}"] = sorted(it for it in by_hand if it in words)
+    for name, file in sorted(by_hand.items()):
+        if name in words:
+            groups.setdefault(f"Rattle.tree_laws.proofs.{file}", []).append(name)
     return "".join(f"use {source}.{{{', '.join(names)}}}\n" for source, names in sorted(groups.items()))
 
 
@@ -375,11 +377,20 @@ use Rattle.tree_laws.specs.Laws.{Extends}
 """
 
 
+def names_by_hand(law):
+    """What the files of a law by hand declare that others may name, with the file of each."""
+    found = {}
+    for file in sorted(PROOFS.glob(f"{law.file}*.antt")):
+        text = file.read_text(encoding="utf-8")
+        if file.stem != f"{law.file}Steps":
+            lemmas = re.findall(rf"(?m)^ *pub ({law.prefix}-[\w\-]+) :", text)
+            found.update(dict.fromkeys(lemmas + re.findall(r"(?m)^(?:abbrev )?pub (?:record )?(\w+) ", text), file.stem))
+    return found
+
+
 def written(law):
     """The file of a law's lemmas."""
-    hand = (PROOFS / f"{law.file}.antt").read_text(encoding="utf-8")
-    by_hand = set(re.findall(rf"(?m)^ *pub ({law.prefix}-[\w\-]+) :|^(?:abbrev )?pub (?:record )?(\w+) ", hand))
-    by_hand = {lemma or name for lemma, name in by_hand}
+    by_hand = names_by_hand(law)
     definitions = [it for module in MODULES for it in definitions_in(module)]
     prover = Prover(law)
     lines = []

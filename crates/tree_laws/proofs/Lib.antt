@@ -2,4 +2,9 @@ pub mod Growing
 pub mod GrowingSteps
 pub mod TextLaws
 pub mod Numbers
+pub mod NumbersOfElements
+pub mod NumbersOfLists
+pub mod NumbersOfAdoption
+pub mod NumbersOfPointers
 pub mod NumbersSteps
+pub mod Asking

@@ -30,7 +30,11 @@ use Rattle.tree_construction.specs.declared.mistakes.Mistake.TheVariants.{BadDoc
 use Rattle.tree_construction.specs.declared.modes.Mode.{Mode}
 use Rattle.tree_construction.specs.declared.modes.Mode.TheVariants.{AfterAfterBody, AfterAfterFrameset, AfterBody, AfterFrameset, AfterHead, BeforeHead, BeforeHtml, InBody, InCaption, InCell, InColumnGroup, InFrameset, InHead, InHeadNoscript, InRow, InTable, InTableBody, InTableText, InTemplate, Initial, Text}
 use Rattle.tree_construction.specs.declared.modes.QuirksMode.TheVariants.{Quirks}
-use Rattle.tree_laws.proofs.Numbers.{Numbers, numbers-add_to_body, numbers-add_to_root, numbers-cleared_to_marker, numbers-end_block, numbers-end_form, numbers-form_in_table, numbers-if-parser, numbers-insert_comment, numbers-insert_comment_in_document, numbers-insert_comment_in_root, numbers-insert_foreign, numbers-insert_form, numbers-insert_head, numbers-insert_text, numbers-insert_void, numbers-inserted, numbers-mark_current, numbers-mistaken, numbers-on_page, numbers-outer_loop, numbers-popped, numbers-popped_until, numbers-popped_while, numbers-put_doctype, numbers-reconstructed, numbers-set_quirks_mode, numbers-start_anchor, numbers-start_font, numbers-start_formatting, numbers-start_no_break, numbers-with_marker, numbers-with_root, numbers-within_head, numbers-without_body}
+use Rattle.tree_laws.proofs.Numbers.{Numbers, numbers-if-parser, numbers-insert_comment, numbers-insert_comment_in_document, numbers-insert_comment_in_root, numbers-insert_text, numbers-mistaken, numbers-on_page, numbers-popped, numbers-popped_until, numbers-popped_while}
+use Rattle.tree_laws.proofs.NumbersOfAdoption.{numbers-outer_loop, numbers-start_anchor, numbers-start_no_break}
+use Rattle.tree_laws.proofs.NumbersOfElements.{numbers-add_to_body, numbers-add_to_root, numbers-insert_foreign, numbers-insert_void, numbers-inserted, numbers-mark_current, numbers-with_root, numbers-without_body}
+use Rattle.tree_laws.proofs.NumbersOfLists.{numbers-cleared_to_marker, numbers-reconstructed, numbers-start_font, numbers-start_formatting, numbers-with_marker}
+use Rattle.tree_laws.proofs.NumbersOfPointers.{numbers-end_block, numbers-end_form, numbers-form_in_table, numbers-insert_form, numbers-insert_head, numbers-put_doctype, numbers-set_quirks_mode, numbers-within_head}
 
 pub numbers-in_mode : (k : ℕ) → (mode : Mode) → (p : Parser) → Numbers k p → Numbers k (in_mode mode p)
 numbers-in_mode k mode p h = h

@@ -1,4 +1,4 @@
--- The laws of a sink, and the edits of a text that is cut.
+-- The laws of a sink, and of the edits of a text.
 use Rattle.std.proofs.Common.{◌≡◌, ℕ, Bool, List, [], ◌∷◌, ◌++◌, drop, refl, ap, sym, ◌∙◌, subst}
 use Rattle.std.specs.Prelude.{length, map, take_while}
 use Rattle.std.specs.List.{prefix_len}
@@ -11,15 +11,18 @@ use Rattle.html5reading.specs.NormalisedText.{normalised}
 use Rattle.html5reading.specs.Reading.{Event, is_among, messages, reading}
 use Rattle.html5reading.specs.Start.{Rules, Start}
 use Rattle.html5reading.proofs.Splitting.{told-within}
-use Rattle.tree_construction.specs.Construction.{is_foreign, run, start, told}
-use Rattle.tree_laws.specs.Laws.{Extends}
+use Rattle.tree_construction.specs.Construction.{is_foreign, run, start, told, told_all}
+use Rattle.tree_laws.specs.Laws.{AreOrderly, Extends}
 use Rattle.tree_construction.specs.Page.{Edit}
 use Rattle.tree_construction.specs.Parser.{Options, Parser}
 use Rattle.tree_construction.specs.Tokens.{Token}
 use Rattle.tree_construction.specs.Tokens.Token.{Character}
-use Rattle.tree_construction.specs.Text.{messages_so_far, parser_of_text, parser_so_far, replied_by, taken_by, text_start}
+use Rattle.tree_construction.specs.Text.{messages_of_text, messages_so_far, parser_of_text, parser_so_far, replied_by, taken_by, text_start}
 use Rattle.tree_laws.proofs.Growing.{extends-itself}
 use Rattle.tree_laws.proofs.GrowingSteps.{grows-told}
+use Rattle.tree_laws.proofs.Numbers.{Numbers}
+use Rattle.tree_laws.proofs.NumbersOfPointers.{numbers-start}
+use Rattle.tree_laws.proofs.NumbersSteps.{numbers-told, numbers-told_all}
 
 -- ---- a sink
 
@@ -42,6 +45,21 @@ grows-stepped : (first : List Edit) (ms : List Message) (p : Parser) → Extends
 unfolding stepped
 grows-stepped first [] p h = h
 grows-stepped first (m ∷ ms) p h = grows-stepped first ms (taken_by p m.token m.line) (grows-told first m.token p h)
+
+-- ---- numbers
+
+numbers-stepped : (ms : List Message) (p : Parser) → Numbers 3 p → Numbers 3 (stepped taken_by p ms)
+unfolding stepped
+numbers-stepped [] p h = h
+numbers-stepped (m ∷ ms) p h = numbers-stepped ms (taken_by p m.token m.line) (numbers-told 3 m.token p h)
+
+pub messages-are-orderly : (options : Options) (messages : List Told) → AreOrderly (told_all messages (start options)).page.edits
+messages-are-orderly options messages = (numbers-told_all 3 messages (start options) (numbers-start options)).of_page.orderly
+
+pub text-is-orderly : (options : Options) (rules : Rules) (text : List ℕ) → AreOrderly (parser_of_text options rules text).page.edits
+text-is-orderly options rules text = (numbers-stepped (messages_of_text options rules text) (start options) (numbers-start options)).of_page.orderly
+
+-- ---- a text that goes on
 
 -- what the characters of a text decide are the first messages of that text and more
 pub grows-so-far : (options : Options) (rules : Rules) (text more : List ℕ)

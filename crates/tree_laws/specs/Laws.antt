@@ -1,6 +1,12 @@
 -- What is proved of tree construction, in words that contracts cite.
-use Rattle.std.specs.Prelude.{◌≡◌, ℕ, suc, ◌<◌, List, [], ◌∷◌, ◌++◌}
+use Rattle.std.specs.Prelude.{◌≡◌, ℕ, suc, ◌<◌, Bool, List, [], ◌∷◌, ◌++◌}
+use Rattle.html5ever_interface.specs.Token.{Reply, TagOf, Told}
+use Rattle.html5ever_interface.specs.Token.Told.{Tag}
+use Rattle.html5reading.specs.Reading.{open_after_reply}
+use Rattle.tree_construction.specs.Construction.{is_foreign}
 use Rattle.tree_construction.specs.Page.{Edit, Place}
+use Rattle.tree_construction.specs.Parser.{Parser}
+use Rattle.tree_construction.specs.Text.{replied_by, taken_by}
 use Rattle.tree_construction.specs.Page.Place.{LastChild, BeforeTable, BesideNode}
 use Rattle.tree_construction.specs.Page.Edit.{MakeElement, MakeContents, MakeComment, PutDoctype, Put, PutText, Remove, MoveChildren, AddAttributes, SetQuirksMode, MarkStarted, AssociateForm, Pop, ParseError}
 
@@ -49,3 +55,13 @@ IsOrderlyEdit (ParseError mistake) before = Unit {0}
 unfoldable pub AreOrderly : List Edit → Type 0
 AreOrderly [] = Unit {0}
 AreOrderly (edit ∷ before) = IsOrderlyEdit edit before × AreOrderly before
+
+-- ---- who asks as the parser does
+
+-- a sink whose states have parsers: a message steps the parser, the reply makes the tokenizer go on as the parser's does, and the answer about
+-- foreign content is the parser's
+pub record AsksAsParser {S H : Type 0} (step : S → Told → ℕ → S) (reply : S → Told → ℕ → Reply H) (foreign : S → Bool) (parser : S → Parser) : Type 0 where
+  pub steps : (s : S) (message : Told) (line : ℕ) → parser (step s message line) ≡ taken_by (parser s) message line
+  pub replies : (s : S) (tag : TagOf) (line : ℕ) (last : List ℕ)
+      → open_after_reply last (reply s (Tag tag) line) ≡ open_after_reply last (replied_by (parser s) (Tag tag) line)
+  pub answers : (s : S) → foreign s ≡ is_foreign (parser s)

@@ -5,11 +5,16 @@ ghost use Rattle.std.specs.Prelude.{◌≡◌, ℕ, List, [], ◌++◌, false};
 ghost use Rattle.html5ever_interface.specs.Token.{Told, is_tag};
 ghost use Rattle.html5ever_interface.specs.Token.Told.{Text};
 ghost use Rattle.html5ever_interface.specs.Token.Reply.{KeepOn};
-ghost use Rattle.html5reading.specs.Start.{Rules};
-ghost use Rattle.tree_construction.specs.Construction.{told_all};
-ghost use Rattle.tree_laws.specs.Laws.{Extends};
+ghost use Rattle.html5reading.specs.Reading.{all_messages, messages, reading};
+ghost use Rattle.html5reading.specs.Start.{Rules, Start};
+ghost use Rattle.tree_construction.specs.Construction.{is_foreign, start, told_all};
+ghost use Rattle.tree_laws.specs.Laws.{AreOrderly, AsksAsParser, Extends};
 ghost use Rattle.tree_construction.specs.Parser.{Options, Parser};
 ghost use Rattle.tree_construction.specs.Text.{parser_of_text, parser_so_far, replied_by, taken_by};
+
+use html5ever_interface::interface::sink::TokenSink;
+use html5ever_interface::interface::token::Token;
+use std::alloc::Allocator;
 
 /// Edits are only added: the edits after some messages of the tokenizer are the first of those after more
 /// messages (`messages`). So are the edits that the characters of a text decide: they are the first
@@ -18,6 +23,24 @@ pub fn edits_are_only_added()
     ensures messages { (p : Parser) (more : List Told) → Extends p.page.edits (told_all more p).page.edits }
     ensures text { (options : Options) (rules : Rules) (text more : List ℕ)
         → Extends (parser_so_far options rules text).page.edits (parser_of_text options rules (text ++ more)).page.edits }
+{}
+
+/// Nodes are numbered as they are made, from 3 on, and each edit names nodes that were made before it, or that
+/// are there from the start. So it is after any messages (`messages`), and of any text (`text`). A builder can
+/// take the number of a node as its place in a list.
+pub fn nodes_are_numbered()
+    ensures messages { (options : Options) (messages : List Told) → AreOrderly (told_all messages (start options)).page.edits }
+    ensures text { (options : Options) (rules : Rules) (text : List ℕ)
+        → AreOrderly (parser_of_text options rules text).page.edits }
+{}
+
+/// Whoever asks as the parser does is sent the same messages. That is a sink each of whose states has a parser: a
+/// message steps that parser, a tag is replied to as the parser does, as far as how to read on, and the answer
+/// about foreign content is the parser's (`AsksAsParser`). It need not build any tree.
+pub fn one_reading<S: TokenSink<Token<A>>, A: Allocator>()
+    ensures { (parser : S.State → Parser) → AsksAsParser S.means.step S.means.reply S.means.foreign parser
+        → (rules : Rules) (K : Start) (s : S.State) (text : List ℕ)
+        → all_messages S.means rules K s text ≡ messages (reading taken_by replied_by is_foreign rules K (parser s) text) }
 {}
 
 /// The parser is a lawful sink of the tokenizer's messages. Two adjacent texts are as one (`joins`), an
