@@ -23,14 +23,19 @@ MODULES = ["Page", "Parser", "Formatting", "Adoption", "Resetting", "BeforeBody"
            "ForeignContent", "Construction"]
 WIDTH = 150
 
-# A law: the name of its file, what its lemmas begin with, its property of a page and of a parser, the fields of a parser that it
-# speaks of, and the name and the type of what all its lemmas take first.
-Law = namedtuple("Law", "file prefix page parser fields given type says")
+# A law: the name of its file, what its lemmas begin with, its property of a page, if it has one, and of a parser, the fields of
+# a parser that it speaks of, and the name and the type of what all its lemmas take first, if anything. Of parameters of some
+# types it has premises; then some kinds of elements don't meet that of a kind.
+Law = namedtuple("Law", "file prefix page parser fields given type premises refused says")
 LAWS = [
-    Law("Growing", "grows", "Extends first {}.edits", "Extends first {}.page.edits", {"page"}, "first", "List Edit",
+    Law("Growing", "grows", "Extends first {}.edits", "Extends first {}.page.edits", {"page"}, "first", "List Edit", {}, set(),
         "Each step of tree construction only adds edits."),
-    Law("Numbers", "numbers", "PageNumbers k {}", "Numbers k {}", {"page", "formatting", "head", "form"}, "k", "ℕ",
+    Law("Numbers", "numbers", "PageNumbers k {}", "Numbers k {}", {"page", "formatting", "head", "form"}, "k", "ℕ", {}, set(),
         "Each step of tree construction makes numbers in their order, and names those that were made."),
+    Law("Calm", "calm", None, "IsCalm {}", {"request", "options"}, "", "",
+        {"Kind": "asks_text {} ≡ false", "StartTagOf": "asks_text (kind_of {}.name) ≡ false", "Token": "asks_text_by {} ≡ false"},
+        {"Title", "Textarea", "Style", "Noframes", "Xmp", "Iframe", "Noembed", "Script", "Plaintext"},
+        "After a tag of a name that asks for no text, tree construction lets the tokenizer go on."),
 ]
 
 Definition = namedtuple("Definition", "module name opens parameters result clauses")
@@ -47,7 +52,7 @@ FUNCTIONS = {"Again": ("Parser", "Token"), "InHtml": ("Token", "Parser"), "(Pars
 
 
 # The definition that all others serve.
-LAST = "told_all"
+LAST = "process"
 
 
 class Unprovable(Exception):
@@ -203,7 +208,7 @@ class Prover:
 
     def lemma_of(self, name):
         """The lemma of a definition, with what each lemma takes first."""
-        return f"{self.law.prefix}-{name} {self.law.given}"
+        return f"{self.law.prefix}-{name} {self.law.given}".rstrip()
 
     def fields(self, kind):
         """The fields that the property speaks of."""
@@ -243,7 +248,8 @@ class Prover:
         if isinstance(known.get(name), tuple):
             at = next(at for at, it in enumerate(known[name]) if it in SUBJECTS)
             inner = self.proof(arguments[at], known, known[name][at])
-            return f"h-{name} {self.law.given} {' '.join(argument(shown(it)) for it in arguments)} {argument(inner)}"
+            words = [f"h-{name} {self.law.given}".rstrip(), *self.words_for(known[name], arguments, known), argument(inner)]
+            return " ".join(words)
         definition = self.definitions.get(name)
         if definition is None or len(arguments) != len(definition.parameters):
             raise Unprovable(f"{name} {len(arguments)}")
@@ -253,50 +259,96 @@ class Prover:
 
     def lemma_with(self, definition, arguments, known):
         """The lemma of a definition, with arguments, and proofs for those that are functions."""
-        words = [self.lemma_of(definition.name)]
-        for kind, it in zip(definition.parameters, arguments):
+        return " ".join([self.lemma_of(definition.name), *self.words_for(definition.parameters, arguments, known)])
+
+    def words_for(self, kinds, arguments, known):
+        """Arguments, with what each wants beside it: of a function that it keeps the property, of others the premise."""
+        words = []
+        for kind, it in zip(kinds, arguments):
             words.append(argument(shown(it)))
-            if kind in FUNCTIONS:
+            if self.is_kept_by(kind):
                 words.append(argument(self.proof_of_function(it, FUNCTIONS[kind], known)))
-        return " ".join(words)
+            elif self.has_premise(kind, kinds):
+                words.append(self.proof_of_premise(it, known))
+        return words
+
+    def has_premise(self, kind, kinds):
+        """Whether the law has a premise of a parameter: of a kind only where it is that of a start tag."""
+        return kind in self.law.premises and (kind != "Kind" or "StartTagOf" in kinds)
+
+    def is_kept_by(self, kind):
+        """Whether a parameter of a type is a function that must keep the property."""
+        return kind in FUNCTIONS and (self.law.page or "Page" not in FUNCTIONS[kind])
+
+    def proof_of_premise(self, tokens, known):
+        """A proof that an argument meets the premise of its type."""
+        names = [it.split(".")[0] for it in tokens]
+        found = [known[f"?{it}"] for it in names if f"?{it}" in known]
+        if "record" in tokens or not found:
+            if self.law.refused & set(tokens):
+                raise Unprovable(shown(tokens))
+            self.opens_names = True
+            return "refl"
+        return found[0]
 
     def proof_of_function(self, tokens, kinds, known):
         """A proof that a function keeps the property."""
         term = term_of(tokens)
         at = next(at for at, it in enumerate(kinds) if it in SUBJECTS)
         if isinstance(term, Lambda):
-            functions = {name: it for name, it in known.items() if isinstance(it, tuple)}
-            own = term.names[at]
-            return f"λ {self.law.given} {' '.join(term.names)} h-{own}. {self.proof(term.body, {**functions, own: f'h-{own}'}, kinds[at])}"
+            return self.proof_of_lambda(term, kinds, at, known)
         name, arguments = term.atoms[0][0], term.atoms[1:]
         if isinstance(known.get(name), tuple) and not arguments:
             return f"h-{name}"
         if name in self.definitions:
-            return f"λ {self.law.given}. {self.lemma_with(self.definitions[name], arguments, known)}"
+            lemma = self.lemma_with(self.definitions[name], arguments, known)
+            return f"λ {self.law.given}. {lemma}" if self.law.given else lemma
         raise Unprovable(shown(tokens))
+
+    def proof_of_lambda(self, term, kinds, at, known):
+        """The same of a function that is written out."""
+        own = term.names[at]
+        inner = {name: it for name, it in known.items() if isinstance(it, tuple) or name.startswith("?")}
+        binders = [self.law.given] if self.law.given else []
+        for kind, name in zip(kinds, term.names):
+            binders.append(name)
+            if kind in self.law.premises:
+                binders.append(f"q-{name}")
+                inner[f"?{name}"] = f"q-{name}"
+        return f"λ {' '.join(binders)} h-{own}. {self.proof(term.body, {**inner, own: f'h-{own}'}, kinds[at])}"
 
     def statement(self, definition):
         """The lemma's parameters, in the definition's own names, and what it says."""
-        names, parts = [], [f"({self.law.given} : {self.law.type})"]
+        names, parts = [], self.binders_of_given()
         for at, kind in enumerate(definition.parameters):
             names.append(name_of(definition, at, names))
             parts.append(f"({names[-1]} : {kind})")
-            if kind in FUNCTIONS:
+            if self.is_kept_by(kind):
                 parts.append(self.hypothesis(names[-1], FUNCTIONS[kind]))
+            elif self.has_premise(kind, definition.parameters):
+                parts.append(self.law.premises[kind].format(names[-1]))
         at = subject_of(definition)
         before, after = names[at], f"({definition.name} {' '.join(names)})"
         return " → ".join(parts + [self.property(definition.result, before), self.property(definition.result, after)])
 
     def hypothesis(self, name, kinds):
         names = ["q" if it in SUBJECTS else "t" for it in kinds]
-        binders = " ".join(f"({own} : {kind})" for own, kind in [(self.law.given, self.law.type), *zip(names, kinds)])
+        parts = self.binders_of_given()
+        for own, kind in zip(names, kinds):
+            parts.append(f"({own} : {kind})")
+            parts += [self.law.premises[kind].format(own)] if kind in self.law.premises else []
         kind = next(it for it in kinds if it in SUBJECTS)
-        return f"({binders} → {self.property(kind, 'q')} → {self.property(kind, f'({name} ' + ' '.join(names) + ')')})"
+        return f"({' → '.join(parts)} → {self.property(kind, 'q')} → {self.property(kind, f'({name} ' + ' '.join(names) + ')')})"
+
+    def binders_of_given(self):
+        return [f"({self.law.given} : {self.law.type})"] if self.law.given else []
 
     def lemmas_for(self, definition, by_hand):
         """The lines of a definition's lemma: none if it is proved by hand, or if no composition of lemmas proves it."""
         self.definitions[definition.name] = definition
         if f"{self.law.prefix}-{definition.name}" in by_hand:
+            return []
+        if not self.law.page and definition.result == "Page":
             return []
         try:
             return self.lemma(definition)
@@ -307,19 +359,28 @@ class Prover:
 
     def lemma(self, definition):
         name = f"{self.law.prefix}-{definition.name}"
-        lines = [f"pub {name} : {self.statement(definition)}"]
-        if definition.opens:
-            lines.append(f"unfolding {definition.name}")
-        for patterns, term in definition.clauses:
-            known, left = {}, [name, self.law.given]
-            for kind, pattern in zip(definition.parameters, patterns):
-                left.append(shown(pattern))
-                if kind in FUNCTIONS:
-                    known[pattern[0]] = FUNCTIONS[kind]
-                    left.append(f"h-{pattern[0]}")
-            known[patterns[subject_of(definition)][0]] = "h"
-            lines.append(f"{' '.join(left)} h = {self.proof(term, known, definition.result)}")
-        return lines
+        self.opens_names = False
+        clauses = [f"{name} {self.clause(definition, *it)}" for it in definition.clauses]
+        opened = [definition.name] * definition.opens + ["kind_of", "kind_in", "all_names", "is_among"] * self.opens_names
+        return [f"pub {name} : {self.statement(definition)}", *([f"unfolding {' '.join(opened)}"] if opened else []), *clauses]
+
+    def clause(self, definition, patterns, term):
+        """The proof of a clause, after the lemma's name."""
+        known, left = {}, [self.law.given] if self.law.given else []
+        impossible = ""
+        for kind, pattern in zip(definition.parameters, patterns):
+            left.append(shown(pattern))
+            if self.is_kept_by(kind):
+                known[pattern[0]] = FUNCTIONS[kind]
+                left.append(f"h-{pattern[0]}")
+            elif self.has_premise(kind, definition.parameters):
+                own = pattern[-2] if len(pattern) > 1 else pattern[0]
+                left.append(f"q-{own.lower()}")
+                known[f"?{own}"] = f"q-{own.lower()}"
+                impossible = left[-1] if own in self.law.refused else impossible
+        known[patterns[subject_of(definition)][0]] = "h"
+        body = f"absurd (false≢true (sym {impossible}))" if impossible else self.proof(term, known, definition.result)
+        return f"{' '.join(left)} h = {body}"
 
 
 def name_of(definition, at, taken):
@@ -347,7 +408,7 @@ def wrapped(line):
 def names_by_module():
     """Each name that a definition's module gives or takes from elsewhere, with where it is from."""
     found = {}
-    for module in MODULES:
+    for module in [*MODULES, "Names"]:
         text = (CRATE / "specs" / f"{module}.antt").read_text(encoding="utf-8")
         for source, names in re.findall(r"(?m)^use ([\w.]+)\.\{([^}]*)\}", text):
             for it in names.split(", "):
@@ -371,8 +432,9 @@ def imports_for(text, law, by_hand):
 
 
 COMMON = """\
-use Rattle.std.proofs.Common.{◌≡◌, ℕ, Bool, true, false, List, [], ◌∷◌, ◌++◌}
-use Rattle.std.specs.Prelude.{suc, zero, ◌+◌, ◌==◌, ◌&&◌, ◌||◌, not, length, map, Option, Some, None, codes, if◌then◌else◌}
+use Rattle.std.proofs.Common.{◌≡◌, ℕ, Bool, true, false, List, [], ◌∷◌, ◌++◌, refl, sym}
+use Rattle.std.proofs.lemmas.Bool.{false≢true}
+use Rattle.std.specs.Prelude.{suc, zero, ◌+◌, ◌==◌, ◌&&◌, ◌||◌, not, length, map, take, drop, Option, Some, None, codes, if◌then◌else◌}
 use Rattle.tree_laws.specs.Laws.{Extends}
 """
 

@@ -80,10 +80,10 @@ frameset_start Noframes tag p = start_in_head Noframes tag p
 frameset_start other tag p = unexpected p
 
 -- "If the current node is the root html element, then this is a parse error; ignore the token (fragment case)"
-abbrev pub is_root : List Open → Bool
-is_root [] = true
-is_root (e ∷ []) = true
-is_root (e ∷ es) = false
+abbrev pub has_only_root : List Open → Bool
+has_only_root [] = true
+has_only_root (e ∷ []) = true
+has_only_root (e ∷ es) = false
 
 abbrev pub frameset_closed : Parser → Parser
 frameset_closed p =
@@ -91,7 +91,7 @@ frameset_closed p =
     if is_fragment p then later else if is_current is_frameset later then later else in_mode AfterFrameset later
 
 abbrev pub frameset_end : Kind → Parser → Parser
-frameset_end Frameset p = if is_root p.page.opened then unexpected p else frameset_closed p
+frameset_end Frameset p = if has_only_root p.page.opened then unexpected p else frameset_closed p
 frameset_end other p = unexpected p
 
 abbrev pub in_frameset : Token → Parser → Parser
@@ -100,7 +100,7 @@ in_frameset (Comment text) p = insert_comment text p
 in_frameset (Doctype doctype) p = unexpected p
 in_frameset (StartTag tag) p = frameset_start (kind_of tag.name) tag p
 in_frameset (EndTag name) p = frameset_end (kind_of name) p
-in_frameset EndOfFile p = stop_parsing (if is_root p.page.opened then p else mistaken UnclosedAtEnd p)
+in_frameset EndOfFile p = stop_parsing (if has_only_root p.page.opened then p else mistaken UnclosedAtEnd p)
 
 -- ---- "The after frameset insertion mode"
 

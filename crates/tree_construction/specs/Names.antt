@@ -162,10 +162,6 @@ abbrev pub is_root : Kind → Bool
 is_root HtmlRoot = true
 is_root other = false
 
-abbrev pub is_head : Kind → Bool
-is_head Head = true
-is_head other = false
-
 abbrev pub is_body : Kind → Bool
 is_body Body = true
 is_body other = false
@@ -205,10 +201,6 @@ is_form other = false
 abbrev pub is_button : Kind → Bool
 is_button Button = true
 is_button other = false
-
-abbrev pub is_anchor : Kind → Bool
-is_anchor Anchor = true
-is_anchor other = false
 
 abbrev pub is_no_break : Kind → Bool
 is_no_break NoBreak = true
@@ -262,16 +254,9 @@ abbrev pub is_svg_script : Kind → Bool
 is_svg_script SvgScript = true
 is_svg_script other = false
 
-abbrev pub is_image : Kind → Bool
-is_image Image = true
-is_image other = false
-
 abbrev pub is_math_text_point : Kind → Bool
 is_math_text_point MathTextPoint = true
 is_math_text_point other = false
-
-abbrev pub no_kind : Kind → Bool
-no_kind kind = false
 
 -- ---- "The stack of open elements"
 

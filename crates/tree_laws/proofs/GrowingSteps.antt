@@ -1,6 +1,7 @@
 -- Each step of tree construction only adds edits. By `python3 tools/gen/parser_laws.py`, and not by hand; the steps that it rests on are in Growing.
-use Rattle.std.proofs.Common.{◌≡◌, ℕ, Bool, true, false, List, [], ◌∷◌, ◌++◌}
-use Rattle.std.specs.Prelude.{suc, zero, ◌+◌, ◌==◌, ◌&&◌, ◌||◌, not, length, map, Option, Some, None, codes, if◌then◌else◌}
+use Rattle.std.proofs.Common.{◌≡◌, ℕ, Bool, true, false, List, [], ◌∷◌, ◌++◌, refl, sym}
+use Rattle.std.proofs.lemmas.Bool.{false≢true}
+use Rattle.std.specs.Prelude.{suc, zero, ◌+◌, ◌==◌, ◌&&◌, ◌||◌, not, length, map, take, drop, Option, Some, None, codes, if◌then◌else◌}
 use Rattle.tree_laws.specs.Laws.{Extends}
 use Rattle.html5ever_interface.specs.Token.{DoctypeOf, Told}
 use Rattle.html5ever_interface.specs.declared.states.RawKind.{RawKind}
@@ -8,7 +9,7 @@ use Rattle.html5ever_interface.specs.declared.states.RawKind.TheVariants.{Rawtex
 use Rattle.markup5ever.specs.Names.{AttributeOf}
 use Rattle.tree_construction.specs.Adjusting.{adjusted_tag_name}
 use Rattle.tree_construction.specs.Adoption.{adopted, adopted_by, adoption_agency, any_other_end_tag, end_of, ended_by, furthest_block, is_unlisted, opened_inside, outer_loop, turn, unformatted}
-use Rattle.tree_construction.specs.AfterBody.{after_after_body, after_after_frameset, after_body, after_body_end, after_body_start, after_frameset, after_frameset_end, after_frameset_start, frameset_closed, frameset_end, frameset_start, in_body_again, in_frameset, in_template, in_template_mode, is_root, template_end, template_start}
+use Rattle.tree_construction.specs.AfterBody.{after_after_body, after_after_frameset, after_body, after_body_end, after_body_start, after_frameset, after_frameset_end, after_frameset_start, frameset_closed, frameset_end, frameset_start, has_only_root, in_body_again, in_frameset, in_template, in_template_mode, template_end, template_start}
 use Rattle.tree_construction.specs.BeforeBody.{add_to_root, after_head, after_head_end, after_head_other, after_head_start, asks_content, asks_encoding, back, before_head, before_head_other, before_head_start, before_html, before_html_other, before_html_start, current_number, end_template, ends_early, in_head, in_head_end, in_head_noscript, in_head_noscript_start, in_head_other, in_head_start, initial, initial_doctype, initial_other, insert_body, insert_head, is_content_type, mark_current, noscript_end, noscript_other, noscript_start, or_empty, put_doctype, set_quirks_mode, start_after_head, start_html, start_in_head, start_meta, start_script, start_template, template_closed, text_end, text_end_of_file, text_mode, with_root, within_head, within_head_of, without_template_mode}
 use Rattle.tree_construction.specs.Construction.{dispatched, enough, expects_acknowledged, fragment_modes, in_current_mode, in_html_content, is_ignored_newline, is_self_closing, process, run, start_by, start_fragment, step, taken, takes_as_html, told, told_all}
 use Rattle.tree_construction.specs.Doctypes.{is_allowed, quirks_mode_of}
@@ -247,14 +248,14 @@ grows-any_other_end_tag first name p h = grows-end_of first name (ended_by name 
 pub grows-unformatted : (first : List Edit) → (f : Listed) → (p : Parser) → Extends first p.page.edits → Extends first (unformatted f p).page.edits
 grows-unformatted first f p h = grows-pop_until first (has_number f.node) p h
 
-pub grows-adopted_by : (first : List Edit) → (again : (Parser → Parser)) → ((first : List Edit) (q : Parser) → Extends first q.page.edits
+pub grows-adopted_by : (first : List Edit) → (again : (Parser → Parser)) → ((first : List Edit) → (q : Parser) → Extends first q.page.edits
     → Extends first (again q).page.edits) → (f : Listed) → (d : Option ℕ) → (p : Parser) → Extends first p.page.edits → Extends first
     (adopted_by again f d p).page.edits
 grows-adopted_by first again h-again f None p h = grows-unformatted first f p h
 grows-adopted_by first again h-again f (Some d) p h = h-again first (adopted p f d) (grows-adopted first p f d h)
 
-pub grows-turn : (first : List Edit) → (again : (Parser → Parser)) → ((first : List Edit) (q : Parser) → Extends first q.page.edits → Extends first
-    (again q).page.edits) → (name : List ℕ) → (f : Option Listed) → (p : Parser) → Extends first p.page.edits → Extends first
+pub grows-turn : (first : List Edit) → (again : (Parser → Parser)) → ((first : List Edit) → (q : Parser) → Extends first q.page.edits
+    → Extends first (again q).page.edits) → (name : List ℕ) → (f : Option Listed) → (p : Parser) → Extends first p.page.edits → Extends first
     (turn again name f p).page.edits
 grows-turn first again h-again name None p h = grows-any_other_end_tag first name p h
 grows-turn first again h-again name (Some f) p h = grows-if-parser first (not (has_open (has_number f.node) p.page.opened)) (record
@@ -300,7 +301,7 @@ grows-initial_doctype first doctype p h = let put : Parser = put_doctype doctype
     (quirks_mode_of doctype) put)) (grows-if-parser first (p.options.iframe_srcdoc) put (set_quirks_mode (quirks_mode_of doctype) put) h-put
     (grows-set_quirks_mode first (quirks_mode_of doctype) put h-put))
 
-pub grows-initial_other : (first : List Edit) → (again : Again) → ((first : List Edit) (q : Parser) (t : Token) → Extends first q.page.edits
+pub grows-initial_other : (first : List Edit) → (again : Again) → ((first : List Edit) → (q : Parser) → (t : Token) → Extends first q.page.edits
     → Extends first (again q t).page.edits) → (token : Token) → (p : Parser) → Extends first p.page.edits → Extends first
     (initial_other again token p).page.edits
 grows-initial_other first again h-again token p h = h-again first ((in_mode BeforeHtml
@@ -309,7 +310,7 @@ grows-initial_other first again h-again token p h = h-again first ((in_mode Befo
     (set_quirks_mode Quirks (mistaken MissingDoctype p)) h (grows-set_quirks_mode first Quirks (mistaken MissingDoctype p)
     (grows-mistaken first MissingDoctype p h))))
 
-pub grows-initial : (first : List Edit) → (again : Again) → ((first : List Edit) (q : Parser) (t : Token) → Extends first q.page.edits
+pub grows-initial : (first : List Edit) → (again : Again) → ((first : List Edit) → (q : Parser) → (t : Token) → Extends first q.page.edits
     → Extends first (again q t).page.edits) → (c : Token) → (p : Parser) → Extends first p.page.edits → Extends first (initial again c p).page.edits
 grows-initial first again h-again (Character c) p h = grows-if-parser first (is_space c) p (initial_other again (Character c) p) h
     (grows-initial_other first again h-again (Character c) p h)
@@ -324,20 +325,20 @@ grows-with_root first attributes p h = let n : ℕ = p.page.next in grows-on_pag
     (Put (LastChild 0) n) (made HtmlRoot (codes "html") attributes page))) (grows-edited first ((Put (LastChild 0) n)) ((made HtmlRoot
     (codes "html") attributes page)) (grows-made first HtmlRoot (codes "html") attributes page h-page))) p h
 
-pub grows-before_html_other : (first : List Edit) → (again : Again) → ((first : List Edit) (q : Parser) (t : Token) → Extends first q.page.edits
+pub grows-before_html_other : (first : List Edit) → (again : Again) → ((first : List Edit) → (q : Parser) → (t : Token) → Extends first q.page.edits
     → Extends first (again q t).page.edits) → (token : Token) → (p : Parser) → Extends first p.page.edits → Extends first
     (before_html_other again token p).page.edits
 grows-before_html_other first again h-again token p h = h-again first ((in_mode BeforeHead (with_root [] p))) token (grows-in_mode first BeforeHead
     (with_root [] p) (grows-with_root first [] p h))
 
-pub grows-before_html_start : (first : List Edit) → (again : Again) → ((first : List Edit) (q : Parser) (t : Token) → Extends first q.page.edits
+pub grows-before_html_start : (first : List Edit) → (again : Again) → ((first : List Edit) → (q : Parser) → (t : Token) → Extends first q.page.edits
     → Extends first (again q t).page.edits) → (other : Kind) → (tag : StartTagOf) → (p : Parser) → Extends first p.page.edits → Extends first
     (before_html_start again other tag p).page.edits
 grows-before_html_start first again h-again HtmlRoot tag p h = grows-in_mode first BeforeHead (with_root tag.attributes p)
     (grows-with_root first tag.attributes p h)
 grows-before_html_start first again h-again other tag p h = grows-before_html_other first again h-again (StartTag tag) p h
 
-pub grows-before_html : (first : List Edit) → (again : Again) → ((first : List Edit) (q : Parser) (t : Token) → Extends first q.page.edits
+pub grows-before_html : (first : List Edit) → (again : Again) → ((first : List Edit) → (q : Parser) → (t : Token) → Extends first q.page.edits
     → Extends first (again q t).page.edits) → (doctype : Token) → (p : Parser) → Extends first p.page.edits → Extends first
     (before_html again doctype p).page.edits
 grows-before_html first again h-again (Doctype doctype) p h = grows-unexpected first p h
@@ -363,20 +364,20 @@ pub grows-insert_head : (first : List Edit) → (tag : StartTagOf) → (p : Pars
     (insert_head tag p).page.edits
 grows-insert_head first tag p h = grows-in_mode first InHead ((record (insert tag p) { head = Some p.page.next })) (grows-insert first tag p h)
 
-pub grows-before_head_other : (first : List Edit) → (again : Again) → ((first : List Edit) (q : Parser) (t : Token) → Extends first q.page.edits
+pub grows-before_head_other : (first : List Edit) → (again : Again) → ((first : List Edit) → (q : Parser) → (t : Token) → Extends first q.page.edits
     → Extends first (again q t).page.edits) → (token : Token) → (p : Parser) → Extends first p.page.edits → Extends first
     (before_head_other again token p).page.edits
 grows-before_head_other first again h-again token p h = h-again first ((insert_head (bare_tag (codes "head")) p)) token (grows-insert_head first
     ((bare_tag (codes "head"))) p h)
 
-pub grows-before_head_start : (first : List Edit) → (again : Again) → ((first : List Edit) (q : Parser) (t : Token) → Extends first q.page.edits
+pub grows-before_head_start : (first : List Edit) → (again : Again) → ((first : List Edit) → (q : Parser) → (t : Token) → Extends first q.page.edits
     → Extends first (again q t).page.edits) → (other : Kind) → (tag : StartTagOf) → (p : Parser) → Extends first p.page.edits → Extends first
     (before_head_start again other tag p).page.edits
 grows-before_head_start first again h-again HtmlRoot tag p h = grows-start_html first tag p h
 grows-before_head_start first again h-again Head tag p h = grows-insert_head first tag p h
 grows-before_head_start first again h-again other tag p h = grows-before_head_other first again h-again (StartTag tag) p h
 
-pub grows-before_head : (first : List Edit) → (again : Again) → ((first : List Edit) (q : Parser) (t : Token) → Extends first q.page.edits
+pub grows-before_head : (first : List Edit) → (again : Again) → ((first : List Edit) → (q : Parser) → (t : Token) → Extends first q.page.edits
     → Extends first (again q t).page.edits) → (c : Token) → (p : Parser) → Extends first p.page.edits → Extends first
     (before_head again c p).page.edits
 grows-before_head first again h-again (Character c) p h = grows-if-parser first (is_space c) p (before_head_other again (Character c) p) h
@@ -438,7 +439,7 @@ grows-start_in_head first Script tag p h = grows-start_script first tag p h
 grows-start_in_head first Template tag p h = grows-start_template first tag p h
 grows-start_in_head first other tag p h = grows-insert_void first tag p h
 
-pub grows-in_head_other : (first : List Edit) → (again : Again) → ((first : List Edit) (q : Parser) (t : Token) → Extends first q.page.edits
+pub grows-in_head_other : (first : List Edit) → (again : Again) → ((first : List Edit) → (q : Parser) → (t : Token) → Extends first q.page.edits
     → Extends first (again q t).page.edits) → (token : Token) → (p : Parser) → Extends first p.page.edits → Extends first
     (in_head_other again token p).page.edits
 grows-in_head_other first again h-again token p h = h-again first ((in_mode AfterHead (pop p))) token (grows-in_mode first AfterHead (pop p)
@@ -449,7 +450,7 @@ pub grows-in_head_noscript_start : (first : List Edit) → (tag : StartTagOf) �
 grows-in_head_noscript_start first tag p h = grows-if-parser first (p.options.scripting) (insert_with_text Rawtext tag p) (in_mode InHeadNoscript
     (insert tag p)) (grows-insert_with_text first Rawtext tag p h) (grows-in_mode first InHeadNoscript (insert tag p) (grows-insert first tag p h))
 
-pub grows-in_head_start : (first : List Edit) → (again : Again) → ((first : List Edit) (q : Parser) (t : Token) → Extends first q.page.edits
+pub grows-in_head_start : (first : List Edit) → (again : Again) → ((first : List Edit) → (q : Parser) → (t : Token) → Extends first q.page.edits
     → Extends first (again q t).page.edits) → (other : Kind) → (tag : StartTagOf) → (p : Parser) → Extends first p.page.edits → Extends first
     (in_head_start again other tag p).page.edits
 grows-in_head_start first again h-again HtmlRoot tag p h = grows-start_html first tag p h
@@ -465,7 +466,7 @@ grows-in_head_start first again h-again Script tag p h = grows-start_in_head fir
 grows-in_head_start first again h-again Template tag p h = grows-start_in_head first Template tag p h
 grows-in_head_start first again h-again other tag p h = grows-in_head_other first again h-again (StartTag tag) p h
 
-pub grows-in_head_end : (first : List Edit) → (again : Again) → ((first : List Edit) (q : Parser) (t : Token) → Extends first q.page.edits
+pub grows-in_head_end : (first : List Edit) → (again : Again) → ((first : List Edit) → (q : Parser) → (t : Token) → Extends first q.page.edits
     → Extends first (again q t).page.edits) → (other : Kind) → (name : List ℕ) → (p : Parser) → Extends first p.page.edits → Extends first
     (in_head_end again other name p).page.edits
 grows-in_head_end first again h-again Head name p h = grows-in_mode first AfterHead (pop p) (grows-pop first p h)
@@ -475,7 +476,7 @@ grows-in_head_end first again h-again LineBreak name p h = grows-in_head_other f
 grows-in_head_end first again h-again Template name p h = grows-end_template first p h
 grows-in_head_end first again h-again other name p h = grows-unexpected first p h
 
-pub grows-in_head : (first : List Edit) → (again : Again) → ((first : List Edit) (q : Parser) (t : Token) → Extends first q.page.edits
+pub grows-in_head : (first : List Edit) → (again : Again) → ((first : List Edit) → (q : Parser) → (t : Token) → Extends first q.page.edits
     → Extends first (again q t).page.edits) → (c : Token) → (p : Parser) → Extends first p.page.edits → Extends first (in_head again c p).page.edits
 grows-in_head first again h-again (Character c) p h = grows-if-parser first (is_space c) (insert_character c p) (in_head_other again
     (Character c) p) (grows-insert_character first c p h) (grows-in_head_other first again h-again (Character c) p h)
@@ -485,13 +486,13 @@ grows-in_head first again h-again (StartTag tag) p h = grows-in_head_start first
 grows-in_head first again h-again (EndTag name) p h = grows-in_head_end first again h-again (kind_of name) name p h
 grows-in_head first again h-again EndOfFile p h = grows-in_head_other first again h-again EndOfFile p h
 
-pub grows-noscript_other : (first : List Edit) → (again : Again) → ((first : List Edit) (q : Parser) (t : Token) → Extends first q.page.edits
+pub grows-noscript_other : (first : List Edit) → (again : Again) → ((first : List Edit) → (q : Parser) → (t : Token) → Extends first q.page.edits
     → Extends first (again q t).page.edits) → (token : Token) → (p : Parser) → Extends first p.page.edits → Extends first
     (noscript_other again token p).page.edits
 grows-noscript_other first again h-again token p h = h-again first ((in_mode InHead (pop (unexpected p)))) token (grows-in_mode first InHead ((pop
     (unexpected p))) (grows-pop first (unexpected p) (grows-unexpected first p h)))
 
-pub grows-noscript_start : (first : List Edit) → (again : Again) → ((first : List Edit) (q : Parser) (t : Token) → Extends first q.page.edits
+pub grows-noscript_start : (first : List Edit) → (again : Again) → ((first : List Edit) → (q : Parser) → (t : Token) → Extends first q.page.edits
     → Extends first (again q t).page.edits) → (other : Kind) → (tag : StartTagOf) → (p : Parser) → Extends first p.page.edits → Extends first
     (noscript_start again other tag p).page.edits
 grows-noscript_start first again h-again HtmlRoot tag p h = grows-start_html first tag p h
@@ -503,14 +504,14 @@ grows-noscript_start first again h-again Head tag p h = grows-unexpected first p
 grows-noscript_start first again h-again Noscript tag p h = grows-unexpected first p h
 grows-noscript_start first again h-again other tag p h = grows-noscript_other first again h-again (StartTag tag) p h
 
-pub grows-noscript_end : (first : List Edit) → (again : Again) → ((first : List Edit) (q : Parser) (t : Token) → Extends first q.page.edits
+pub grows-noscript_end : (first : List Edit) → (again : Again) → ((first : List Edit) → (q : Parser) → (t : Token) → Extends first q.page.edits
     → Extends first (again q t).page.edits) → (other : Kind) → (name : List ℕ) → (p : Parser) → Extends first p.page.edits → Extends first
     (noscript_end again other name p).page.edits
 grows-noscript_end first again h-again Noscript name p h = grows-in_mode first InHead (pop p) (grows-pop first p h)
 grows-noscript_end first again h-again LineBreak name p h = grows-noscript_other first again h-again (EndTag name) p h
 grows-noscript_end first again h-again other name p h = grows-unexpected first p h
 
-pub grows-in_head_noscript : (first : List Edit) → (again : Again) → ((first : List Edit) (q : Parser) (t : Token) → Extends first q.page.edits
+pub grows-in_head_noscript : (first : List Edit) → (again : Again) → ((first : List Edit) → (q : Parser) → (t : Token) → Extends first q.page.edits
     → Extends first (again q t).page.edits) → (doctype : Token) → (p : Parser) → Extends first p.page.edits → Extends first
     (in_head_noscript again doctype p).page.edits
 grows-in_head_noscript first again h-again (Doctype doctype) p h = grows-unexpected first p h
@@ -525,13 +526,13 @@ pub grows-insert_body : (first : List Edit) → (tag : StartTagOf) → (p : Pars
     (insert_body tag p).page.edits
 grows-insert_body first tag p h = grows-in_mode first InBody (insert tag p) (grows-insert first tag p h)
 
-pub grows-after_head_other : (first : List Edit) → (again : Again) → ((first : List Edit) (q : Parser) (t : Token) → Extends first q.page.edits
+pub grows-after_head_other : (first : List Edit) → (again : Again) → ((first : List Edit) → (q : Parser) → (t : Token) → Extends first q.page.edits
     → Extends first (again q t).page.edits) → (token : Token) → (p : Parser) → Extends first p.page.edits → Extends first
     (after_head_other again token p).page.edits
 grows-after_head_other first again h-again token p h = h-again first ((insert_body (bare_tag (codes "body")) p)) token (grows-insert_body first
     ((bare_tag (codes "body"))) p h)
 
-pub grows-within_head_of : (first : List Edit) → (n : Option ℕ) → (change : (Parser → Parser)) → ((first : List Edit) (q : Parser)
+pub grows-within_head_of : (first : List Edit) → (n : Option ℕ) → (change : (Parser → Parser)) → ((first : List Edit) → (q : Parser)
     → Extends first q.page.edits → Extends first (change q).page.edits) → (p : Parser) → Extends first p.page.edits → Extends first
     (within_head_of n change p).page.edits
 grows-within_head_of first None change h-change p h = h-change first p h
@@ -539,7 +540,7 @@ grows-within_head_of first (Some n) change h-change p h = grows-on_page first (r
     ((change (on_page (pushed Head (codes "head") n) p))) (h-change first ((on_page (pushed Head (codes "head") n) p)) (grows-on_page first
     ((pushed Head (codes "head") n)) (λ first. grows-pushed first Head (codes "head") n) p h))
 
-pub grows-within_head : (first : List Edit) → (change : (Parser → Parser)) → ((first : List Edit) (q : Parser) → Extends first q.page.edits
+pub grows-within_head : (first : List Edit) → (change : (Parser → Parser)) → ((first : List Edit) → (q : Parser) → Extends first q.page.edits
     → Extends first (change q).page.edits) → (p : Parser) → Extends first p.page.edits → Extends first (within_head change p).page.edits
 grows-within_head first change h-change p h = grows-within_head_of first p.head change h-change p h
 
@@ -548,7 +549,7 @@ pub grows-start_after_head : (first : List Edit) → (kind : Kind) → (tag : St
 grows-start_after_head first kind tag p h = grows-within_head first (start_in_head kind tag) (λ first. grows-start_in_head first kind tag)
     (unexpected p) (grows-unexpected first p h)
 
-pub grows-after_head_start : (first : List Edit) → (again : Again) → ((first : List Edit) (q : Parser) (t : Token) → Extends first q.page.edits
+pub grows-after_head_start : (first : List Edit) → (again : Again) → ((first : List Edit) → (q : Parser) → (t : Token) → Extends first q.page.edits
     → Extends first (again q t).page.edits) → (other : Kind) → (tag : StartTagOf) → (p : Parser) → Extends first p.page.edits → Extends first
     (after_head_start again other tag p).page.edits
 grows-after_head_start first again h-again HtmlRoot tag p h = grows-start_html first tag p h
@@ -565,7 +566,7 @@ grows-after_head_start first again h-again Title tag p h = grows-start_after_hea
 grows-after_head_start first again h-again Head tag p h = grows-unexpected first p h
 grows-after_head_start first again h-again other tag p h = grows-after_head_other first again h-again (StartTag tag) p h
 
-pub grows-after_head_end : (first : List Edit) → (again : Again) → ((first : List Edit) (q : Parser) (t : Token) → Extends first q.page.edits
+pub grows-after_head_end : (first : List Edit) → (again : Again) → ((first : List Edit) → (q : Parser) → (t : Token) → Extends first q.page.edits
     → Extends first (again q t).page.edits) → (other : Kind) → (name : List ℕ) → (p : Parser) → Extends first p.page.edits → Extends first
     (after_head_end again other name p).page.edits
 grows-after_head_end first again h-again Template name p h = grows-end_template first p h
@@ -574,7 +575,7 @@ grows-after_head_end first again h-again HtmlRoot name p h = grows-after_head_ot
 grows-after_head_end first again h-again LineBreak name p h = grows-after_head_other first again h-again (EndTag name) p h
 grows-after_head_end first again h-again other name p h = grows-unexpected first p h
 
-pub grows-after_head : (first : List Edit) → (again : Again) → ((first : List Edit) (q : Parser) (t : Token) → Extends first q.page.edits
+pub grows-after_head : (first : List Edit) → (again : Again) → ((first : List Edit) → (q : Parser) → (t : Token) → Extends first q.page.edits
     → Extends first (again q t).page.edits) → (c : Token) → (p : Parser) → Extends first p.page.edits → Extends first
     (after_head again c p).page.edits
 grows-after_head first again h-again (Character c) p h = grows-if-parser first (is_space c) (insert_character c p) (after_head_other again
@@ -592,11 +593,11 @@ pub grows-text_end : (first : List Edit) → (other : Kind) → (p : Parser) →
 grows-text_end first Script p h = grows-asked first ((Run (current_number p.page.opened))) (back p) (grows-back first p h)
 grows-text_end first other p h = grows-back first p h
 
-pub grows-text_end_of_file : (first : List Edit) → (again : Again) → ((first : List Edit) (q : Parser) (t : Token) → Extends first q.page.edits
+pub grows-text_end_of_file : (first : List Edit) → (again : Again) → ((first : List Edit) → (q : Parser) → (t : Token) → Extends first q.page.edits
     → Extends first (again q t).page.edits) → (p : Parser) → Extends first p.page.edits → Extends first (text_end_of_file again p).page.edits
 grows-text_end_of_file first again h-again p h = let noted : Parser = mistaken UnclosedAtEnd p in let h-noted : Extends first noted.page.edits = grows-mistaken first UnclosedAtEnd p h in h-again first ((back (if is_current is_script p then mark_current noted else noted))) EndOfFile (grows-back first (if is_current is_script p then mark_current noted else noted) (grows-if-parser first (is_current is_script p) (mark_current noted) noted (grows-mark_current first noted h-noted) h-noted))
 
-pub grows-text_mode : (first : List Edit) → (again : Again) → ((first : List Edit) (q : Parser) (t : Token) → Extends first q.page.edits
+pub grows-text_mode : (first : List Edit) → (again : Again) → ((first : List Edit) → (q : Parser) → (t : Token) → Extends first q.page.edits
     → Extends first (again q t).page.edits) → (c : Token) → (p : Parser) → Extends first p.page.edits → Extends first (text_mode again c p).page.edits
 grows-text_mode first again h-again (Character c) p h = grows-insert_character first c p h
 grows-text_mode first again h-again (EndTag name) p h = grows-text_end first (kind_of name) p h
@@ -646,24 +647,25 @@ pub grows-expects_closed : (first : List Edit) → (p : Parser) → Extends firs
 grows-expects_closed first p h = grows-if-parser first (has_open (λ e. not (may_stay_open e.kind)) p.page.opened) (mistaken UnclosedElements p) p
     (grows-mistaken first UnclosedElements p h) h
 
-pub grows-end_of_file_in_template : (first : List Edit) → (again : Again) → ((first : List Edit) (q : Parser) (t : Token)
+pub grows-end_of_file_in_template : (first : List Edit) → (again : Again) → ((first : List Edit) → (q : Parser) → (t : Token)
     → Extends first q.page.edits → Extends first (again q t).page.edits) → (p : Parser) → Extends first p.page.edits → Extends first
     (end_of_file_in_template again p).page.edits
 grows-end_of_file_in_template first again h-again p h = grows-if-parser first (has_template p) (again (template_closed
     (mistaken UnclosedAtEnd p)) EndOfFile) (stop_parsing p) (h-again first ((template_closed (mistaken UnclosedAtEnd p))) EndOfFile
     (grows-template_closed first (mistaken UnclosedAtEnd p) (grows-mistaken first UnclosedAtEnd p h))) (grows-stop_parsing first p h)
 
-pub grows-end_of_file_by : (first : List Edit) → (again : Again) → ((first : List Edit) (q : Parser) (t : Token) → Extends first q.page.edits
+pub grows-end_of_file_by : (first : List Edit) → (again : Again) → ((first : List Edit) → (q : Parser) → (t : Token) → Extends first q.page.edits
     → Extends first (again q t).page.edits) → (mode : List Mode) → (p : Parser) → Extends first p.page.edits → Extends first
     (end_of_file_by again mode p).page.edits
 grows-end_of_file_by first again h-again [] p h = grows-stop_parsing first (expects_closed p) (grows-expects_closed first p h)
 grows-end_of_file_by first again h-again (mode ∷ modes) p h = grows-end_of_file_in_template first again h-again p h
 
-pub grows-end_of_file_in_body : (first : List Edit) → (again : Again) → ((first : List Edit) (q : Parser) (t : Token) → Extends first q.page.edits
-    → Extends first (again q t).page.edits) → (p : Parser) → Extends first p.page.edits → Extends first (end_of_file_in_body again p).page.edits
+pub grows-end_of_file_in_body : (first : List Edit) → (again : Again) → ((first : List Edit) → (q : Parser) → (t : Token)
+    → Extends first q.page.edits → Extends first (again q t).page.edits) → (p : Parser) → Extends first p.page.edits → Extends first
+    (end_of_file_in_body again p).page.edits
 grows-end_of_file_in_body first again h-again p h = grows-end_of_file_by first again h-again p.template_modes p h
 
-pub grows-end_body : (first : List Edit) → (after : (Parser → Parser)) → ((first : List Edit) (q : Parser) → Extends first q.page.edits
+pub grows-end_body : (first : List Edit) → (after : (Parser → Parser)) → ((first : List Edit) → (q : Parser) → Extends first q.page.edits
     → Extends first (after q).page.edits) → (p : Parser) → Extends first p.page.edits → Extends first (end_body after p).page.edits
 grows-end_body first after h-after p h = grows-if-parser first (in_scope (has_kind is_body) p) (after (in_mode AfterBody (expects_closed p)))
     (unexpected p) (h-after first ((in_mode AfterBody (expects_closed p))) (grows-in_mode first AfterBody (expects_closed p)
@@ -913,7 +915,7 @@ pub grows-start_noscript : (first : List Edit) → (tag : StartTagOf) → (p : P
 grows-start_noscript first tag p h = grows-if-parser first (p.options.scripting) (insert_with_text Rawtext tag p) (any_other_start_tag tag p)
     (grows-insert_with_text first Rawtext tag p h) (grows-any_other_start_tag first tag p h)
 
-pub grows-start_in_body : (first : List Edit) → (again : Again) → ((first : List Edit) (q : Parser) (t : Token) → Extends first q.page.edits
+pub grows-start_in_body : (first : List Edit) → (again : Again) → ((first : List Edit) → (q : Parser) → (t : Token) → Extends first q.page.edits
     → Extends first (again q t).page.edits) → (other : Kind) → (tag : StartTagOf) → (p : Parser) → Extends first p.page.edits → Extends first
     (start_in_body again other tag p).page.edits
 grows-start_in_body first again h-again HtmlRoot tag p h = grows-start_html first tag p h
@@ -983,7 +985,7 @@ grows-start_in_body first again h-again Cell tag p h = grows-unexpected first p 
 grows-start_in_body first again h-again TableRow tag p h = grows-unexpected first p h
 grows-start_in_body first again h-again other tag p h = grows-any_other_start_tag first tag p h
 
-pub grows-end_in_body : (first : List Edit) → (again : Again) → ((first : List Edit) (q : Parser) (t : Token) → Extends first q.page.edits
+pub grows-end_in_body : (first : List Edit) → (again : Again) → ((first : List Edit) → (q : Parser) → (t : Token) → Extends first q.page.edits
     → Extends first (again q t).page.edits) → (other : Kind) → (name : List ℕ) → (p : Parser) → Extends first p.page.edits → Extends first
     (end_in_body again other name p).page.edits
 grows-end_in_body first again h-again Template name p h = grows-end_template first p h
@@ -1015,7 +1017,7 @@ grows-end_in_body first again h-again LineBreak name p h = grows-start_void firs
     (grows-unexpected first p h)
 grows-end_in_body first again h-again other name p h = grows-any_other_end_tag first name p h
 
-pub grows-in_body : (first : List Edit) → (again : Again) → ((first : List Edit) (q : Parser) (t : Token) → Extends first q.page.edits
+pub grows-in_body : (first : List Edit) → (again : Again) → ((first : List Edit) → (q : Parser) → (t : Token) → Extends first q.page.edits
     → Extends first (again q t).page.edits) → (c : Token) → (p : Parser) → Extends first p.page.edits → Extends first (in_body again c p).page.edits
 grows-in_body first again h-again (Character c) p h = grows-character_in_body first c p h
 grows-in_body first again h-again (Comment text) p h = grows-insert_comment first text p h
@@ -1024,21 +1026,21 @@ grows-in_body first again h-again (StartTag tag) p h = grows-start_in_body first
 grows-in_body first again h-again (EndTag name) p h = grows-end_in_body first again h-again (kind_of name) name p h
 grows-in_body first again h-again EndOfFile p h = grows-end_of_file_in_body first again h-again p h
 
-pub grows-fostered : (first : List Edit) → (change : (Parser → Parser)) → ((first : List Edit) (q : Parser) → Extends first q.page.edits
+pub grows-fostered : (first : List Edit) → (change : (Parser → Parser)) → ((first : List Edit) → (q : Parser) → Extends first q.page.edits
     → Extends first (change q).page.edits) → (p : Parser) → Extends first p.page.edits → Extends first (fostered change p).page.edits
 grows-fostered first change h-change p h = h-change first ((record (unexpected p) { fostering = true })) (grows-unexpected first p h)
 
-pub grows-table_other : (first : List Edit) → (again : Again) → ((first : List Edit) (q : Parser) (t : Token) → Extends first q.page.edits
+pub grows-table_other : (first : List Edit) → (again : Again) → ((first : List Edit) → (q : Parser) → (t : Token) → Extends first q.page.edits
     → Extends first (again q t).page.edits) → (token : Token) → (p : Parser) → Extends first p.page.edits → Extends first
     (table_other again token p).page.edits
 grows-table_other first again h-again token p h = grows-fostered first (in_body again token) (λ first. grows-in_body first again h-again token) p h
 
-pub grows-collects_text : (first : List Edit) → (again : Again) → ((first : List Edit) (q : Parser) (t : Token) → Extends first q.page.edits
+pub grows-collects_text : (first : List Edit) → (again : Again) → ((first : List Edit) → (q : Parser) → (t : Token) → Extends first q.page.edits
     → Extends first (again q t).page.edits) → (token : Token) → (p : Parser) → Extends first p.page.edits → Extends first
     (collects_text again token p).page.edits
 grows-collects_text first again h-again token p h = h-again first (record p { pending = []; original_mode = p.mode; mode = InTableText }) token h
 
-pub grows-table_character : (first : List Edit) → (again : Again) → ((first : List Edit) (q : Parser) (t : Token) → Extends first q.page.edits
+pub grows-table_character : (first : List Edit) → (again : Again) → ((first : List Edit) → (q : Parser) → (t : Token) → Extends first q.page.edits
     → Extends first (again q t).page.edits) → (c : ℕ) → (p : Parser) → Extends first p.page.edits → Extends first
     (table_character again c p).page.edits
 grows-table_character first again h-again c p h = grows-if-parser first (is_current takes_table_text p) (collects_text again (Character c) p)
@@ -1061,7 +1063,7 @@ pub grows-start_form_in_table : (first : List Edit) → (tag : StartTagOf) → (
 grows-start_form_in_table first tag p h = grows-if-parser first (has_template p) (unexpected p) (form_in_table p.form tag (unexpected p))
     (grows-unexpected first p h) (grows-form_in_table first p.form tag (unexpected p) (grows-unexpected first p h))
 
-pub grows-table_start : (first : List Edit) → (again : Again) → ((first : List Edit) (q : Parser) (t : Token) → Extends first q.page.edits
+pub grows-table_start : (first : List Edit) → (again : Again) → ((first : List Edit) → (q : Parser) → (t : Token) → Extends first q.page.edits
     → Extends first (again q t).page.edits) → (other : Kind) → (tag : StartTagOf) → (p : Parser) → Extends first p.page.edits → Extends first
     (table_start again other tag p).page.edits
 grows-table_start first again h-again Caption tag p h = grows-in_mode first InCaption ((insert tag (with_marker (to_table p))))
@@ -1091,7 +1093,7 @@ grows-table_start first again h-again Input tag p h = grows-if-parser first (is_
 grows-table_start first again h-again Form tag p h = grows-start_form_in_table first tag p h
 grows-table_start first again h-again other tag p h = grows-table_other first again h-again (StartTag tag) p h
 
-pub grows-table_end : (first : List Edit) → (again : Again) → ((first : List Edit) (q : Parser) (t : Token) → Extends first q.page.edits
+pub grows-table_end : (first : List Edit) → (again : Again) → ((first : List Edit) → (q : Parser) → (t : Token) → Extends first q.page.edits
     → Extends first (again q t).page.edits) → (kind : Kind) → (name : List ℕ) → (p : Parser) → Extends first p.page.edits → Extends first
     (table_end again kind name p).page.edits
 grows-table_end first again h-again Table name p h = grows-if-parser first (in_table_scope (has_kind is_table) p) (without_table p) (unexpected p)
@@ -1100,7 +1102,7 @@ grows-table_end first again h-again Template name p h = grows-end_template first
 grows-table_end first again h-again kind name p h = grows-if-parser first (is_ignored_in_table kind) (unexpected p) (table_other again
     (EndTag name) p) (grows-unexpected first p h) (grows-table_other first again h-again (EndTag name) p h)
 
-pub grows-in_table : (first : List Edit) → (again : Again) → ((first : List Edit) (q : Parser) (t : Token) → Extends first q.page.edits
+pub grows-in_table : (first : List Edit) → (again : Again) → ((first : List Edit) → (q : Parser) → (t : Token) → Extends first q.page.edits
     → Extends first (again q t).page.edits) → (c : Token) → (p : Parser) → Extends first p.page.edits → Extends first (in_table again c p).page.edits
 grows-in_table first again h-again (Character c) p h = grows-table_character first again h-again c p h
 grows-in_table first again h-again (Comment text) p h = grows-insert_comment first text p h
@@ -1126,27 +1128,27 @@ pub grows-flushed : (first : List Edit) → (p : Parser) → Extends first p.pag
 grows-flushed first p h = grows-if-parser first (is_all_space p.pending) (flushed_as_space p.pending p) (flushed_fostered p.pending p)
     (grows-flushed_as_space first p.pending p h) (grows-flushed_fostered first p.pending p h)
 
-pub grows-table_text_other : (first : List Edit) → (again : Again) → ((first : List Edit) (q : Parser) (t : Token) → Extends first q.page.edits
+pub grows-table_text_other : (first : List Edit) → (again : Again) → ((first : List Edit) → (q : Parser) → (t : Token) → Extends first q.page.edits
     → Extends first (again q t).page.edits) → (token : Token) → (p : Parser) → Extends first p.page.edits → Extends first
     (table_text_other again token p).page.edits
 grows-table_text_other first again h-again token p h = h-again first ((record (flushed p) { pending = []; mode = p.original_mode })) token
     (grows-flushed first p h)
 
-pub grows-in_table_text : (first : List Edit) → (again : Again) → ((first : List Edit) (q : Parser) (t : Token) → Extends first q.page.edits
+pub grows-in_table_text : (first : List Edit) → (again : Again) → ((first : List Edit) → (q : Parser) → (t : Token) → Extends first q.page.edits
     → Extends first (again q t).page.edits) → (c : Token) → (p : Parser) → Extends first p.page.edits → Extends first
     (in_table_text again c p).page.edits
 grows-in_table_text first again h-again (Character c) p h = grows-if-parser first (is_null c) (unexpected p)
     (record p { pending = p.pending ++ c ∷ [] }) (grows-unexpected first p h) h
 grows-in_table_text first again h-again token p h = grows-table_text_other first again h-again token p h
 
-pub grows-without_caption : (first : List Edit) → (after : (Parser → Parser)) → ((first : List Edit) (q : Parser) → Extends first q.page.edits
+pub grows-without_caption : (first : List Edit) → (after : (Parser → Parser)) → ((first : List Edit) → (q : Parser) → Extends first q.page.edits
     → Extends first (after q).page.edits) → (p : Parser) → Extends first p.page.edits → Extends first (without_caption after p).page.edits
 grows-without_caption first after h-after p h = grows-if-parser first (in_table_scope (has_kind is_caption) p) (after (in_mode InTable
     (cleared_to_marker (ended (has_kind is_caption) p)))) (unexpected p) (h-after first ((in_mode InTable (cleared_to_marker (ended
     (has_kind is_caption) p)))) (grows-in_mode first InTable ((cleared_to_marker (ended (has_kind is_caption) p))) (grows-cleared_to_marker first
     ((ended (has_kind is_caption) p)) (grows-ended first (has_kind is_caption) p h)))) (grows-unexpected first p h)
 
-pub grows-caption_end : (first : List Edit) → (again : Again) → ((first : List Edit) (q : Parser) (t : Token) → Extends first q.page.edits
+pub grows-caption_end : (first : List Edit) → (again : Again) → ((first : List Edit) → (q : Parser) → (t : Token) → Extends first q.page.edits
     → Extends first (again q t).page.edits) → (kind : Kind) → (name : List ℕ) → (p : Parser) → Extends first p.page.edits → Extends first
     (caption_end again kind name p).page.edits
 grows-caption_end first again h-again Caption name p h = grows-without_caption first (λ later. later) (λ first later h-later. h-later) p h
@@ -1155,7 +1157,7 @@ grows-caption_end first again h-again Table name p h = grows-without_caption fir
 grows-caption_end first again h-again kind name p h = grows-if-parser first (is_ignored_in_table kind) (unexpected p) (in_body again
     (EndTag name) p) (grows-unexpected first p h) (grows-in_body first again h-again (EndTag name) p h)
 
-pub grows-in_caption : (first : List Edit) → (again : Again) → ((first : List Edit) (q : Parser) (t : Token) → Extends first q.page.edits
+pub grows-in_caption : (first : List Edit) → (again : Again) → ((first : List Edit) → (q : Parser) → (t : Token) → Extends first q.page.edits
     → Extends first (again q t).page.edits) → (tag : Token) → (p : Parser) → Extends first p.page.edits → Extends first
     (in_caption again tag p).page.edits
 grows-in_caption first again h-again (StartTag tag) p h = grows-if-parser first (is_part (kind_of tag.name)) (without_caption (λ later. again later
@@ -1164,27 +1166,28 @@ grows-in_caption first again h-again (StartTag tag) p h = grows-if-parser first 
 grows-in_caption first again h-again (EndTag name) p h = grows-caption_end first again h-again (kind_of name) name p h
 grows-in_caption first again h-again token p h = grows-in_body first again h-again token p h
 
-pub grows-without_column_group : (first : List Edit) → (after : (Parser → Parser)) → ((first : List Edit) (q : Parser) → Extends first q.page.edits
-    → Extends first (after q).page.edits) → (p : Parser) → Extends first p.page.edits → Extends first (without_column_group after p).page.edits
+pub grows-without_column_group : (first : List Edit) → (after : (Parser → Parser)) → ((first : List Edit) → (q : Parser)
+    → Extends first q.page.edits → Extends first (after q).page.edits) → (p : Parser) → Extends first p.page.edits → Extends first
+    (without_column_group after p).page.edits
 grows-without_column_group first after h-after p h = grows-if-parser first (is_current is_column_group p) (after (in_mode InTable (pop p)))
     (unexpected p) (h-after first ((in_mode InTable (pop p))) (grows-in_mode first InTable (pop p) (grows-pop first p h)))
     (grows-unexpected first p h)
 
-pub grows-column_group_other : (first : List Edit) → (again : Again) → ((first : List Edit) (q : Parser) (t : Token) → Extends first q.page.edits
-    → Extends first (again q t).page.edits) → (token : Token) → (p : Parser) → Extends first p.page.edits → Extends first
-    (column_group_other again token p).page.edits
+pub grows-column_group_other : (first : List Edit) → (again : Again) → ((first : List Edit) → (q : Parser) → (t : Token)
+    → Extends first q.page.edits → Extends first (again q t).page.edits) → (token : Token) → (p : Parser) → Extends first p.page.edits
+    → Extends first (column_group_other again token p).page.edits
 grows-column_group_other first again h-again token p h = grows-without_column_group first (λ later. again later token)
     (λ first later h-later. h-again first later token h-later) p h
 
-pub grows-column_group_start : (first : List Edit) → (again : Again) → ((first : List Edit) (q : Parser) (t : Token) → Extends first q.page.edits
-    → Extends first (again q t).page.edits) → (other : Kind) → (tag : StartTagOf) → (p : Parser) → Extends first p.page.edits → Extends first
-    (column_group_start again other tag p).page.edits
+pub grows-column_group_start : (first : List Edit) → (again : Again) → ((first : List Edit) → (q : Parser) → (t : Token)
+    → Extends first q.page.edits → Extends first (again q t).page.edits) → (other : Kind) → (tag : StartTagOf) → (p : Parser)
+    → Extends first p.page.edits → Extends first (column_group_start again other tag p).page.edits
 grows-column_group_start first again h-again HtmlRoot tag p h = grows-start_html first tag p h
 grows-column_group_start first again h-again Column tag p h = grows-insert_void first tag p h
 grows-column_group_start first again h-again Template tag p h = grows-start_in_head first Template tag p h
 grows-column_group_start first again h-again other tag p h = grows-column_group_other first again h-again (StartTag tag) p h
 
-pub grows-column_group_end : (first : List Edit) → (again : Again) → ((first : List Edit) (q : Parser) (t : Token) → Extends first q.page.edits
+pub grows-column_group_end : (first : List Edit) → (again : Again) → ((first : List Edit) → (q : Parser) → (t : Token) → Extends first q.page.edits
     → Extends first (again q t).page.edits) → (other : Kind) → (name : List ℕ) → (p : Parser) → Extends first p.page.edits → Extends first
     (column_group_end again other name p).page.edits
 grows-column_group_end first again h-again ColumnGroup name p h = grows-without_column_group first (λ later. later)
@@ -1193,7 +1196,7 @@ grows-column_group_end first again h-again Column name p h = grows-unexpected fi
 grows-column_group_end first again h-again Template name p h = grows-end_template first p h
 grows-column_group_end first again h-again other name p h = grows-column_group_other first again h-again (EndTag name) p h
 
-pub grows-in_column_group : (first : List Edit) → (again : Again) → ((first : List Edit) (q : Parser) (t : Token) → Extends first q.page.edits
+pub grows-in_column_group : (first : List Edit) → (again : Again) → ((first : List Edit) → (q : Parser) → (t : Token) → Extends first q.page.edits
     → Extends first (again q t).page.edits) → (c : Token) → (p : Parser) → Extends first p.page.edits → Extends first
     (in_column_group again c p).page.edits
 grows-in_column_group first again h-again (Character c) p h = grows-if-parser first (is_space c) (insert_character c p) (column_group_other again
@@ -1207,18 +1210,18 @@ grows-in_column_group first again h-again EndOfFile p h = grows-end_of_file_in_b
 pub grows-to_body : (first : List Edit) → (p : Parser) → Extends first p.page.edits → Extends first (to_body p).page.edits
 grows-to_body first p h = grows-cleared_back_to first is_body_context p h
 
-pub grows-without_table_body : (first : List Edit) → (scoped : Bool) → (after : (Parser → Parser)) → ((first : List Edit) (q : Parser)
+pub grows-without_table_body : (first : List Edit) → (scoped : Bool) → (after : (Parser → Parser)) → ((first : List Edit) → (q : Parser)
     → Extends first q.page.edits → Extends first (after q).page.edits) → (p : Parser) → Extends first p.page.edits → Extends first
     (without_table_body scoped after p).page.edits
 grows-without_table_body first scoped after h-after p h = grows-if-parser first (scoped) (after (in_mode InTable (pop (to_body p)))) (unexpected p)
     (h-after first ((in_mode InTable (pop (to_body p)))) (grows-in_mode first InTable ((pop (to_body p))) (grows-pop first (to_body p)
     (grows-to_body first p h)))) (grows-unexpected first p h)
 
-pub grows-without_any_body : (first : List Edit) → (after : (Parser → Parser)) → ((first : List Edit) (q : Parser) → Extends first q.page.edits
+pub grows-without_any_body : (first : List Edit) → (after : (Parser → Parser)) → ((first : List Edit) → (q : Parser) → Extends first q.page.edits
     → Extends first (after q).page.edits) → (p : Parser) → Extends first p.page.edits → Extends first (without_any_body after p).page.edits
 grows-without_any_body first after h-after p h = grows-without_table_body first ((in_table_scope (has_kind is_table_body) p)) after h-after p h
 
-pub grows-table_body_start : (first : List Edit) → (again : Again) → ((first : List Edit) (q : Parser) (t : Token) → Extends first q.page.edits
+pub grows-table_body_start : (first : List Edit) → (again : Again) → ((first : List Edit) → (q : Parser) → (t : Token) → Extends first q.page.edits
     → Extends first (again q t).page.edits) → (kind : Kind) → (tag : StartTagOf) → (p : Parser) → Extends first p.page.edits → Extends first
     (table_body_start again kind tag p).page.edits
 grows-table_body_start first again h-again TableRow tag p h = grows-in_mode first InRow ((insert tag (to_body p))) (grows-insert first tag
@@ -1230,7 +1233,7 @@ grows-table_body_start first again h-again kind tag p h = grows-if-parser first 
     (StartTag tag)) p) (table_start again kind tag p) (grows-without_any_body first ((λ later. again later (StartTag tag)))
     (λ first later h-later. h-again first later (StartTag tag) h-later) p h) (grows-table_start first again h-again kind tag p h)
 
-pub grows-table_body_end : (first : List Edit) → (again : Again) → ((first : List Edit) (q : Parser) (t : Token) → Extends first q.page.edits
+pub grows-table_body_end : (first : List Edit) → (again : Again) → ((first : List Edit) → (q : Parser) → (t : Token) → Extends first q.page.edits
     → Extends first (again q t).page.edits) → (kind : Kind) → (name : List ℕ) → (p : Parser) → Extends first p.page.edits → Extends first
     (table_body_end again kind name p).page.edits
 grows-table_body_end first again h-again TableBody name p h = grows-without_table_body first ((in_table_scope (has_name name) p)) (λ later. later)
@@ -1239,7 +1242,7 @@ grows-table_body_end first again h-again Table name p h = grows-without_any_body
     (λ first later h-later. h-again first later (EndTag name) h-later) p h
 grows-table_body_end first again h-again kind name p h = grows-table_end first again h-again kind name p h
 
-pub grows-in_table_body : (first : List Edit) → (again : Again) → ((first : List Edit) (q : Parser) (t : Token) → Extends first q.page.edits
+pub grows-in_table_body : (first : List Edit) → (again : Again) → ((first : List Edit) → (q : Parser) → (t : Token) → Extends first q.page.edits
     → Extends first (again q t).page.edits) → (tag : Token) → (p : Parser) → Extends first p.page.edits → Extends first
     (in_table_body again tag p).page.edits
 grows-in_table_body first again h-again (StartTag tag) p h = grows-table_body_start first again h-again (kind_of tag.name) tag p h
@@ -1249,13 +1252,13 @@ grows-in_table_body first again h-again token p h = grows-in_table first again h
 pub grows-to_row : (first : List Edit) → (p : Parser) → Extends first p.page.edits → Extends first (to_row p).page.edits
 grows-to_row first p h = grows-cleared_back_to first is_row_context p h
 
-pub grows-without_row : (first : List Edit) → (after : (Parser → Parser)) → ((first : List Edit) (q : Parser) → Extends first q.page.edits
+pub grows-without_row : (first : List Edit) → (after : (Parser → Parser)) → ((first : List Edit) → (q : Parser) → Extends first q.page.edits
     → Extends first (after q).page.edits) → (p : Parser) → Extends first p.page.edits → Extends first (without_row after p).page.edits
 grows-without_row first after h-after p h = grows-if-parser first (in_table_scope (has_kind is_table_row) p) (after (in_mode InTableBody (pop
     (to_row p)))) (unexpected p) (h-after first ((in_mode InTableBody (pop (to_row p)))) (grows-in_mode first InTableBody ((pop (to_row p)))
     (grows-pop first (to_row p) (grows-to_row first p h)))) (grows-unexpected first p h)
 
-pub grows-row_start : (first : List Edit) → (again : Again) → ((first : List Edit) (q : Parser) (t : Token) → Extends first q.page.edits
+pub grows-row_start : (first : List Edit) → (again : Again) → ((first : List Edit) → (q : Parser) → (t : Token) → Extends first q.page.edits
     → Extends first (again q t).page.edits) → (kind : Kind) → (tag : StartTagOf) → (p : Parser) → Extends first p.page.edits → Extends first
     (row_start again kind tag p).page.edits
 grows-row_start first again h-again Cell tag p h = grows-with_marker first ((in_mode InCell (insert tag (to_row p)))) (grows-in_mode first InCell
@@ -1264,7 +1267,7 @@ grows-row_start first again h-again kind tag p h = grows-if-parser first (is_par
     (table_start again kind tag p) (grows-without_row first ((λ later. again later (StartTag tag))) (λ first later h-later. h-again first later
     (StartTag tag) h-later) p h) (grows-table_start first again h-again kind tag p h)
 
-pub grows-row_end_of_body : (first : List Edit) → (again : Again) → ((first : List Edit) (q : Parser) (t : Token) → Extends first q.page.edits
+pub grows-row_end_of_body : (first : List Edit) → (again : Again) → ((first : List Edit) → (q : Parser) → (t : Token) → Extends first q.page.edits
     → Extends first (again q t).page.edits) → (name : List ℕ) → (p : Parser) → Extends first p.page.edits → Extends first
     (row_end_of_body again name p).page.edits
 grows-row_end_of_body first again h-again name p h = grows-if-parser first (in_table_scope (has_name name) p) ((if in_table_scope
@@ -1272,7 +1275,7 @@ grows-row_end_of_body first again h-again name p h = grows-if-parser first (in_t
     (has_kind is_table_row) p) (without_row (λ later. again later (EndTag name)) p) p (grows-without_row first ((λ later. again later
     (EndTag name))) (λ first later h-later. h-again first later (EndTag name) h-later) p h) h) (grows-unexpected first p h)
 
-pub grows-row_end : (first : List Edit) → (again : Again) → ((first : List Edit) (q : Parser) (t : Token) → Extends first q.page.edits
+pub grows-row_end : (first : List Edit) → (again : Again) → ((first : List Edit) → (q : Parser) → (t : Token) → Extends first q.page.edits
     → Extends first (again q t).page.edits) → (kind : Kind) → (name : List ℕ) → (p : Parser) → Extends first p.page.edits → Extends first
     (row_end again kind name p).page.edits
 grows-row_end first again h-again TableRow name p h = grows-without_row first (λ later. later) (λ first later h-later. h-later) p h
@@ -1281,7 +1284,7 @@ grows-row_end first again h-again Table name p h = grows-without_row first ((λ 
 grows-row_end first again h-again TableBody name p h = grows-row_end_of_body first again h-again name p h
 grows-row_end first again h-again kind name p h = grows-table_end first again h-again kind name p h
 
-pub grows-in_row : (first : List Edit) → (again : Again) → ((first : List Edit) (q : Parser) (t : Token) → Extends first q.page.edits
+pub grows-in_row : (first : List Edit) → (again : Again) → ((first : List Edit) → (q : Parser) → (t : Token) → Extends first q.page.edits
     → Extends first (again q t).page.edits) → (tag : Token) → (p : Parser) → Extends first p.page.edits → Extends first
     (in_row again tag p).page.edits
 grows-in_row first again h-again (StartTag tag) p h = grows-row_start first again h-again (kind_of tag.name) tag p h
@@ -1297,13 +1300,13 @@ grows-end_cell first name p h = grows-if-parser first (in_table_scope (has_name 
     (has_name name) p))) (unexpected p) (grows-in_mode first InRow ((cleared_to_marker (ended (has_name name) p))) (grows-cleared_to_marker first
     ((ended (has_name name) p)) (grows-ended first (has_name name) p h))) (grows-unexpected first p h)
 
-pub grows-end_around_cell : (first : List Edit) → (again : Again) → ((first : List Edit) (q : Parser) (t : Token) → Extends first q.page.edits
+pub grows-end_around_cell : (first : List Edit) → (again : Again) → ((first : List Edit) → (q : Parser) → (t : Token) → Extends first q.page.edits
     → Extends first (again q t).page.edits) → (name : List ℕ) → (p : Parser) → Extends first p.page.edits → Extends first
     (end_around_cell again name p).page.edits
 grows-end_around_cell first again h-again name p h = grows-if-parser first (in_table_scope (has_name name) p) (again (cell_closed p) (EndTag name))
     (unexpected p) (h-again first (cell_closed p) (EndTag name) (grows-cell_closed first p h)) (grows-unexpected first p h)
 
-pub grows-cell_end : (first : List Edit) → (again : Again) → ((first : List Edit) (q : Parser) (t : Token) → Extends first q.page.edits
+pub grows-cell_end : (first : List Edit) → (again : Again) → ((first : List Edit) → (q : Parser) → (t : Token) → Extends first q.page.edits
     → Extends first (again q t).page.edits) → (kind : Kind) → (name : List ℕ) → (p : Parser) → Extends first p.page.edits → Extends first
     (cell_end again kind name p).page.edits
 grows-cell_end first again h-again Cell name p h = grows-end_cell first name p h
@@ -1317,7 +1320,7 @@ grows-cell_end first again h-again TableBody name p h = grows-end_around_cell fi
 grows-cell_end first again h-again TableRow name p h = grows-end_around_cell first again h-again name p h
 grows-cell_end first again h-again kind name p h = grows-in_body first again h-again (EndTag name) p h
 
-pub grows-in_cell : (first : List Edit) → (again : Again) → ((first : List Edit) (q : Parser) (t : Token) → Extends first q.page.edits
+pub grows-in_cell : (first : List Edit) → (again : Again) → ((first : List Edit) → (q : Parser) → (t : Token) → Extends first q.page.edits
     → Extends first (again q t).page.edits) → (tag : Token) → (p : Parser) → Extends first p.page.edits → Extends first
     (in_cell again tag p).page.edits
 grows-in_cell first again h-again (StartTag tag) p h = grows-if-parser first (is_part (kind_of tag.name)) (again (cell_closed p) (StartTag tag))
@@ -1326,13 +1329,13 @@ grows-in_cell first again h-again (StartTag tag) p h = grows-if-parser first (is
 grows-in_cell first again h-again (EndTag name) p h = grows-cell_end first again h-again (kind_of name) name p h
 grows-in_cell first again h-again token p h = grows-in_body first again h-again token p h
 
-pub grows-in_template_mode : (first : List Edit) → (again : Again) → ((first : List Edit) (q : Parser) (t : Token) → Extends first q.page.edits
+pub grows-in_template_mode : (first : List Edit) → (again : Again) → ((first : List Edit) → (q : Parser) → (t : Token) → Extends first q.page.edits
     → Extends first (again q t).page.edits) → (mode : Mode) → (tag : StartTagOf) → (p : Parser) → Extends first p.page.edits → Extends first
     (in_template_mode again mode tag p).page.edits
 grows-in_template_mode first again h-again mode tag p h = h-again first
     (record p { template_modes = mode ∷ without_template_mode p.template_modes; mode = mode }) (StartTag tag) h
 
-pub grows-template_start : (first : List Edit) → (again : Again) → ((first : List Edit) (q : Parser) (t : Token) → Extends first q.page.edits
+pub grows-template_start : (first : List Edit) → (again : Again) → ((first : List Edit) → (q : Parser) → (t : Token) → Extends first q.page.edits
     → Extends first (again q t).page.edits) → (other : Kind) → (tag : StartTagOf) → (p : Parser) → Extends first p.page.edits → Extends first
     (template_start again other tag p).page.edits
 grows-template_start first again h-again Base tag p h = grows-start_in_head first Base tag p h
@@ -1356,7 +1359,7 @@ pub grows-template_end : (first : List Edit) → (other : Kind) → (p : Parser)
 grows-template_end first Template p h = grows-end_template first p h
 grows-template_end first other p h = grows-unexpected first p h
 
-pub grows-in_template : (first : List Edit) → (again : Again) → ((first : List Edit) (q : Parser) (t : Token) → Extends first q.page.edits
+pub grows-in_template : (first : List Edit) → (again : Again) → ((first : List Edit) → (q : Parser) → (t : Token) → Extends first q.page.edits
     → Extends first (again q t).page.edits) → (tag : Token) → (p : Parser) → Extends first p.page.edits → Extends first
     (in_template again tag p).page.edits
 grows-in_template first again h-again (StartTag tag) p h = grows-template_start first again h-again (kind_of tag.name) tag p h
@@ -1364,26 +1367,26 @@ grows-in_template first again h-again (EndTag name) p h = grows-template_end fir
 grows-in_template first again h-again EndOfFile p h = grows-end_of_file_in_template first again h-again p h
 grows-in_template first again h-again token p h = grows-in_body first again h-again token p h
 
-pub grows-in_body_again : (first : List Edit) → (again : Again) → ((first : List Edit) (q : Parser) (t : Token) → Extends first q.page.edits
+pub grows-in_body_again : (first : List Edit) → (again : Again) → ((first : List Edit) → (q : Parser) → (t : Token) → Extends first q.page.edits
     → Extends first (again q t).page.edits) → (token : Token) → (p : Parser) → Extends first p.page.edits → Extends first
     (in_body_again again token p).page.edits
 grows-in_body_again first again h-again token p h = h-again first ((in_mode InBody (unexpected p))) token (grows-in_mode first InBody (unexpected p)
     (grows-unexpected first p h))
 
-pub grows-after_body_start : (first : List Edit) → (again : Again) → ((first : List Edit) (q : Parser) (t : Token) → Extends first q.page.edits
+pub grows-after_body_start : (first : List Edit) → (again : Again) → ((first : List Edit) → (q : Parser) → (t : Token) → Extends first q.page.edits
     → Extends first (again q t).page.edits) → (other : Kind) → (tag : StartTagOf) → (p : Parser) → Extends first p.page.edits → Extends first
     (after_body_start again other tag p).page.edits
 grows-after_body_start first again h-again HtmlRoot tag p h = grows-start_html first tag p h
 grows-after_body_start first again h-again other tag p h = grows-in_body_again first again h-again (StartTag tag) p h
 
-pub grows-after_body_end : (first : List Edit) → (again : Again) → ((first : List Edit) (q : Parser) (t : Token) → Extends first q.page.edits
+pub grows-after_body_end : (first : List Edit) → (again : Again) → ((first : List Edit) → (q : Parser) → (t : Token) → Extends first q.page.edits
     → Extends first (again q t).page.edits) → (other : Kind) → (name : List ℕ) → (p : Parser) → Extends first p.page.edits → Extends first
     (after_body_end again other name p).page.edits
 grows-after_body_end first again h-again HtmlRoot name p h = grows-if-parser first (is_fragment p) (unexpected p) (in_mode AfterAfterBody p)
     (grows-unexpected first p h) (grows-in_mode first AfterAfterBody p h)
 grows-after_body_end first again h-again other name p h = grows-in_body_again first again h-again (EndTag name) p h
 
-pub grows-after_body : (first : List Edit) → (again : Again) → ((first : List Edit) (q : Parser) (t : Token) → Extends first q.page.edits
+pub grows-after_body : (first : List Edit) → (again : Again) → ((first : List Edit) → (q : Parser) → (t : Token) → Extends first q.page.edits
     → Extends first (again q t).page.edits) → (c : Token) → (p : Parser) → Extends first p.page.edits → Extends first
     (after_body again c p).page.edits
 grows-after_body first again h-again (Character c) p h = grows-if-parser first (is_space c) (character_in_body c p) (in_body_again again
@@ -1407,7 +1410,7 @@ grows-frameset_closed first p h = let later : Parser = pop p in let h-later : Ex
 
 pub grows-frameset_end : (first : List Edit) → (other : Kind) → (p : Parser) → Extends first p.page.edits → Extends first
     (frameset_end other p).page.edits
-grows-frameset_end first Frameset p h = grows-if-parser first (is_root p.page.opened) (unexpected p) (frameset_closed p)
+grows-frameset_end first Frameset p h = grows-if-parser first (has_only_root p.page.opened) (unexpected p) (frameset_closed p)
     (grows-unexpected first p h) (grows-frameset_closed first p h)
 grows-frameset_end first other p h = grows-unexpected first p h
 
@@ -1418,8 +1421,8 @@ grows-in_frameset first (Comment text) p h = grows-insert_comment first text p h
 grows-in_frameset first (Doctype doctype) p h = grows-unexpected first p h
 grows-in_frameset first (StartTag tag) p h = grows-frameset_start first (kind_of tag.name) tag p h
 grows-in_frameset first (EndTag name) p h = grows-frameset_end first (kind_of name) p h
-grows-in_frameset first EndOfFile p h = grows-stop_parsing first (if is_root p.page.opened then p else mistaken UnclosedAtEnd p)
-    (grows-if-parser first (is_root p.page.opened) p (mistaken UnclosedAtEnd p) h (grows-mistaken first UnclosedAtEnd p h))
+grows-in_frameset first EndOfFile p h = grows-stop_parsing first (if has_only_root p.page.opened then p else mistaken UnclosedAtEnd p)
+    (grows-if-parser first (has_only_root p.page.opened) p (mistaken UnclosedAtEnd p) h (grows-mistaken first UnclosedAtEnd p h))
 
 pub grows-after_frameset_start : (first : List Edit) → (other : Kind) → (tag : StartTagOf) → (p : Parser) → Extends first p.page.edits
     → Extends first (after_frameset_start other tag p).page.edits
@@ -1442,7 +1445,7 @@ grows-after_frameset first (StartTag tag) p h = grows-after_frameset_start first
 grows-after_frameset first (EndTag name) p h = grows-after_frameset_end first (kind_of name) p h
 grows-after_frameset first EndOfFile p h = grows-stop_parsing first p h
 
-pub grows-after_after_body : (first : List Edit) → (again : Again) → ((first : List Edit) (q : Parser) (t : Token) → Extends first q.page.edits
+pub grows-after_after_body : (first : List Edit) → (again : Again) → ((first : List Edit) → (q : Parser) → (t : Token) → Extends first q.page.edits
     → Extends first (again q t).page.edits) → (text : Token) → (p : Parser) → Extends first p.page.edits → Extends first
     (after_after_body again text p).page.edits
 grows-after_after_body first again h-again (Comment text) p h = grows-insert_comment_in_document first text p h
@@ -1470,7 +1473,7 @@ grows-foreign_character first c p h = grows-if-parser first (is_null c) (insert_
     (grows-unexpected first p h)) (grows-if-parser first (is_space c) (insert_character c p) (not_frameset_ok (insert_character c p))
     (grows-insert_character first c p h) (grows-not_frameset_ok first (insert_character c p) (grows-insert_character first c p h)))
 
-pub grows-broken_out : (first : List Edit) → (in_html : InHtml) → ((first : List Edit) (t : Token) (q : Parser) → Extends first q.page.edits
+pub grows-broken_out : (first : List Edit) → (in_html : InHtml) → ((first : List Edit) → (t : Token) → (q : Parser) → Extends first q.page.edits
     → Extends first (in_html t q).page.edits) → (token : Token) → (p : Parser) → Extends first p.page.edits → Extends first
     (broken_out in_html token p).page.edits
 grows-broken_out first in_html h-in_html token p h = h-in_html first token ((pop_while stays_foreign (unexpected p)))
@@ -1491,7 +1494,7 @@ grows-foreign_start first tag p h = grows-closed_at_once first tag.self_closing 
     (adjusted_kind p.options.context p.page.opened)) tag p)) (grows-insert_foreign first ((namespace_of
     (adjusted_kind p.options.context p.page.opened))) tag p h)
 
-pub grows-foreign_end : (first : List Edit) → (in_html : InHtml) → ((first : List Edit) (t : Token) (q : Parser) → Extends first q.page.edits
+pub grows-foreign_end : (first : List Edit) → (in_html : InHtml) → ((first : List Edit) → (t : Token) → (q : Parser) → Extends first q.page.edits
     → Extends first (in_html t q).page.edits) → (name : List ℕ) → (e : List Open) → (p : Parser) → Extends first p.page.edits → Extends first
     (foreign_end in_html name e p).page.edits
 unfolding foreign_end
@@ -1507,13 +1510,13 @@ pub grows-expects_name : (first : List Edit) → (name : List ℕ) → (e : List
 grows-expects_name first name [] p h = h
 grows-expects_name first name (e ∷ es) p h = grows-if-parser first (has_lower_case name e) p (unexpected p) h (grows-unexpected first p h)
 
-pub grows-any_other_foreign_end : (first : List Edit) → (in_html : InHtml) → ((first : List Edit) (t : Token) (q : Parser)
+pub grows-any_other_foreign_end : (first : List Edit) → (in_html : InHtml) → ((first : List Edit) → (t : Token) → (q : Parser)
     → Extends first q.page.edits → Extends first (in_html t q).page.edits) → (name : List ℕ) → (p : Parser) → Extends first p.page.edits
     → Extends first (any_other_foreign_end in_html name p).page.edits
 grows-any_other_foreign_end first in_html h-in_html name p h = grows-foreign_end first in_html h-in_html name p.page.opened
     (expects_name name p.page.opened p) (grows-expects_name first name p.page.opened p h)
 
-pub grows-foreign_end_by_kind : (first : List Edit) → (in_html : InHtml) → ((first : List Edit) (t : Token) (q : Parser)
+pub grows-foreign_end_by_kind : (first : List Edit) → (in_html : InHtml) → ((first : List Edit) → (t : Token) → (q : Parser)
     → Extends first q.page.edits → Extends first (in_html t q).page.edits) → (other : Kind) → (name : List ℕ) → (p : Parser)
     → Extends first p.page.edits → Extends first (foreign_end_by_kind in_html other name p).page.edits
 grows-foreign_end_by_kind first in_html h-in_html LineBreak name p h = grows-broken_out first in_html h-in_html (EndTag name) p h
@@ -1522,8 +1525,8 @@ grows-foreign_end_by_kind first in_html h-in_html Script name p h = grows-if-par
     (any_other_foreign_end in_html name p) (grows-run_script first p h) (grows-any_other_foreign_end first in_html h-in_html name p h)
 grows-foreign_end_by_kind first in_html h-in_html other name p h = grows-any_other_foreign_end first in_html h-in_html name p h
 
-pub grows-in_foreign_content : (first : List Edit) → (in_html : InHtml) → ((first : List Edit) (t : Token) (q : Parser) → Extends first q.page.edits
-    → Extends first (in_html t q).page.edits) → (c : Token) → (p : Parser) → Extends first p.page.edits → Extends first
+pub grows-in_foreign_content : (first : List Edit) → (in_html : InHtml) → ((first : List Edit) → (t : Token) → (q : Parser)
+    → Extends first q.page.edits → Extends first (in_html t q).page.edits) → (c : Token) → (p : Parser) → Extends first p.page.edits → Extends first
     (in_foreign_content in_html c p).page.edits
 grows-in_foreign_content first in_html h-in_html (Character c) p h = grows-foreign_character first c p h
 grows-in_foreign_content first in_html h-in_html (Comment text) p h = grows-insert_comment first text p h
@@ -1533,7 +1536,7 @@ grows-in_foreign_content first in_html h-in_html (StartTag tag) p h = grows-if-p
 grows-in_foreign_content first in_html h-in_html (EndTag name) p h = grows-foreign_end_by_kind first in_html h-in_html (kind_of name) name p h
 grows-in_foreign_content first in_html h-in_html EndOfFile p h = h
 
-pub grows-in_html_content : (first : List Edit) → (again : Again) → ((first : List Edit) (q : Parser) (t : Token) → Extends first q.page.edits
+pub grows-in_html_content : (first : List Edit) → (again : Again) → ((first : List Edit) → (q : Parser) → (t : Token) → Extends first q.page.edits
     → Extends first (again q t).page.edits) → (x1 : Mode) → (token : Token) → (p : Parser) → Extends first p.page.edits → Extends first
     (in_html_content again x1 token p).page.edits
 grows-in_html_content first again h-again Initial token p h = grows-initial first again h-again token p h
@@ -1558,12 +1561,12 @@ grows-in_html_content first again h-again AfterFrameset token p h = grows-after_
 grows-in_html_content first again h-again AfterAfterBody token p h = grows-after_after_body first again h-again token p h
 grows-in_html_content first again h-again AfterAfterFrameset token p h = grows-after_after_frameset first token p h
 
-pub grows-in_current_mode : (first : List Edit) → (again : Again) → ((first : List Edit) (q : Parser) (t : Token) → Extends first q.page.edits
+pub grows-in_current_mode : (first : List Edit) → (again : Again) → ((first : List Edit) → (q : Parser) → (t : Token) → Extends first q.page.edits
     → Extends first (again q t).page.edits) → (token : Token) → (p : Parser) → Extends first p.page.edits → Extends first
     (in_current_mode again token p).page.edits
 grows-in_current_mode first again h-again token p h = grows-in_html_content first again h-again p.mode token p h
 
-pub grows-dispatched : (first : List Edit) → (again : Again) → ((first : List Edit) (q : Parser) (t : Token) → Extends first q.page.edits
+pub grows-dispatched : (first : List Edit) → (again : Again) → ((first : List Edit) → (q : Parser) → (t : Token) → Extends first q.page.edits
     → Extends first (again q t).page.edits) → (token : Token) → (p : Parser) → Extends first p.page.edits → Extends first
     (dispatched again token p).page.edits
 grows-dispatched first again h-again token p h = grows-if-parser first (takes_as_html (adjusted_kind p.options.context p.page.opened) token)

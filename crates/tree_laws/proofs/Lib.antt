@@ -8,3 +8,5 @@ pub mod NumbersOfAdoption
 pub mod NumbersOfPointers
 pub mod NumbersSteps
 pub mod Asking
+pub mod Calm
+pub mod CalmSteps

@@ -1,13 +1,14 @@
 -- Each step of tree construction makes numbers in their order, and names those that were made. By `python3 tools/gen/parser_laws.py`, and not by hand; the steps that it rests on are in Numbers.
-use Rattle.std.proofs.Common.{◌≡◌, ℕ, Bool, true, false, List, [], ◌∷◌, ◌++◌}
-use Rattle.std.specs.Prelude.{suc, zero, ◌+◌, ◌==◌, ◌&&◌, ◌||◌, not, length, map, Option, Some, None, codes, if◌then◌else◌}
+use Rattle.std.proofs.Common.{◌≡◌, ℕ, Bool, true, false, List, [], ◌∷◌, ◌++◌, refl, sym}
+use Rattle.std.proofs.lemmas.Bool.{false≢true}
+use Rattle.std.specs.Prelude.{suc, zero, ◌+◌, ◌==◌, ◌&&◌, ◌||◌, not, length, map, take, drop, Option, Some, None, codes, if◌then◌else◌}
 use Rattle.tree_laws.specs.Laws.{Extends}
 use Rattle.html5ever_interface.specs.Token.{DoctypeOf, Told}
 use Rattle.html5ever_interface.specs.declared.states.RawKind.{RawKind}
 use Rattle.html5ever_interface.specs.declared.states.RawKind.TheVariants.{Rawtext, Rcdata, ScriptData}
 use Rattle.markup5ever.specs.Names.{AttributeOf}
 use Rattle.tree_construction.specs.Adoption.{adoption_agency, any_other_end_tag, end_of, ended_by, is_unlisted, outer_loop}
-use Rattle.tree_construction.specs.AfterBody.{after_after_body, after_after_frameset, after_body, after_body_end, after_body_start, after_frameset, after_frameset_end, after_frameset_start, frameset_closed, frameset_end, frameset_start, in_body_again, in_frameset, in_template, in_template_mode, is_root, template_end, template_start}
+use Rattle.tree_construction.specs.AfterBody.{after_after_body, after_after_frameset, after_body, after_body_end, after_body_start, after_frameset, after_frameset_end, after_frameset_start, frameset_closed, frameset_end, frameset_start, has_only_root, in_body_again, in_frameset, in_template, in_template_mode, template_end, template_start}
 use Rattle.tree_construction.specs.BeforeBody.{add_to_root, after_head, after_head_end, after_head_other, after_head_start, asks_content, asks_encoding, back, before_head, before_head_other, before_head_start, before_html, before_html_other, before_html_start, current_number, end_template, ends_early, in_head, in_head_end, in_head_noscript, in_head_noscript_start, in_head_other, in_head_start, initial, initial_doctype, initial_other, insert_body, insert_head, is_content_type, mark_current, noscript_end, noscript_other, noscript_start, put_doctype, set_quirks_mode, start_after_head, start_html, start_in_head, start_meta, start_script, start_template, template_closed, text_end, text_end_of_file, text_mode, with_root, without_template_mode}
 use Rattle.tree_construction.specs.Construction.{dispatched, enough, expects_acknowledged, in_current_mode, in_html_content, is_ignored_newline, is_self_closing, process, run, step, taken, takes_as_html, told, told_all}
 use Rattle.tree_construction.specs.Doctypes.{is_allowed, quirks_mode_of}
@@ -129,14 +130,14 @@ numbers-initial_doctype k doctype p h = let put : Parser = put_doctype doctype
     (quirks_mode_of doctype) put)) (numbers-if-parser k (p.options.iframe_srcdoc) put (set_quirks_mode (quirks_mode_of doctype) put) h-put
     (numbers-set_quirks_mode k (quirks_mode_of doctype) put h-put))
 
-pub numbers-initial_other : (k : ℕ) → (again : Again) → ((k : ℕ) (q : Parser) (t : Token) → Numbers k q → Numbers k (again q t)) → (token : Token) →
-    (p : Parser) → Numbers k p → Numbers k (initial_other again token p)
+pub numbers-initial_other : (k : ℕ) → (again : Again) → ((k : ℕ) → (q : Parser) → (t : Token) → Numbers k q → Numbers k (again q t)) →
+    (token : Token) → (p : Parser) → Numbers k p → Numbers k (initial_other again token p)
 numbers-initial_other k again h-again token p h = h-again k ((in_mode BeforeHtml (if p.options.iframe_srcdoc then p else set_quirks_mode Quirks
     (mistaken MissingDoctype p)))) token (numbers-in_mode k BeforeHtml ((if p.options.iframe_srcdoc then p else set_quirks_mode Quirks
     (mistaken MissingDoctype p))) (numbers-if-parser k (p.options.iframe_srcdoc) p (set_quirks_mode Quirks (mistaken MissingDoctype p)) h
     (numbers-set_quirks_mode k Quirks (mistaken MissingDoctype p) (numbers-mistaken k MissingDoctype p h))))
 
-pub numbers-initial : (k : ℕ) → (again : Again) → ((k : ℕ) (q : Parser) (t : Token) → Numbers k q → Numbers k (again q t)) → (c : Token) →
+pub numbers-initial : (k : ℕ) → (again : Again) → ((k : ℕ) → (q : Parser) → (t : Token) → Numbers k q → Numbers k (again q t)) → (c : Token) →
     (p : Parser) → Numbers k p → Numbers k (initial again c p)
 numbers-initial k again h-again (Character c) p h = numbers-if-parser k (is_space c) p (initial_other again (Character c) p) h
     (numbers-initial_other k again h-again (Character c) p h)
@@ -144,19 +145,19 @@ numbers-initial k again h-again (Comment text) p h = numbers-insert_comment_in_d
 numbers-initial k again h-again (Doctype doctype) p h = numbers-initial_doctype k doctype p h
 numbers-initial k again h-again token p h = numbers-initial_other k again h-again token p h
 
-pub numbers-before_html_other : (k : ℕ) → (again : Again) → ((k : ℕ) (q : Parser) (t : Token) → Numbers k q → Numbers k (again q t)) →
+pub numbers-before_html_other : (k : ℕ) → (again : Again) → ((k : ℕ) → (q : Parser) → (t : Token) → Numbers k q → Numbers k (again q t)) →
     (token : Token) → (p : Parser) → Numbers k p → Numbers k (before_html_other again token p)
 numbers-before_html_other k again h-again token p h = h-again k ((in_mode BeforeHead (with_root [] p))) token (numbers-in_mode k BeforeHead
     (with_root [] p) (numbers-with_root k [] p h))
 
-pub numbers-before_html_start : (k : ℕ) → (again : Again) → ((k : ℕ) (q : Parser) (t : Token) → Numbers k q → Numbers k (again q t)) →
+pub numbers-before_html_start : (k : ℕ) → (again : Again) → ((k : ℕ) → (q : Parser) → (t : Token) → Numbers k q → Numbers k (again q t)) →
     (other : Kind) → (tag : StartTagOf) → (p : Parser) → Numbers k p → Numbers k (before_html_start again other tag p)
 numbers-before_html_start k again h-again HtmlRoot tag p h = numbers-in_mode k BeforeHead (with_root tag.attributes p)
     (numbers-with_root k tag.attributes p h)
 numbers-before_html_start k again h-again other tag p h = numbers-before_html_other k again h-again (StartTag tag) p h
 
-pub numbers-before_html : (k : ℕ) → (again : Again) → ((k : ℕ) (q : Parser) (t : Token) → Numbers k q → Numbers k (again q t)) → (doctype : Token) →
-    (p : Parser) → Numbers k p → Numbers k (before_html again doctype p)
+pub numbers-before_html : (k : ℕ) → (again : Again) → ((k : ℕ) → (q : Parser) → (t : Token) → Numbers k q → Numbers k (again q t)) →
+    (doctype : Token) → (p : Parser) → Numbers k p → Numbers k (before_html again doctype p)
 numbers-before_html k again h-again (Doctype doctype) p h = numbers-unexpected k p h
 numbers-before_html k again h-again (Comment text) p h = numbers-insert_comment_in_document k text p h
 numbers-before_html k again h-again (Character c) p h = numbers-if-parser k (is_space c) p (before_html_other again (Character c) p) h
@@ -170,18 +171,18 @@ pub numbers-start_html : (k : ℕ) → (tag : StartTagOf) → (p : Parser) → N
 numbers-start_html k tag p h = numbers-if-parser k (has_template p) (unexpected p) (add_to_root tag (unexpected p)) (numbers-unexpected k p h)
     (numbers-add_to_root k tag (unexpected p) (numbers-unexpected k p h))
 
-pub numbers-before_head_other : (k : ℕ) → (again : Again) → ((k : ℕ) (q : Parser) (t : Token) → Numbers k q → Numbers k (again q t)) →
+pub numbers-before_head_other : (k : ℕ) → (again : Again) → ((k : ℕ) → (q : Parser) → (t : Token) → Numbers k q → Numbers k (again q t)) →
     (token : Token) → (p : Parser) → Numbers k p → Numbers k (before_head_other again token p)
 numbers-before_head_other k again h-again token p h = h-again k ((insert_head (bare_tag (codes "head")) p)) token (numbers-insert_head k ((bare_tag
     (codes "head"))) p h)
 
-pub numbers-before_head_start : (k : ℕ) → (again : Again) → ((k : ℕ) (q : Parser) (t : Token) → Numbers k q → Numbers k (again q t)) →
+pub numbers-before_head_start : (k : ℕ) → (again : Again) → ((k : ℕ) → (q : Parser) → (t : Token) → Numbers k q → Numbers k (again q t)) →
     (other : Kind) → (tag : StartTagOf) → (p : Parser) → Numbers k p → Numbers k (before_head_start again other tag p)
 numbers-before_head_start k again h-again HtmlRoot tag p h = numbers-start_html k tag p h
 numbers-before_head_start k again h-again Head tag p h = numbers-insert_head k tag p h
 numbers-before_head_start k again h-again other tag p h = numbers-before_head_other k again h-again (StartTag tag) p h
 
-pub numbers-before_head : (k : ℕ) → (again : Again) → ((k : ℕ) (q : Parser) (t : Token) → Numbers k q → Numbers k (again q t)) → (c : Token) →
+pub numbers-before_head : (k : ℕ) → (again : Again) → ((k : ℕ) → (q : Parser) → (t : Token) → Numbers k q → Numbers k (again q t)) → (c : Token) →
     (p : Parser) → Numbers k p → Numbers k (before_head again c p)
 numbers-before_head k again h-again (Character c) p h = numbers-if-parser k (is_space c) p (before_head_other again (Character c) p) h
     (numbers-before_head_other k again h-again (Character c) p h)
@@ -234,8 +235,8 @@ numbers-start_in_head k Script tag p h = numbers-start_script k tag p h
 numbers-start_in_head k Template tag p h = numbers-start_template k tag p h
 numbers-start_in_head k other tag p h = numbers-insert_void k tag p h
 
-pub numbers-in_head_other : (k : ℕ) → (again : Again) → ((k : ℕ) (q : Parser) (t : Token) → Numbers k q → Numbers k (again q t)) → (token : Token) →
-    (p : Parser) → Numbers k p → Numbers k (in_head_other again token p)
+pub numbers-in_head_other : (k : ℕ) → (again : Again) → ((k : ℕ) → (q : Parser) → (t : Token) → Numbers k q → Numbers k (again q t)) →
+    (token : Token) → (p : Parser) → Numbers k p → Numbers k (in_head_other again token p)
 numbers-in_head_other k again h-again token p h = h-again k ((in_mode AfterHead (pop p))) token (numbers-in_mode k AfterHead (pop p)
     (numbers-pop k p h))
 
@@ -243,8 +244,8 @@ pub numbers-in_head_noscript_start : (k : ℕ) → (tag : StartTagOf) → (p : P
 numbers-in_head_noscript_start k tag p h = numbers-if-parser k (p.options.scripting) (insert_with_text Rawtext tag p) (in_mode InHeadNoscript
     (insert tag p)) (numbers-insert_with_text k Rawtext tag p h) (numbers-in_mode k InHeadNoscript (insert tag p) (numbers-insert k tag p h))
 
-pub numbers-in_head_start : (k : ℕ) → (again : Again) → ((k : ℕ) (q : Parser) (t : Token) → Numbers k q → Numbers k (again q t)) → (other : Kind) →
-    (tag : StartTagOf) → (p : Parser) → Numbers k p → Numbers k (in_head_start again other tag p)
+pub numbers-in_head_start : (k : ℕ) → (again : Again) → ((k : ℕ) → (q : Parser) → (t : Token) → Numbers k q → Numbers k (again q t)) →
+    (other : Kind) → (tag : StartTagOf) → (p : Parser) → Numbers k p → Numbers k (in_head_start again other tag p)
 numbers-in_head_start k again h-again HtmlRoot tag p h = numbers-start_html k tag p h
 numbers-in_head_start k again h-again Head tag p h = numbers-unexpected k p h
 numbers-in_head_start k again h-again Noscript tag p h = numbers-in_head_noscript_start k tag p h
@@ -258,8 +259,8 @@ numbers-in_head_start k again h-again Script tag p h = numbers-start_in_head k S
 numbers-in_head_start k again h-again Template tag p h = numbers-start_in_head k Template tag p h
 numbers-in_head_start k again h-again other tag p h = numbers-in_head_other k again h-again (StartTag tag) p h
 
-pub numbers-in_head_end : (k : ℕ) → (again : Again) → ((k : ℕ) (q : Parser) (t : Token) → Numbers k q → Numbers k (again q t)) → (other : Kind) →
-    (name : List ℕ) → (p : Parser) → Numbers k p → Numbers k (in_head_end again other name p)
+pub numbers-in_head_end : (k : ℕ) → (again : Again) → ((k : ℕ) → (q : Parser) → (t : Token) → Numbers k q → Numbers k (again q t)) → (other : Kind)
+    → (name : List ℕ) → (p : Parser) → Numbers k p → Numbers k (in_head_end again other name p)
 numbers-in_head_end k again h-again Head name p h = numbers-in_mode k AfterHead (pop p) (numbers-pop k p h)
 numbers-in_head_end k again h-again Body name p h = numbers-in_head_other k again h-again (EndTag name) p h
 numbers-in_head_end k again h-again HtmlRoot name p h = numbers-in_head_other k again h-again (EndTag name) p h
@@ -267,7 +268,7 @@ numbers-in_head_end k again h-again LineBreak name p h = numbers-in_head_other k
 numbers-in_head_end k again h-again Template name p h = numbers-end_template k p h
 numbers-in_head_end k again h-again other name p h = numbers-unexpected k p h
 
-pub numbers-in_head : (k : ℕ) → (again : Again) → ((k : ℕ) (q : Parser) (t : Token) → Numbers k q → Numbers k (again q t)) → (c : Token) →
+pub numbers-in_head : (k : ℕ) → (again : Again) → ((k : ℕ) → (q : Parser) → (t : Token) → Numbers k q → Numbers k (again q t)) → (c : Token) →
     (p : Parser) → Numbers k p → Numbers k (in_head again c p)
 numbers-in_head k again h-again (Character c) p h = numbers-if-parser k (is_space c) (insert_character c p) (in_head_other again (Character c) p)
     (numbers-insert_character k c p h) (numbers-in_head_other k again h-again (Character c) p h)
@@ -277,13 +278,13 @@ numbers-in_head k again h-again (StartTag tag) p h = numbers-in_head_start k aga
 numbers-in_head k again h-again (EndTag name) p h = numbers-in_head_end k again h-again (kind_of name) name p h
 numbers-in_head k again h-again EndOfFile p h = numbers-in_head_other k again h-again EndOfFile p h
 
-pub numbers-noscript_other : (k : ℕ) → (again : Again) → ((k : ℕ) (q : Parser) (t : Token) → Numbers k q → Numbers k (again q t)) → (token : Token)
-    → (p : Parser) → Numbers k p → Numbers k (noscript_other again token p)
+pub numbers-noscript_other : (k : ℕ) → (again : Again) → ((k : ℕ) → (q : Parser) → (t : Token) → Numbers k q → Numbers k (again q t)) →
+    (token : Token) → (p : Parser) → Numbers k p → Numbers k (noscript_other again token p)
 numbers-noscript_other k again h-again token p h = h-again k ((in_mode InHead (pop (unexpected p)))) token (numbers-in_mode k InHead ((pop
     (unexpected p))) (numbers-pop k (unexpected p) (numbers-unexpected k p h)))
 
-pub numbers-noscript_start : (k : ℕ) → (again : Again) → ((k : ℕ) (q : Parser) (t : Token) → Numbers k q → Numbers k (again q t)) → (other : Kind) →
-    (tag : StartTagOf) → (p : Parser) → Numbers k p → Numbers k (noscript_start again other tag p)
+pub numbers-noscript_start : (k : ℕ) → (again : Again) → ((k : ℕ) → (q : Parser) → (t : Token) → Numbers k q → Numbers k (again q t)) →
+    (other : Kind) → (tag : StartTagOf) → (p : Parser) → Numbers k p → Numbers k (noscript_start again other tag p)
 numbers-noscript_start k again h-again HtmlRoot tag p h = numbers-start_html k tag p h
 numbers-noscript_start k again h-again Link tag p h = numbers-start_in_head k Link tag p h
 numbers-noscript_start k again h-again Meta tag p h = numbers-start_in_head k Meta tag p h
@@ -293,13 +294,13 @@ numbers-noscript_start k again h-again Head tag p h = numbers-unexpected k p h
 numbers-noscript_start k again h-again Noscript tag p h = numbers-unexpected k p h
 numbers-noscript_start k again h-again other tag p h = numbers-noscript_other k again h-again (StartTag tag) p h
 
-pub numbers-noscript_end : (k : ℕ) → (again : Again) → ((k : ℕ) (q : Parser) (t : Token) → Numbers k q → Numbers k (again q t)) → (other : Kind) →
-    (name : List ℕ) → (p : Parser) → Numbers k p → Numbers k (noscript_end again other name p)
+pub numbers-noscript_end : (k : ℕ) → (again : Again) → ((k : ℕ) → (q : Parser) → (t : Token) → Numbers k q → Numbers k (again q t)) → (other : Kind)
+    → (name : List ℕ) → (p : Parser) → Numbers k p → Numbers k (noscript_end again other name p)
 numbers-noscript_end k again h-again Noscript name p h = numbers-in_mode k InHead (pop p) (numbers-pop k p h)
 numbers-noscript_end k again h-again LineBreak name p h = numbers-noscript_other k again h-again (EndTag name) p h
 numbers-noscript_end k again h-again other name p h = numbers-unexpected k p h
 
-pub numbers-in_head_noscript : (k : ℕ) → (again : Again) → ((k : ℕ) (q : Parser) (t : Token) → Numbers k q → Numbers k (again q t)) →
+pub numbers-in_head_noscript : (k : ℕ) → (again : Again) → ((k : ℕ) → (q : Parser) → (t : Token) → Numbers k q → Numbers k (again q t)) →
     (doctype : Token) → (p : Parser) → Numbers k p → Numbers k (in_head_noscript again doctype p)
 numbers-in_head_noscript k again h-again (Doctype doctype) p h = numbers-unexpected k p h
 numbers-in_head_noscript k again h-again (StartTag tag) p h = numbers-noscript_start k again h-again (kind_of tag.name) tag p h
@@ -312,7 +313,7 @@ numbers-in_head_noscript k again h-again EndOfFile p h = numbers-noscript_other 
 pub numbers-insert_body : (k : ℕ) → (tag : StartTagOf) → (p : Parser) → Numbers k p → Numbers k (insert_body tag p)
 numbers-insert_body k tag p h = numbers-in_mode k InBody (insert tag p) (numbers-insert k tag p h)
 
-pub numbers-after_head_other : (k : ℕ) → (again : Again) → ((k : ℕ) (q : Parser) (t : Token) → Numbers k q → Numbers k (again q t)) →
+pub numbers-after_head_other : (k : ℕ) → (again : Again) → ((k : ℕ) → (q : Parser) → (t : Token) → Numbers k q → Numbers k (again q t)) →
     (token : Token) → (p : Parser) → Numbers k p → Numbers k (after_head_other again token p)
 numbers-after_head_other k again h-again token p h = h-again k ((insert_body (bare_tag (codes "body")) p)) token (numbers-insert_body k ((bare_tag
     (codes "body"))) p h)
@@ -321,8 +322,8 @@ pub numbers-start_after_head : (k : ℕ) → (kind : Kind) → (tag : StartTagOf
 numbers-start_after_head k kind tag p h = numbers-within_head k (start_in_head kind tag) (λ k. numbers-start_in_head k kind tag) (unexpected p)
     (numbers-unexpected k p h)
 
-pub numbers-after_head_start : (k : ℕ) → (again : Again) → ((k : ℕ) (q : Parser) (t : Token) → Numbers k q → Numbers k (again q t)) → (other : Kind)
-    → (tag : StartTagOf) → (p : Parser) → Numbers k p → Numbers k (after_head_start again other tag p)
+pub numbers-after_head_start : (k : ℕ) → (again : Again) → ((k : ℕ) → (q : Parser) → (t : Token) → Numbers k q → Numbers k (again q t)) →
+    (other : Kind) → (tag : StartTagOf) → (p : Parser) → Numbers k p → Numbers k (after_head_start again other tag p)
 numbers-after_head_start k again h-again HtmlRoot tag p h = numbers-start_html k tag p h
 numbers-after_head_start k again h-again Body tag p h = numbers-not_frameset_ok k (insert_body tag p) (numbers-insert_body k tag p h)
 numbers-after_head_start k again h-again Frameset tag p h = numbers-in_mode k InFrameset (insert tag p) (numbers-insert k tag p h)
@@ -337,15 +338,15 @@ numbers-after_head_start k again h-again Title tag p h = numbers-start_after_hea
 numbers-after_head_start k again h-again Head tag p h = numbers-unexpected k p h
 numbers-after_head_start k again h-again other tag p h = numbers-after_head_other k again h-again (StartTag tag) p h
 
-pub numbers-after_head_end : (k : ℕ) → (again : Again) → ((k : ℕ) (q : Parser) (t : Token) → Numbers k q → Numbers k (again q t)) → (other : Kind) →
-    (name : List ℕ) → (p : Parser) → Numbers k p → Numbers k (after_head_end again other name p)
+pub numbers-after_head_end : (k : ℕ) → (again : Again) → ((k : ℕ) → (q : Parser) → (t : Token) → Numbers k q → Numbers k (again q t)) →
+    (other : Kind) → (name : List ℕ) → (p : Parser) → Numbers k p → Numbers k (after_head_end again other name p)
 numbers-after_head_end k again h-again Template name p h = numbers-end_template k p h
 numbers-after_head_end k again h-again Body name p h = numbers-after_head_other k again h-again (EndTag name) p h
 numbers-after_head_end k again h-again HtmlRoot name p h = numbers-after_head_other k again h-again (EndTag name) p h
 numbers-after_head_end k again h-again LineBreak name p h = numbers-after_head_other k again h-again (EndTag name) p h
 numbers-after_head_end k again h-again other name p h = numbers-unexpected k p h
 
-pub numbers-after_head : (k : ℕ) → (again : Again) → ((k : ℕ) (q : Parser) (t : Token) → Numbers k q → Numbers k (again q t)) → (c : Token) →
+pub numbers-after_head : (k : ℕ) → (again : Again) → ((k : ℕ) → (q : Parser) → (t : Token) → Numbers k q → Numbers k (again q t)) → (c : Token) →
     (p : Parser) → Numbers k p → Numbers k (after_head again c p)
 numbers-after_head k again h-again (Character c) p h = numbers-if-parser k (is_space c) (insert_character c p) (after_head_other again
     (Character c) p) (numbers-insert_character k c p h) (numbers-after_head_other k again h-again (Character c) p h)
@@ -362,11 +363,11 @@ pub numbers-text_end : (k : ℕ) → (other : Kind) → (p : Parser) → Numbers
 numbers-text_end k Script p h = numbers-asked k ((Run (current_number p.page.opened))) (back p) (numbers-back k p h)
 numbers-text_end k other p h = numbers-back k p h
 
-pub numbers-text_end_of_file : (k : ℕ) → (again : Again) → ((k : ℕ) (q : Parser) (t : Token) → Numbers k q → Numbers k (again q t)) → (p : Parser)
-    → Numbers k p → Numbers k (text_end_of_file again p)
+pub numbers-text_end_of_file : (k : ℕ) → (again : Again) → ((k : ℕ) → (q : Parser) → (t : Token) → Numbers k q → Numbers k (again q t)) →
+    (p : Parser) → Numbers k p → Numbers k (text_end_of_file again p)
 numbers-text_end_of_file k again h-again p h = let noted : Parser = mistaken UnclosedAtEnd p in let h-noted : Numbers k noted = numbers-mistaken k UnclosedAtEnd p h in h-again k ((back (if is_current is_script p then mark_current noted else noted))) EndOfFile (numbers-back k (if is_current is_script p then mark_current noted else noted) (numbers-if-parser k (is_current is_script p) (mark_current noted) noted (numbers-mark_current k noted h-noted) h-noted))
 
-pub numbers-text_mode : (k : ℕ) → (again : Again) → ((k : ℕ) (q : Parser) (t : Token) → Numbers k q → Numbers k (again q t)) → (c : Token) →
+pub numbers-text_mode : (k : ℕ) → (again : Again) → ((k : ℕ) → (q : Parser) → (t : Token) → Numbers k q → Numbers k (again q t)) → (c : Token) →
     (p : Parser) → Numbers k p → Numbers k (text_mode again c p)
 numbers-text_mode k again h-again (Character c) p h = numbers-insert_character k c p h
 numbers-text_mode k again h-again (EndTag name) p h = numbers-text_end k (kind_of name) p h
@@ -394,22 +395,22 @@ pub numbers-expects_closed : (k : ℕ) → (p : Parser) → Numbers k p → Numb
 numbers-expects_closed k p h = numbers-if-parser k (has_open (λ e. not (may_stay_open e.kind)) p.page.opened) (mistaken UnclosedElements p) p
     (numbers-mistaken k UnclosedElements p h) h
 
-pub numbers-end_of_file_in_template : (k : ℕ) → (again : Again) → ((k : ℕ) (q : Parser) (t : Token) → Numbers k q → Numbers k (again q t)) →
+pub numbers-end_of_file_in_template : (k : ℕ) → (again : Again) → ((k : ℕ) → (q : Parser) → (t : Token) → Numbers k q → Numbers k (again q t)) →
     (p : Parser) → Numbers k p → Numbers k (end_of_file_in_template again p)
 numbers-end_of_file_in_template k again h-again p h = numbers-if-parser k (has_template p) (again (template_closed
     (mistaken UnclosedAtEnd p)) EndOfFile) (stop_parsing p) (h-again k ((template_closed (mistaken UnclosedAtEnd p))) EndOfFile
     (numbers-template_closed k (mistaken UnclosedAtEnd p) (numbers-mistaken k UnclosedAtEnd p h))) (numbers-stop_parsing k p h)
 
-pub numbers-end_of_file_by : (k : ℕ) → (again : Again) → ((k : ℕ) (q : Parser) (t : Token) → Numbers k q → Numbers k (again q t)) →
+pub numbers-end_of_file_by : (k : ℕ) → (again : Again) → ((k : ℕ) → (q : Parser) → (t : Token) → Numbers k q → Numbers k (again q t)) →
     (mode : List Mode) → (p : Parser) → Numbers k p → Numbers k (end_of_file_by again mode p)
 numbers-end_of_file_by k again h-again [] p h = numbers-stop_parsing k (expects_closed p) (numbers-expects_closed k p h)
 numbers-end_of_file_by k again h-again (mode ∷ modes) p h = numbers-end_of_file_in_template k again h-again p h
 
-pub numbers-end_of_file_in_body : (k : ℕ) → (again : Again) → ((k : ℕ) (q : Parser) (t : Token) → Numbers k q → Numbers k (again q t)) →
+pub numbers-end_of_file_in_body : (k : ℕ) → (again : Again) → ((k : ℕ) → (q : Parser) → (t : Token) → Numbers k q → Numbers k (again q t)) →
     (p : Parser) → Numbers k p → Numbers k (end_of_file_in_body again p)
 numbers-end_of_file_in_body k again h-again p h = numbers-end_of_file_by k again h-again p.template_modes p h
 
-pub numbers-end_body : (k : ℕ) → (after : (Parser → Parser)) → ((k : ℕ) (q : Parser) → Numbers k q → Numbers k (after q)) → (p : Parser)
+pub numbers-end_body : (k : ℕ) → (after : (Parser → Parser)) → ((k : ℕ) → (q : Parser) → Numbers k q → Numbers k (after q)) → (p : Parser)
     → Numbers k p → Numbers k (end_body after p)
 numbers-end_body k after h-after p h = numbers-if-parser k (in_scope (has_kind is_body) p) (after (in_mode AfterBody (expects_closed p)))
     (unexpected p) (h-after k ((in_mode AfterBody (expects_closed p))) (numbers-in_mode k AfterBody (expects_closed p)
@@ -567,8 +568,8 @@ pub numbers-start_noscript : (k : ℕ) → (tag : StartTagOf) → (p : Parser) �
 numbers-start_noscript k tag p h = numbers-if-parser k (p.options.scripting) (insert_with_text Rawtext tag p) (any_other_start_tag tag p)
     (numbers-insert_with_text k Rawtext tag p h) (numbers-any_other_start_tag k tag p h)
 
-pub numbers-start_in_body : (k : ℕ) → (again : Again) → ((k : ℕ) (q : Parser) (t : Token) → Numbers k q → Numbers k (again q t)) → (other : Kind) →
-    (tag : StartTagOf) → (p : Parser) → Numbers k p → Numbers k (start_in_body again other tag p)
+pub numbers-start_in_body : (k : ℕ) → (again : Again) → ((k : ℕ) → (q : Parser) → (t : Token) → Numbers k q → Numbers k (again q t)) →
+    (other : Kind) → (tag : StartTagOf) → (p : Parser) → Numbers k p → Numbers k (start_in_body again other tag p)
 numbers-start_in_body k again h-again HtmlRoot tag p h = numbers-start_html k tag p h
 numbers-start_in_body k again h-again Base tag p h = numbers-start_in_head k Base tag p h
 numbers-start_in_body k again h-again Link tag p h = numbers-start_in_head k Link tag p h
@@ -635,8 +636,8 @@ numbers-start_in_body k again h-again Cell tag p h = numbers-unexpected k p h
 numbers-start_in_body k again h-again TableRow tag p h = numbers-unexpected k p h
 numbers-start_in_body k again h-again other tag p h = numbers-any_other_start_tag k tag p h
 
-pub numbers-end_in_body : (k : ℕ) → (again : Again) → ((k : ℕ) (q : Parser) (t : Token) → Numbers k q → Numbers k (again q t)) → (other : Kind) →
-    (name : List ℕ) → (p : Parser) → Numbers k p → Numbers k (end_in_body again other name p)
+pub numbers-end_in_body : (k : ℕ) → (again : Again) → ((k : ℕ) → (q : Parser) → (t : Token) → Numbers k q → Numbers k (again q t)) → (other : Kind)
+    → (name : List ℕ) → (p : Parser) → Numbers k p → Numbers k (end_in_body again other name p)
 numbers-end_in_body k again h-again Template name p h = numbers-end_template k p h
 numbers-end_in_body k again h-again Body name p h = numbers-end_body k (λ later. later) (λ k later h-later. h-later) p h
 numbers-end_in_body k again h-again HtmlRoot name p h = numbers-end_body k ((λ later. again later (EndTag name)))
@@ -665,7 +666,7 @@ numbers-end_in_body k again h-again Object name p h = numbers-end_marked k name 
 numbers-end_in_body k again h-again LineBreak name p h = numbers-start_void k ((bare_tag (codes "br"))) (unexpected p) (numbers-unexpected k p h)
 numbers-end_in_body k again h-again other name p h = numbers-any_other_end_tag k name p h
 
-pub numbers-in_body : (k : ℕ) → (again : Again) → ((k : ℕ) (q : Parser) (t : Token) → Numbers k q → Numbers k (again q t)) → (c : Token) →
+pub numbers-in_body : (k : ℕ) → (again : Again) → ((k : ℕ) → (q : Parser) → (t : Token) → Numbers k q → Numbers k (again q t)) → (c : Token) →
     (p : Parser) → Numbers k p → Numbers k (in_body again c p)
 numbers-in_body k again h-again (Character c) p h = numbers-character_in_body k c p h
 numbers-in_body k again h-again (Comment text) p h = numbers-insert_comment k text p h
@@ -674,19 +675,19 @@ numbers-in_body k again h-again (StartTag tag) p h = numbers-start_in_body k aga
 numbers-in_body k again h-again (EndTag name) p h = numbers-end_in_body k again h-again (kind_of name) name p h
 numbers-in_body k again h-again EndOfFile p h = numbers-end_of_file_in_body k again h-again p h
 
-pub numbers-fostered : (k : ℕ) → (change : (Parser → Parser)) → ((k : ℕ) (q : Parser) → Numbers k q → Numbers k (change q)) → (p : Parser)
+pub numbers-fostered : (k : ℕ) → (change : (Parser → Parser)) → ((k : ℕ) → (q : Parser) → Numbers k q → Numbers k (change q)) → (p : Parser)
     → Numbers k p → Numbers k (fostered change p)
 numbers-fostered k change h-change p h = h-change k ((record (unexpected p) { fostering = true })) (numbers-unexpected k p h)
 
-pub numbers-table_other : (k : ℕ) → (again : Again) → ((k : ℕ) (q : Parser) (t : Token) → Numbers k q → Numbers k (again q t)) → (token : Token) →
-    (p : Parser) → Numbers k p → Numbers k (table_other again token p)
+pub numbers-table_other : (k : ℕ) → (again : Again) → ((k : ℕ) → (q : Parser) → (t : Token) → Numbers k q → Numbers k (again q t)) → (token : Token)
+    → (p : Parser) → Numbers k p → Numbers k (table_other again token p)
 numbers-table_other k again h-again token p h = numbers-fostered k (in_body again token) (λ k. numbers-in_body k again h-again token) p h
 
-pub numbers-collects_text : (k : ℕ) → (again : Again) → ((k : ℕ) (q : Parser) (t : Token) → Numbers k q → Numbers k (again q t)) → (token : Token) →
-    (p : Parser) → Numbers k p → Numbers k (collects_text again token p)
+pub numbers-collects_text : (k : ℕ) → (again : Again) → ((k : ℕ) → (q : Parser) → (t : Token) → Numbers k q → Numbers k (again q t)) →
+    (token : Token) → (p : Parser) → Numbers k p → Numbers k (collects_text again token p)
 numbers-collects_text k again h-again token p h = h-again k (record p { pending = []; original_mode = p.mode; mode = InTableText }) token h
 
-pub numbers-table_character : (k : ℕ) → (again : Again) → ((k : ℕ) (q : Parser) (t : Token) → Numbers k q → Numbers k (again q t)) → (c : ℕ) →
+pub numbers-table_character : (k : ℕ) → (again : Again) → ((k : ℕ) → (q : Parser) → (t : Token) → Numbers k q → Numbers k (again q t)) → (c : ℕ) →
     (p : Parser) → Numbers k p → Numbers k (table_character again c p)
 numbers-table_character k again h-again c p h = numbers-if-parser k (is_current takes_table_text p) (collects_text again (Character c) p)
     (table_other again (Character c) p) (numbers-collects_text k again h-again (Character c) p h) (numbers-table_other k again h-again
@@ -702,8 +703,8 @@ pub numbers-start_form_in_table : (k : ℕ) → (tag : StartTagOf) → (p : Pars
 numbers-start_form_in_table k tag p h = numbers-if-parser k (has_template p) (unexpected p) (form_in_table p.form tag (unexpected p))
     (numbers-unexpected k p h) (numbers-form_in_table k p.form tag (unexpected p) (numbers-unexpected k p h))
 
-pub numbers-table_start : (k : ℕ) → (again : Again) → ((k : ℕ) (q : Parser) (t : Token) → Numbers k q → Numbers k (again q t)) → (other : Kind) →
-    (tag : StartTagOf) → (p : Parser) → Numbers k p → Numbers k (table_start again other tag p)
+pub numbers-table_start : (k : ℕ) → (again : Again) → ((k : ℕ) → (q : Parser) → (t : Token) → Numbers k q → Numbers k (again q t)) → (other : Kind)
+    → (tag : StartTagOf) → (p : Parser) → Numbers k p → Numbers k (table_start again other tag p)
 numbers-table_start k again h-again Caption tag p h = numbers-in_mode k InCaption ((insert tag (with_marker (to_table p)))) (numbers-insert k tag
     ((with_marker (to_table p))) (numbers-with_marker k (to_table p) (numbers-to_table k p h)))
 numbers-table_start k again h-again ColumnGroup tag p h = numbers-in_mode k InColumnGroup ((insert tag (to_table p))) (numbers-insert k tag
@@ -730,7 +731,7 @@ numbers-table_start k again h-again Input tag p h = numbers-if-parser k (is_hidd
 numbers-table_start k again h-again Form tag p h = numbers-start_form_in_table k tag p h
 numbers-table_start k again h-again other tag p h = numbers-table_other k again h-again (StartTag tag) p h
 
-pub numbers-table_end : (k : ℕ) → (again : Again) → ((k : ℕ) (q : Parser) (t : Token) → Numbers k q → Numbers k (again q t)) → (kind : Kind) →
+pub numbers-table_end : (k : ℕ) → (again : Again) → ((k : ℕ) → (q : Parser) → (t : Token) → Numbers k q → Numbers k (again q t)) → (kind : Kind) →
     (name : List ℕ) → (p : Parser) → Numbers k p → Numbers k (table_end again kind name p)
 numbers-table_end k again h-again Table name p h = numbers-if-parser k (in_table_scope (has_kind is_table) p) (without_table p) (unexpected p)
     (numbers-without_table k p h) (numbers-unexpected k p h)
@@ -738,7 +739,7 @@ numbers-table_end k again h-again Template name p h = numbers-end_template k p h
 numbers-table_end k again h-again kind name p h = numbers-if-parser k (is_ignored_in_table kind) (unexpected p) (table_other again (EndTag name) p)
     (numbers-unexpected k p h) (numbers-table_other k again h-again (EndTag name) p h)
 
-pub numbers-in_table : (k : ℕ) → (again : Again) → ((k : ℕ) (q : Parser) (t : Token) → Numbers k q → Numbers k (again q t)) → (c : Token) →
+pub numbers-in_table : (k : ℕ) → (again : Again) → ((k : ℕ) → (q : Parser) → (t : Token) → Numbers k q → Numbers k (again q t)) → (c : Token) →
     (p : Parser) → Numbers k p → Numbers k (in_table again c p)
 numbers-in_table k again h-again (Character c) p h = numbers-table_character k again h-again c p h
 numbers-in_table k again h-again (Comment text) p h = numbers-insert_comment k text p h
@@ -762,25 +763,25 @@ pub numbers-flushed : (k : ℕ) → (p : Parser) → Numbers k p → Numbers k (
 numbers-flushed k p h = numbers-if-parser k (is_all_space p.pending) (flushed_as_space p.pending p) (flushed_fostered p.pending p)
     (numbers-flushed_as_space k p.pending p h) (numbers-flushed_fostered k p.pending p h)
 
-pub numbers-table_text_other : (k : ℕ) → (again : Again) → ((k : ℕ) (q : Parser) (t : Token) → Numbers k q → Numbers k (again q t)) →
+pub numbers-table_text_other : (k : ℕ) → (again : Again) → ((k : ℕ) → (q : Parser) → (t : Token) → Numbers k q → Numbers k (again q t)) →
     (token : Token) → (p : Parser) → Numbers k p → Numbers k (table_text_other again token p)
 numbers-table_text_other k again h-again token p h = h-again k ((record (flushed p) { pending = []; mode = p.original_mode })) token
     (numbers-flushed k p h)
 
-pub numbers-in_table_text : (k : ℕ) → (again : Again) → ((k : ℕ) (q : Parser) (t : Token) → Numbers k q → Numbers k (again q t)) → (c : Token) →
+pub numbers-in_table_text : (k : ℕ) → (again : Again) → ((k : ℕ) → (q : Parser) → (t : Token) → Numbers k q → Numbers k (again q t)) → (c : Token) →
     (p : Parser) → Numbers k p → Numbers k (in_table_text again c p)
 numbers-in_table_text k again h-again (Character c) p h = numbers-if-parser k (is_null c) (unexpected p)
     (record p { pending = p.pending ++ c ∷ [] }) (numbers-unexpected k p h) h
 numbers-in_table_text k again h-again token p h = numbers-table_text_other k again h-again token p h
 
-pub numbers-without_caption : (k : ℕ) → (after : (Parser → Parser)) → ((k : ℕ) (q : Parser) → Numbers k q → Numbers k (after q)) → (p : Parser)
+pub numbers-without_caption : (k : ℕ) → (after : (Parser → Parser)) → ((k : ℕ) → (q : Parser) → Numbers k q → Numbers k (after q)) → (p : Parser)
     → Numbers k p → Numbers k (without_caption after p)
 numbers-without_caption k after h-after p h = numbers-if-parser k (in_table_scope (has_kind is_caption) p) (after (in_mode InTable
     (cleared_to_marker (ended (has_kind is_caption) p)))) (unexpected p) (h-after k ((in_mode InTable (cleared_to_marker (ended
     (has_kind is_caption) p)))) (numbers-in_mode k InTable ((cleared_to_marker (ended (has_kind is_caption) p))) (numbers-cleared_to_marker k
     ((ended (has_kind is_caption) p)) (numbers-ended k (has_kind is_caption) p h)))) (numbers-unexpected k p h)
 
-pub numbers-caption_end : (k : ℕ) → (again : Again) → ((k : ℕ) (q : Parser) (t : Token) → Numbers k q → Numbers k (again q t)) → (kind : Kind) →
+pub numbers-caption_end : (k : ℕ) → (again : Again) → ((k : ℕ) → (q : Parser) → (t : Token) → Numbers k q → Numbers k (again q t)) → (kind : Kind) →
     (name : List ℕ) → (p : Parser) → Numbers k p → Numbers k (caption_end again kind name p)
 numbers-caption_end k again h-again Caption name p h = numbers-without_caption k (λ later. later) (λ k later h-later. h-later) p h
 numbers-caption_end k again h-again Table name p h = numbers-without_caption k ((λ later. again later (EndTag name)))
@@ -788,7 +789,7 @@ numbers-caption_end k again h-again Table name p h = numbers-without_caption k (
 numbers-caption_end k again h-again kind name p h = numbers-if-parser k (is_ignored_in_table kind) (unexpected p) (in_body again (EndTag name) p)
     (numbers-unexpected k p h) (numbers-in_body k again h-again (EndTag name) p h)
 
-pub numbers-in_caption : (k : ℕ) → (again : Again) → ((k : ℕ) (q : Parser) (t : Token) → Numbers k q → Numbers k (again q t)) → (tag : Token) →
+pub numbers-in_caption : (k : ℕ) → (again : Again) → ((k : ℕ) → (q : Parser) → (t : Token) → Numbers k q → Numbers k (again q t)) → (tag : Token) →
     (p : Parser) → Numbers k p → Numbers k (in_caption again tag p)
 numbers-in_caption k again h-again (StartTag tag) p h = numbers-if-parser k (is_part (kind_of tag.name)) (without_caption (λ later. again later
     (StartTag tag)) p) (in_body again (StartTag tag) p) (numbers-without_caption k ((λ later. again later (StartTag tag)))
@@ -796,32 +797,32 @@ numbers-in_caption k again h-again (StartTag tag) p h = numbers-if-parser k (is_
 numbers-in_caption k again h-again (EndTag name) p h = numbers-caption_end k again h-again (kind_of name) name p h
 numbers-in_caption k again h-again token p h = numbers-in_body k again h-again token p h
 
-pub numbers-without_column_group : (k : ℕ) → (after : (Parser → Parser)) → ((k : ℕ) (q : Parser) → Numbers k q → Numbers k (after q)) → (p : Parser)
-    → Numbers k p → Numbers k (without_column_group after p)
+pub numbers-without_column_group : (k : ℕ) → (after : (Parser → Parser)) → ((k : ℕ) → (q : Parser) → Numbers k q → Numbers k (after q)) →
+    (p : Parser) → Numbers k p → Numbers k (without_column_group after p)
 numbers-without_column_group k after h-after p h = numbers-if-parser k (is_current is_column_group p) (after (in_mode InTable (pop p)))
     (unexpected p) (h-after k ((in_mode InTable (pop p))) (numbers-in_mode k InTable (pop p) (numbers-pop k p h))) (numbers-unexpected k p h)
 
-pub numbers-column_group_other : (k : ℕ) → (again : Again) → ((k : ℕ) (q : Parser) (t : Token) → Numbers k q → Numbers k (again q t)) →
+pub numbers-column_group_other : (k : ℕ) → (again : Again) → ((k : ℕ) → (q : Parser) → (t : Token) → Numbers k q → Numbers k (again q t)) →
     (token : Token) → (p : Parser) → Numbers k p → Numbers k (column_group_other again token p)
 numbers-column_group_other k again h-again token p h = numbers-without_column_group k (λ later. again later token)
     (λ k later h-later. h-again k later token h-later) p h
 
-pub numbers-column_group_start : (k : ℕ) → (again : Again) → ((k : ℕ) (q : Parser) (t : Token) → Numbers k q → Numbers k (again q t)) →
+pub numbers-column_group_start : (k : ℕ) → (again : Again) → ((k : ℕ) → (q : Parser) → (t : Token) → Numbers k q → Numbers k (again q t)) →
     (other : Kind) → (tag : StartTagOf) → (p : Parser) → Numbers k p → Numbers k (column_group_start again other tag p)
 numbers-column_group_start k again h-again HtmlRoot tag p h = numbers-start_html k tag p h
 numbers-column_group_start k again h-again Column tag p h = numbers-insert_void k tag p h
 numbers-column_group_start k again h-again Template tag p h = numbers-start_in_head k Template tag p h
 numbers-column_group_start k again h-again other tag p h = numbers-column_group_other k again h-again (StartTag tag) p h
 
-pub numbers-column_group_end : (k : ℕ) → (again : Again) → ((k : ℕ) (q : Parser) (t : Token) → Numbers k q → Numbers k (again q t)) → (other : Kind)
-    → (name : List ℕ) → (p : Parser) → Numbers k p → Numbers k (column_group_end again other name p)
+pub numbers-column_group_end : (k : ℕ) → (again : Again) → ((k : ℕ) → (q : Parser) → (t : Token) → Numbers k q → Numbers k (again q t)) →
+    (other : Kind) → (name : List ℕ) → (p : Parser) → Numbers k p → Numbers k (column_group_end again other name p)
 numbers-column_group_end k again h-again ColumnGroup name p h = numbers-without_column_group k (λ later. later) (λ k later h-later. h-later) p h
 numbers-column_group_end k again h-again Column name p h = numbers-unexpected k p h
 numbers-column_group_end k again h-again Template name p h = numbers-end_template k p h
 numbers-column_group_end k again h-again other name p h = numbers-column_group_other k again h-again (EndTag name) p h
 
-pub numbers-in_column_group : (k : ℕ) → (again : Again) → ((k : ℕ) (q : Parser) (t : Token) → Numbers k q → Numbers k (again q t)) → (c : Token) →
-    (p : Parser) → Numbers k p → Numbers k (in_column_group again c p)
+pub numbers-in_column_group : (k : ℕ) → (again : Again) → ((k : ℕ) → (q : Parser) → (t : Token) → Numbers k q → Numbers k (again q t)) → (c : Token)
+    → (p : Parser) → Numbers k p → Numbers k (in_column_group again c p)
 numbers-in_column_group k again h-again (Character c) p h = numbers-if-parser k (is_space c) (insert_character c p) (column_group_other again
     (Character c) p) (numbers-insert_character k c p h) (numbers-column_group_other k again h-again (Character c) p h)
 numbers-in_column_group k again h-again (Comment text) p h = numbers-insert_comment k text p h
@@ -833,18 +834,18 @@ numbers-in_column_group k again h-again EndOfFile p h = numbers-end_of_file_in_b
 pub numbers-to_body : (k : ℕ) → (p : Parser) → Numbers k p → Numbers k (to_body p)
 numbers-to_body k p h = numbers-cleared_back_to k is_body_context p h
 
-pub numbers-without_table_body : (k : ℕ) → (scoped : Bool) → (after : (Parser → Parser)) → ((k : ℕ) (q : Parser) → Numbers k q → Numbers k
+pub numbers-without_table_body : (k : ℕ) → (scoped : Bool) → (after : (Parser → Parser)) → ((k : ℕ) → (q : Parser) → Numbers k q → Numbers k
     (after q)) → (p : Parser) → Numbers k p → Numbers k (without_table_body scoped after p)
 numbers-without_table_body k scoped after h-after p h = numbers-if-parser k (scoped) (after (in_mode InTable (pop (to_body p)))) (unexpected p)
     (h-after k ((in_mode InTable (pop (to_body p)))) (numbers-in_mode k InTable ((pop (to_body p))) (numbers-pop k (to_body p)
     (numbers-to_body k p h)))) (numbers-unexpected k p h)
 
-pub numbers-without_any_body : (k : ℕ) → (after : (Parser → Parser)) → ((k : ℕ) (q : Parser) → Numbers k q → Numbers k (after q)) → (p : Parser)
+pub numbers-without_any_body : (k : ℕ) → (after : (Parser → Parser)) → ((k : ℕ) → (q : Parser) → Numbers k q → Numbers k (after q)) → (p : Parser)
     → Numbers k p → Numbers k (without_any_body after p)
 numbers-without_any_body k after h-after p h = numbers-without_table_body k ((in_table_scope (has_kind is_table_body) p)) after h-after p h
 
-pub numbers-table_body_start : (k : ℕ) → (again : Again) → ((k : ℕ) (q : Parser) (t : Token) → Numbers k q → Numbers k (again q t)) → (kind : Kind)
-    → (tag : StartTagOf) → (p : Parser) → Numbers k p → Numbers k (table_body_start again kind tag p)
+pub numbers-table_body_start : (k : ℕ) → (again : Again) → ((k : ℕ) → (q : Parser) → (t : Token) → Numbers k q → Numbers k (again q t)) →
+    (kind : Kind) → (tag : StartTagOf) → (p : Parser) → Numbers k p → Numbers k (table_body_start again kind tag p)
 numbers-table_body_start k again h-again TableRow tag p h = numbers-in_mode k InRow ((insert tag (to_body p))) (numbers-insert k tag (to_body p)
     (numbers-to_body k p h))
 numbers-table_body_start k again h-again Cell tag p h = h-again k ((in_mode InRow (insert (bare_tag (codes "tr")) (to_body (unexpected p)))))
@@ -854,16 +855,16 @@ numbers-table_body_start k again h-again kind tag p h = numbers-if-parser k (is_
     (StartTag tag)) p) (table_start again kind tag p) (numbers-without_any_body k ((λ later. again later (StartTag tag)))
     (λ k later h-later. h-again k later (StartTag tag) h-later) p h) (numbers-table_start k again h-again kind tag p h)
 
-pub numbers-table_body_end : (k : ℕ) → (again : Again) → ((k : ℕ) (q : Parser) (t : Token) → Numbers k q → Numbers k (again q t)) → (kind : Kind) →
-    (name : List ℕ) → (p : Parser) → Numbers k p → Numbers k (table_body_end again kind name p)
+pub numbers-table_body_end : (k : ℕ) → (again : Again) → ((k : ℕ) → (q : Parser) → (t : Token) → Numbers k q → Numbers k (again q t)) →
+    (kind : Kind) → (name : List ℕ) → (p : Parser) → Numbers k p → Numbers k (table_body_end again kind name p)
 numbers-table_body_end k again h-again TableBody name p h = numbers-without_table_body k ((in_table_scope (has_name name) p)) (λ later. later)
     (λ k later h-later. h-later) p h
 numbers-table_body_end k again h-again Table name p h = numbers-without_any_body k ((λ later. again later (EndTag name)))
     (λ k later h-later. h-again k later (EndTag name) h-later) p h
 numbers-table_body_end k again h-again kind name p h = numbers-table_end k again h-again kind name p h
 
-pub numbers-in_table_body : (k : ℕ) → (again : Again) → ((k : ℕ) (q : Parser) (t : Token) → Numbers k q → Numbers k (again q t)) → (tag : Token) →
-    (p : Parser) → Numbers k p → Numbers k (in_table_body again tag p)
+pub numbers-in_table_body : (k : ℕ) → (again : Again) → ((k : ℕ) → (q : Parser) → (t : Token) → Numbers k q → Numbers k (again q t)) → (tag : Token)
+    → (p : Parser) → Numbers k p → Numbers k (in_table_body again tag p)
 numbers-in_table_body k again h-again (StartTag tag) p h = numbers-table_body_start k again h-again (kind_of tag.name) tag p h
 numbers-in_table_body k again h-again (EndTag name) p h = numbers-table_body_end k again h-again (kind_of name) name p h
 numbers-in_table_body k again h-again token p h = numbers-in_table k again h-again token p h
@@ -871,13 +872,13 @@ numbers-in_table_body k again h-again token p h = numbers-in_table k again h-aga
 pub numbers-to_row : (k : ℕ) → (p : Parser) → Numbers k p → Numbers k (to_row p)
 numbers-to_row k p h = numbers-cleared_back_to k is_row_context p h
 
-pub numbers-without_row : (k : ℕ) → (after : (Parser → Parser)) → ((k : ℕ) (q : Parser) → Numbers k q → Numbers k (after q)) → (p : Parser)
+pub numbers-without_row : (k : ℕ) → (after : (Parser → Parser)) → ((k : ℕ) → (q : Parser) → Numbers k q → Numbers k (after q)) → (p : Parser)
     → Numbers k p → Numbers k (without_row after p)
 numbers-without_row k after h-after p h = numbers-if-parser k (in_table_scope (has_kind is_table_row) p) (after (in_mode InTableBody (pop
     (to_row p)))) (unexpected p) (h-after k ((in_mode InTableBody (pop (to_row p)))) (numbers-in_mode k InTableBody ((pop (to_row p)))
     (numbers-pop k (to_row p) (numbers-to_row k p h)))) (numbers-unexpected k p h)
 
-pub numbers-row_start : (k : ℕ) → (again : Again) → ((k : ℕ) (q : Parser) (t : Token) → Numbers k q → Numbers k (again q t)) → (kind : Kind) →
+pub numbers-row_start : (k : ℕ) → (again : Again) → ((k : ℕ) → (q : Parser) → (t : Token) → Numbers k q → Numbers k (again q t)) → (kind : Kind) →
     (tag : StartTagOf) → (p : Parser) → Numbers k p → Numbers k (row_start again kind tag p)
 numbers-row_start k again h-again Cell tag p h = numbers-with_marker k ((in_mode InCell (insert tag (to_row p)))) (numbers-in_mode k InCell
     ((insert tag (to_row p))) (numbers-insert k tag (to_row p) (numbers-to_row k p h)))
@@ -885,14 +886,14 @@ numbers-row_start k again h-again kind tag p h = numbers-if-parser k (is_part ki
     (table_start again kind tag p) (numbers-without_row k ((λ later. again later (StartTag tag))) (λ k later h-later. h-again k later
     (StartTag tag) h-later) p h) (numbers-table_start k again h-again kind tag p h)
 
-pub numbers-row_end_of_body : (k : ℕ) → (again : Again) → ((k : ℕ) (q : Parser) (t : Token) → Numbers k q → Numbers k (again q t)) → (name : List ℕ)
-    → (p : Parser) → Numbers k p → Numbers k (row_end_of_body again name p)
+pub numbers-row_end_of_body : (k : ℕ) → (again : Again) → ((k : ℕ) → (q : Parser) → (t : Token) → Numbers k q → Numbers k (again q t)) →
+    (name : List ℕ) → (p : Parser) → Numbers k p → Numbers k (row_end_of_body again name p)
 numbers-row_end_of_body k again h-again name p h = numbers-if-parser k (in_table_scope (has_name name) p) ((if in_table_scope
     (has_kind is_table_row) p then without_row (λ later. again later (EndTag name)) p else p)) (unexpected p) (numbers-if-parser k (in_table_scope
     (has_kind is_table_row) p) (without_row (λ later. again later (EndTag name)) p) p (numbers-without_row k ((λ later. again later (EndTag name)))
     (λ k later h-later. h-again k later (EndTag name) h-later) p h) h) (numbers-unexpected k p h)
 
-pub numbers-row_end : (k : ℕ) → (again : Again) → ((k : ℕ) (q : Parser) (t : Token) → Numbers k q → Numbers k (again q t)) → (kind : Kind) →
+pub numbers-row_end : (k : ℕ) → (again : Again) → ((k : ℕ) → (q : Parser) → (t : Token) → Numbers k q → Numbers k (again q t)) → (kind : Kind) →
     (name : List ℕ) → (p : Parser) → Numbers k p → Numbers k (row_end again kind name p)
 numbers-row_end k again h-again TableRow name p h = numbers-without_row k (λ later. later) (λ k later h-later. h-later) p h
 numbers-row_end k again h-again Table name p h = numbers-without_row k ((λ later. again later (EndTag name))) (λ k later h-later. h-again k later
@@ -900,7 +901,7 @@ numbers-row_end k again h-again Table name p h = numbers-without_row k ((λ late
 numbers-row_end k again h-again TableBody name p h = numbers-row_end_of_body k again h-again name p h
 numbers-row_end k again h-again kind name p h = numbers-table_end k again h-again kind name p h
 
-pub numbers-in_row : (k : ℕ) → (again : Again) → ((k : ℕ) (q : Parser) (t : Token) → Numbers k q → Numbers k (again q t)) → (tag : Token) →
+pub numbers-in_row : (k : ℕ) → (again : Again) → ((k : ℕ) → (q : Parser) → (t : Token) → Numbers k q → Numbers k (again q t)) → (tag : Token) →
     (p : Parser) → Numbers k p → Numbers k (in_row again tag p)
 numbers-in_row k again h-again (StartTag tag) p h = numbers-row_start k again h-again (kind_of tag.name) tag p h
 numbers-in_row k again h-again (EndTag name) p h = numbers-row_end k again h-again (kind_of name) name p h
@@ -915,12 +916,12 @@ numbers-end_cell k name p h = numbers-if-parser k (in_table_scope (has_name name
     (unexpected p) (numbers-in_mode k InRow ((cleared_to_marker (ended (has_name name) p))) (numbers-cleared_to_marker k ((ended (has_name name) p))
     (numbers-ended k (has_name name) p h))) (numbers-unexpected k p h)
 
-pub numbers-end_around_cell : (k : ℕ) → (again : Again) → ((k : ℕ) (q : Parser) (t : Token) → Numbers k q → Numbers k (again q t)) → (name : List ℕ)
-    → (p : Parser) → Numbers k p → Numbers k (end_around_cell again name p)
+pub numbers-end_around_cell : (k : ℕ) → (again : Again) → ((k : ℕ) → (q : Parser) → (t : Token) → Numbers k q → Numbers k (again q t)) →
+    (name : List ℕ) → (p : Parser) → Numbers k p → Numbers k (end_around_cell again name p)
 numbers-end_around_cell k again h-again name p h = numbers-if-parser k (in_table_scope (has_name name) p) (again (cell_closed p) (EndTag name))
     (unexpected p) (h-again k (cell_closed p) (EndTag name) (numbers-cell_closed k p h)) (numbers-unexpected k p h)
 
-pub numbers-cell_end : (k : ℕ) → (again : Again) → ((k : ℕ) (q : Parser) (t : Token) → Numbers k q → Numbers k (again q t)) → (kind : Kind) →
+pub numbers-cell_end : (k : ℕ) → (again : Again) → ((k : ℕ) → (q : Parser) → (t : Token) → Numbers k q → Numbers k (again q t)) → (kind : Kind) →
     (name : List ℕ) → (p : Parser) → Numbers k p → Numbers k (cell_end again kind name p)
 numbers-cell_end k again h-again Cell name p h = numbers-end_cell k name p h
 numbers-cell_end k again h-again Body name p h = numbers-unexpected k p h
@@ -933,7 +934,7 @@ numbers-cell_end k again h-again TableBody name p h = numbers-end_around_cell k 
 numbers-cell_end k again h-again TableRow name p h = numbers-end_around_cell k again h-again name p h
 numbers-cell_end k again h-again kind name p h = numbers-in_body k again h-again (EndTag name) p h
 
-pub numbers-in_cell : (k : ℕ) → (again : Again) → ((k : ℕ) (q : Parser) (t : Token) → Numbers k q → Numbers k (again q t)) → (tag : Token) →
+pub numbers-in_cell : (k : ℕ) → (again : Again) → ((k : ℕ) → (q : Parser) → (t : Token) → Numbers k q → Numbers k (again q t)) → (tag : Token) →
     (p : Parser) → Numbers k p → Numbers k (in_cell again tag p)
 numbers-in_cell k again h-again (StartTag tag) p h = numbers-if-parser k (is_part (kind_of tag.name)) (again (cell_closed p) (StartTag tag))
     (in_body again (StartTag tag) p) (h-again k (cell_closed p) (StartTag tag) (numbers-cell_closed k p h)) (numbers-in_body k again h-again
@@ -941,13 +942,13 @@ numbers-in_cell k again h-again (StartTag tag) p h = numbers-if-parser k (is_par
 numbers-in_cell k again h-again (EndTag name) p h = numbers-cell_end k again h-again (kind_of name) name p h
 numbers-in_cell k again h-again token p h = numbers-in_body k again h-again token p h
 
-pub numbers-in_template_mode : (k : ℕ) → (again : Again) → ((k : ℕ) (q : Parser) (t : Token) → Numbers k q → Numbers k (again q t)) → (mode : Mode)
-    → (tag : StartTagOf) → (p : Parser) → Numbers k p → Numbers k (in_template_mode again mode tag p)
+pub numbers-in_template_mode : (k : ℕ) → (again : Again) → ((k : ℕ) → (q : Parser) → (t : Token) → Numbers k q → Numbers k (again q t)) →
+    (mode : Mode) → (tag : StartTagOf) → (p : Parser) → Numbers k p → Numbers k (in_template_mode again mode tag p)
 numbers-in_template_mode k again h-again mode tag p h = h-again k
     (record p { template_modes = mode ∷ without_template_mode p.template_modes; mode = mode }) (StartTag tag) h
 
-pub numbers-template_start : (k : ℕ) → (again : Again) → ((k : ℕ) (q : Parser) (t : Token) → Numbers k q → Numbers k (again q t)) → (other : Kind) →
-    (tag : StartTagOf) → (p : Parser) → Numbers k p → Numbers k (template_start again other tag p)
+pub numbers-template_start : (k : ℕ) → (again : Again) → ((k : ℕ) → (q : Parser) → (t : Token) → Numbers k q → Numbers k (again q t)) →
+    (other : Kind) → (tag : StartTagOf) → (p : Parser) → Numbers k p → Numbers k (template_start again other tag p)
 numbers-template_start k again h-again Base tag p h = numbers-start_in_head k Base tag p h
 numbers-template_start k again h-again Link tag p h = numbers-start_in_head k Link tag p h
 numbers-template_start k again h-again Meta tag p h = numbers-start_in_head k Meta tag p h
@@ -968,30 +969,30 @@ pub numbers-template_end : (k : ℕ) → (other : Kind) → (p : Parser) → Num
 numbers-template_end k Template p h = numbers-end_template k p h
 numbers-template_end k other p h = numbers-unexpected k p h
 
-pub numbers-in_template : (k : ℕ) → (again : Again) → ((k : ℕ) (q : Parser) (t : Token) → Numbers k q → Numbers k (again q t)) → (tag : Token) →
+pub numbers-in_template : (k : ℕ) → (again : Again) → ((k : ℕ) → (q : Parser) → (t : Token) → Numbers k q → Numbers k (again q t)) → (tag : Token) →
     (p : Parser) → Numbers k p → Numbers k (in_template again tag p)
 numbers-in_template k again h-again (StartTag tag) p h = numbers-template_start k again h-again (kind_of tag.name) tag p h
 numbers-in_template k again h-again (EndTag name) p h = numbers-template_end k (kind_of name) p h
 numbers-in_template k again h-again EndOfFile p h = numbers-end_of_file_in_template k again h-again p h
 numbers-in_template k again h-again token p h = numbers-in_body k again h-again token p h
 
-pub numbers-in_body_again : (k : ℕ) → (again : Again) → ((k : ℕ) (q : Parser) (t : Token) → Numbers k q → Numbers k (again q t)) → (token : Token) →
-    (p : Parser) → Numbers k p → Numbers k (in_body_again again token p)
+pub numbers-in_body_again : (k : ℕ) → (again : Again) → ((k : ℕ) → (q : Parser) → (t : Token) → Numbers k q → Numbers k (again q t)) →
+    (token : Token) → (p : Parser) → Numbers k p → Numbers k (in_body_again again token p)
 numbers-in_body_again k again h-again token p h = h-again k ((in_mode InBody (unexpected p))) token (numbers-in_mode k InBody (unexpected p)
     (numbers-unexpected k p h))
 
-pub numbers-after_body_start : (k : ℕ) → (again : Again) → ((k : ℕ) (q : Parser) (t : Token) → Numbers k q → Numbers k (again q t)) → (other : Kind)
-    → (tag : StartTagOf) → (p : Parser) → Numbers k p → Numbers k (after_body_start again other tag p)
+pub numbers-after_body_start : (k : ℕ) → (again : Again) → ((k : ℕ) → (q : Parser) → (t : Token) → Numbers k q → Numbers k (again q t)) →
+    (other : Kind) → (tag : StartTagOf) → (p : Parser) → Numbers k p → Numbers k (after_body_start again other tag p)
 numbers-after_body_start k again h-again HtmlRoot tag p h = numbers-start_html k tag p h
 numbers-after_body_start k again h-again other tag p h = numbers-in_body_again k again h-again (StartTag tag) p h
 
-pub numbers-after_body_end : (k : ℕ) → (again : Again) → ((k : ℕ) (q : Parser) (t : Token) → Numbers k q → Numbers k (again q t)) → (other : Kind) →
-    (name : List ℕ) → (p : Parser) → Numbers k p → Numbers k (after_body_end again other name p)
+pub numbers-after_body_end : (k : ℕ) → (again : Again) → ((k : ℕ) → (q : Parser) → (t : Token) → Numbers k q → Numbers k (again q t)) →
+    (other : Kind) → (name : List ℕ) → (p : Parser) → Numbers k p → Numbers k (after_body_end again other name p)
 numbers-after_body_end k again h-again HtmlRoot name p h = numbers-if-parser k (is_fragment p) (unexpected p) (in_mode AfterAfterBody p)
     (numbers-unexpected k p h) (numbers-in_mode k AfterAfterBody p h)
 numbers-after_body_end k again h-again other name p h = numbers-in_body_again k again h-again (EndTag name) p h
 
-pub numbers-after_body : (k : ℕ) → (again : Again) → ((k : ℕ) (q : Parser) (t : Token) → Numbers k q → Numbers k (again q t)) → (c : Token) →
+pub numbers-after_body : (k : ℕ) → (again : Again) → ((k : ℕ) → (q : Parser) → (t : Token) → Numbers k q → Numbers k (again q t)) → (c : Token) →
     (p : Parser) → Numbers k p → Numbers k (after_body again c p)
 numbers-after_body k again h-again (Character c) p h = numbers-if-parser k (is_space c) (character_in_body c p) (in_body_again again
     (Character c) p) (numbers-character_in_body k c p h) (numbers-in_body_again k again h-again (Character c) p h)
@@ -1014,8 +1015,8 @@ numbers-frameset_closed k p h = let later : Parser = pop p in let h-later : Numb
     (is_current is_frameset later) later (in_mode AfterFrameset later) h-later (numbers-in_mode k AfterFrameset later h-later))
 
 pub numbers-frameset_end : (k : ℕ) → (other : Kind) → (p : Parser) → Numbers k p → Numbers k (frameset_end other p)
-numbers-frameset_end k Frameset p h = numbers-if-parser k (is_root p.page.opened) (unexpected p) (frameset_closed p) (numbers-unexpected k p h)
-    (numbers-frameset_closed k p h)
+numbers-frameset_end k Frameset p h = numbers-if-parser k (has_only_root p.page.opened) (unexpected p) (frameset_closed p)
+    (numbers-unexpected k p h) (numbers-frameset_closed k p h)
 numbers-frameset_end k other p h = numbers-unexpected k p h
 
 pub numbers-in_frameset : (k : ℕ) → (c : Token) → (p : Parser) → Numbers k p → Numbers k (in_frameset c p)
@@ -1025,8 +1026,8 @@ numbers-in_frameset k (Comment text) p h = numbers-insert_comment k text p h
 numbers-in_frameset k (Doctype doctype) p h = numbers-unexpected k p h
 numbers-in_frameset k (StartTag tag) p h = numbers-frameset_start k (kind_of tag.name) tag p h
 numbers-in_frameset k (EndTag name) p h = numbers-frameset_end k (kind_of name) p h
-numbers-in_frameset k EndOfFile p h = numbers-stop_parsing k (if is_root p.page.opened then p else mistaken UnclosedAtEnd p) (numbers-if-parser k
-    (is_root p.page.opened) p (mistaken UnclosedAtEnd p) h (numbers-mistaken k UnclosedAtEnd p h))
+numbers-in_frameset k EndOfFile p h = numbers-stop_parsing k (if has_only_root p.page.opened then p else mistaken UnclosedAtEnd p)
+    (numbers-if-parser k (has_only_root p.page.opened) p (mistaken UnclosedAtEnd p) h (numbers-mistaken k UnclosedAtEnd p h))
 
 pub numbers-after_frameset_start : (k : ℕ) → (other : Kind) → (tag : StartTagOf) → (p : Parser) → Numbers k p → Numbers k
     (after_frameset_start other tag p)
@@ -1047,8 +1048,8 @@ numbers-after_frameset k (StartTag tag) p h = numbers-after_frameset_start k (ki
 numbers-after_frameset k (EndTag name) p h = numbers-after_frameset_end k (kind_of name) p h
 numbers-after_frameset k EndOfFile p h = numbers-stop_parsing k p h
 
-pub numbers-after_after_body : (k : ℕ) → (again : Again) → ((k : ℕ) (q : Parser) (t : Token) → Numbers k q → Numbers k (again q t)) → (text : Token)
-    → (p : Parser) → Numbers k p → Numbers k (after_after_body again text p)
+pub numbers-after_after_body : (k : ℕ) → (again : Again) → ((k : ℕ) → (q : Parser) → (t : Token) → Numbers k q → Numbers k (again q t)) →
+    (text : Token) → (p : Parser) → Numbers k p → Numbers k (after_after_body again text p)
 numbers-after_after_body k again h-again (Comment text) p h = numbers-insert_comment_in_document k text p h
 numbers-after_after_body k again h-again (Doctype doctype) p h = numbers-unexpected k p h
 numbers-after_after_body k again h-again (Character c) p h = numbers-if-parser k (is_space c) (character_in_body c p) (in_body_again again
@@ -1072,8 +1073,8 @@ numbers-foreign_character k c p h = numbers-if-parser k (is_null c) (insert_text
     (numbers-unexpected k p h)) (numbers-if-parser k (is_space c) (insert_character c p) (not_frameset_ok (insert_character c p))
     (numbers-insert_character k c p h) (numbers-not_frameset_ok k (insert_character c p) (numbers-insert_character k c p h)))
 
-pub numbers-broken_out : (k : ℕ) → (in_html : InHtml) → ((k : ℕ) (t : Token) (q : Parser) → Numbers k q → Numbers k (in_html t q)) → (token : Token)
-    → (p : Parser) → Numbers k p → Numbers k (broken_out in_html token p)
+pub numbers-broken_out : (k : ℕ) → (in_html : InHtml) → ((k : ℕ) → (t : Token) → (q : Parser) → Numbers k q → Numbers k (in_html t q)) →
+    (token : Token) → (p : Parser) → Numbers k p → Numbers k (broken_out in_html token p)
 numbers-broken_out k in_html h-in_html token p h = h-in_html k token ((pop_while stays_foreign (unexpected p))) (numbers-pop_while k stays_foreign
     (unexpected p) (numbers-unexpected k p h))
 
@@ -1090,7 +1091,7 @@ numbers-foreign_start k tag p h = numbers-closed_at_once k tag.self_closing ((in
     (adjusted_kind p.options.context p.page.opened)) tag p)) (numbers-insert_foreign k ((namespace_of
     (adjusted_kind p.options.context p.page.opened))) tag p h)
 
-pub numbers-foreign_end : (k : ℕ) → (in_html : InHtml) → ((k : ℕ) (t : Token) (q : Parser) → Numbers k q → Numbers k (in_html t q)) →
+pub numbers-foreign_end : (k : ℕ) → (in_html : InHtml) → ((k : ℕ) → (t : Token) → (q : Parser) → Numbers k q → Numbers k (in_html t q)) →
     (name : List ℕ) → (e : List Open) → (p : Parser) → Numbers k p → Numbers k (foreign_end in_html name e p)
 unfolding foreign_end
 numbers-foreign_end k in_html h-in_html name [] p h = h
@@ -1104,12 +1105,12 @@ pub numbers-expects_name : (k : ℕ) → (name : List ℕ) → (e : List Open) �
 numbers-expects_name k name [] p h = h
 numbers-expects_name k name (e ∷ es) p h = numbers-if-parser k (has_lower_case name e) p (unexpected p) h (numbers-unexpected k p h)
 
-pub numbers-any_other_foreign_end : (k : ℕ) → (in_html : InHtml) → ((k : ℕ) (t : Token) (q : Parser) → Numbers k q → Numbers k (in_html t q)) →
+pub numbers-any_other_foreign_end : (k : ℕ) → (in_html : InHtml) → ((k : ℕ) → (t : Token) → (q : Parser) → Numbers k q → Numbers k (in_html t q)) →
     (name : List ℕ) → (p : Parser) → Numbers k p → Numbers k (any_other_foreign_end in_html name p)
 numbers-any_other_foreign_end k in_html h-in_html name p h = numbers-foreign_end k in_html h-in_html name p.page.opened
     (expects_name name p.page.opened p) (numbers-expects_name k name p.page.opened p h)
 
-pub numbers-foreign_end_by_kind : (k : ℕ) → (in_html : InHtml) → ((k : ℕ) (t : Token) (q : Parser) → Numbers k q → Numbers k (in_html t q)) →
+pub numbers-foreign_end_by_kind : (k : ℕ) → (in_html : InHtml) → ((k : ℕ) → (t : Token) → (q : Parser) → Numbers k q → Numbers k (in_html t q)) →
     (other : Kind) → (name : List ℕ) → (p : Parser) → Numbers k p → Numbers k (foreign_end_by_kind in_html other name p)
 numbers-foreign_end_by_kind k in_html h-in_html LineBreak name p h = numbers-broken_out k in_html h-in_html (EndTag name) p h
 numbers-foreign_end_by_kind k in_html h-in_html Paragraph name p h = numbers-broken_out k in_html h-in_html (EndTag name) p h
@@ -1117,7 +1118,7 @@ numbers-foreign_end_by_kind k in_html h-in_html Script name p h = numbers-if-par
     (any_other_foreign_end in_html name p) (numbers-run_script k p h) (numbers-any_other_foreign_end k in_html h-in_html name p h)
 numbers-foreign_end_by_kind k in_html h-in_html other name p h = numbers-any_other_foreign_end k in_html h-in_html name p h
 
-pub numbers-in_foreign_content : (k : ℕ) → (in_html : InHtml) → ((k : ℕ) (t : Token) (q : Parser) → Numbers k q → Numbers k (in_html t q)) →
+pub numbers-in_foreign_content : (k : ℕ) → (in_html : InHtml) → ((k : ℕ) → (t : Token) → (q : Parser) → Numbers k q → Numbers k (in_html t q)) →
     (c : Token) → (p : Parser) → Numbers k p → Numbers k (in_foreign_content in_html c p)
 numbers-in_foreign_content k in_html h-in_html (Character c) p h = numbers-foreign_character k c p h
 numbers-in_foreign_content k in_html h-in_html (Comment text) p h = numbers-insert_comment k text p h
@@ -1127,8 +1128,8 @@ numbers-in_foreign_content k in_html h-in_html (StartTag tag) p h = numbers-if-p
 numbers-in_foreign_content k in_html h-in_html (EndTag name) p h = numbers-foreign_end_by_kind k in_html h-in_html (kind_of name) name p h
 numbers-in_foreign_content k in_html h-in_html EndOfFile p h = h
 
-pub numbers-in_html_content : (k : ℕ) → (again : Again) → ((k : ℕ) (q : Parser) (t : Token) → Numbers k q → Numbers k (again q t)) → (x1 : Mode) →
-    (token : Token) → (p : Parser) → Numbers k p → Numbers k (in_html_content again x1 token p)
+pub numbers-in_html_content : (k : ℕ) → (again : Again) → ((k : ℕ) → (q : Parser) → (t : Token) → Numbers k q → Numbers k (again q t)) → (x1 : Mode)
+    → (token : Token) → (p : Parser) → Numbers k p → Numbers k (in_html_content again x1 token p)
 numbers-in_html_content k again h-again Initial token p h = numbers-initial k again h-again token p h
 numbers-in_html_content k again h-again BeforeHtml token p h = numbers-before_html k again h-again token p h
 numbers-in_html_content k again h-again BeforeHead token p h = numbers-before_head k again h-again token p h
@@ -1151,12 +1152,12 @@ numbers-in_html_content k again h-again AfterFrameset token p h = numbers-after_
 numbers-in_html_content k again h-again AfterAfterBody token p h = numbers-after_after_body k again h-again token p h
 numbers-in_html_content k again h-again AfterAfterFrameset token p h = numbers-after_after_frameset k token p h
 
-pub numbers-in_current_mode : (k : ℕ) → (again : Again) → ((k : ℕ) (q : Parser) (t : Token) → Numbers k q → Numbers k (again q t)) → (token : Token)
-    → (p : Parser) → Numbers k p → Numbers k (in_current_mode again token p)
+pub numbers-in_current_mode : (k : ℕ) → (again : Again) → ((k : ℕ) → (q : Parser) → (t : Token) → Numbers k q → Numbers k (again q t)) →
+    (token : Token) → (p : Parser) → Numbers k p → Numbers k (in_current_mode again token p)
 numbers-in_current_mode k again h-again token p h = numbers-in_html_content k again h-again p.mode token p h
 
-pub numbers-dispatched : (k : ℕ) → (again : Again) → ((k : ℕ) (q : Parser) (t : Token) → Numbers k q → Numbers k (again q t)) → (token : Token) →
-    (p : Parser) → Numbers k p → Numbers k (dispatched again token p)
+pub numbers-dispatched : (k : ℕ) → (again : Again) → ((k : ℕ) → (q : Parser) → (t : Token) → Numbers k q → Numbers k (again q t)) → (token : Token)
+    → (p : Parser) → Numbers k p → Numbers k (dispatched again token p)
 numbers-dispatched k again h-again token p h = numbers-if-parser k (takes_as_html (adjusted_kind p.options.context p.page.opened) token)
     (in_current_mode again token p) (in_foreign_content (in_current_mode again) token p) (numbers-in_current_mode k again h-again token p h)
     (numbers-in_foreign_content k (in_current_mode again) (λ k. numbers-in_current_mode k again h-again) token p h)
