@@ -10,3 +10,4 @@ pub mod NumbersSteps
 pub mod Asking
 pub mod Calm
 pub mod CalmSteps
+pub mod Following

@@ -1,12 +1,13 @@
 //! What is proved of tree construction: laws of the definitions in tree_construction. There is no code that runs.
 #![tactic(auto)]
 
-ghost use Rattle.std.specs.Prelude.{◌≡◌, ℕ, List, [], ◌++◌, false};
-ghost use Rattle.html5ever_interface.specs.Token.{Told, is_tag};
-ghost use Rattle.html5ever_interface.specs.Token.Told.{Text};
+ghost use Rattle.std.specs.Prelude.{◌≡◌, ℕ, List, [], ◌++◌, false, true};
+ghost use Rattle.html5ever_interface.specs.Token.{TagOf, Told, is_tag, keeps_state};
+ghost use Rattle.html5ever_interface.specs.Token.Told.{Tag, Text};
 ghost use Rattle.html5ever_interface.specs.Token.Reply.{KeepOn};
 ghost use Rattle.html5reading.specs.Reading.{all_messages, messages, reading};
 ghost use Rattle.html5reading.specs.Start.{Rules, Start};
+ghost use Rattle.html5sinks.specs.Replies.{standard_reply};
 ghost use Rattle.tree_construction.specs.Construction.{is_foreign, start, told_all};
 ghost use Rattle.tree_laws.specs.Laws.{AreOrderly, AsksAsParser, Extends};
 ghost use Rattle.tree_construction.specs.Parser.{Options, Parser};
@@ -41,6 +42,15 @@ pub fn one_reading<S: TokenSink<Token<A>>, A: Allocator>()
     ensures { (parser : S.State → Parser) → AsksAsParser S.means.step S.means.reply S.means.foreign parser
         → (rules : Rules) (K : Start) (s : S.State) (text : List ℕ)
         → all_messages S.means rules K s text ≡ messages (reading taken_by replied_by is_foreign rules K (parser s) text) }
+{}
+
+/// Without scripting the parser follows the standard's elements: after a tag of a name after which they ask for
+/// nothing, the tokenizer goes on, at once or after a pause. So pages that are written for sinks which
+/// follow the standard (`FollowsStandard` of html5sinks) are read as they were written by a tokenizer that asks
+/// the parser. The parser may go on after other tags, too, as in svg.
+pub fn follows_the_standard()
+    ensures { (p : Parser) (tag : TagOf) (line : ℕ) → p.options.scripting ≡ false → standard_reply tag ≡ KeepOn
+        → keeps_state (replied_by p (Tag tag) line) ≡ true }
 {}
 
 /// The parser is a lawful sink of the tokenizer's messages. Two adjacent texts are as one (`joins`), an
