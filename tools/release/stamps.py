@@ -9,9 +9,10 @@ So `rt lib`, which bindings/check.sh calls after it, would prove all of them onc
 
 With the words `rt ci` this runs that command. If it passes, out/proved.json says what it proved: by which toolchain,
 and of each crate a sum of its files, of its line of crates.txt and of the crates below it, and a sum of its library. A
-crate whose files changed meanwhile is not named. Then, and with no words, it writes the stamps that are missing, by the
-toolchain's own function: that of each library which is the one that the record names, where the files still are those
-that were proved. Each that is refused is said in a line, and then the status is 1.
+crate whose files changed meanwhile is not named. out/dearest has the ten crates that cost the most processor. Then, and
+with no words, it writes the stamps that are missing, by the toolchain's own function: that of each library which is the
+one that the record names, where the files still are those that were proved. Each that is refused is said in a line, and
+then the status is 1.
 
 Where the toolchain has no such function it writes no stamps, and all is proved again, in some half an hour.
 """
@@ -26,8 +27,11 @@ import pathlib
 import subprocess
 import sys
 
+import dearest
+
 TOP = pathlib.Path(__file__).resolve().parents[2]
 RECORD = TOP / "out" / "proved.json"
+DEAREST = TOP / "out" / "dearest"
 
 
 def said(*words):
@@ -47,7 +51,7 @@ def stamps_of(crates):
     """The stamp of each of these crates, by its name. A stamp is made from those of the crates below, each of which is asked
     once, and not once for each way that leads to it."""
     for kind in {type(it) for it in crates}:
-        kind.stamp = functools.cache(kind.stamp)
+        kind.stamp = functools.lru_cache(maxsize=None)(kind.stamp)
     return {it.name: it.stamp() for it in crates}
 
 
@@ -119,12 +123,16 @@ def took(began, ended):
 def prove():
     """Runs `rt ci` and leaves the record of what it proved. Answers its status, or else how many crates changed."""
     RECORD.unlink(missing_ok=True)
+    DEAREST.unlink(missing_ok=True)
     before, lay_there = sums(), unstamped()
     began = os.times()
-    status = subprocess.run(["rt", "ci"], check=False).returncode
+    with dearest.Watch(TOP / "crates") as watch:
+        status = subprocess.run(["rt", "ci"], check=False).returncode
     print(f"tools/release/stamps.py: rt ci took {took(began, os.times())}", flush=True)
     if status:
         return status
+    DEAREST.parent.mkdir(exist_ok=True)
+    DEAREST.write_text("".join(f"{seconds / 60:16.1f}  {name}\n" for name, seconds in watch.dearest()), encoding="utf-8")
     after, lie_there = sums(), unstamped()
     made = [name for name, written in lie_there.items() if written != lay_there.get(name)]
     changed = [name for name in after if after[name] != before.get(name)]
@@ -133,7 +141,6 @@ def prove():
         for name, files in after.items()
         if name not in changed
     }
-    RECORD.parent.mkdir(exist_ok=True)
     RECORD.write_text(json.dumps({"toolchain": said("version"), "crates": proved}, indent=1), encoding="utf-8")
     for name in changed:
         print(f"tools/release/stamps.py: {name}: its files, or those of a crate below it, changed while rt ci ran")

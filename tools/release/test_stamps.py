@@ -50,7 +50,8 @@ class Stamps(unittest.TestCase):
         self.write("kit/bin/rtlib.py", RTLIB)
         (self.top / "kit/bin/rt").chmod(0o755)
         (self.top / "tools/release").mkdir(parents=True)
-        shutil.copy(HERE / "stamps.py", self.top / "tools/release")
+        for name in ("stamps.py", "dearest.py"):
+            shutil.copy(HERE / name, self.top / "tools/release")
 
     def write(self, path, text):
         file = self.top / path
