@@ -6,7 +6,7 @@
 Prints a line for each citation that finds nothing, and ends with status 1 if there is one. It reads the pages at
 the top but for the changelog, those of docs/ and those of the crates. Checked are:
 
-- each path, and each link to a file;
+- each path, each link to a file, and each path of tools/ in a command;
 - each name in code type that can only be one of the code: a path with `::`, a name with `_`, a name in CamelCase;
 - in a table with a column "Contract", or with "Call" and "Clause", each name there: a clause is one of a function,
   or a field of a record, that the row names;
@@ -113,8 +113,9 @@ def is_name_of_code(name):
 
 def paths_in(line):
     """The paths that a line cites."""
-    codes = [it for it in CODE.findall(line) if PATH.fullmatch(it)]
-    paths = LINK.findall(line) + [it for it in codes if it.endswith(ENDINGS) or it.endswith("/")]
+    codes = [(it, code) for code in CODE.findall(line) for it in code.split() if PATH.fullmatch(it)]
+    cited = [it for it, code in codes if it.startswith("tools/") or it == code and it.endswith((*ENDINGS, "/"))]
+    paths = LINK.findall(line) + cited
     return [it for it in paths if not {part.partition(".")[0] for part in it.split("/")} & PLACES and "://" not in it]
 
 

@@ -1,5 +1,5 @@
 //! Writes the page of standard input back, by its tokens: by the word `--scripting` as a page that is read with scripting, and by
-//! `--names` with characters that are escaped by name. tools/compare written compares what is read of both.
+//! `--names` with characters that are escaped by name. `tools/compare written` compares what is read of both.
 #![tactic(auto)]
 
 mod writing;
