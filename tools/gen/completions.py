@@ -24,7 +24,7 @@ HEAD = "# What a shell completes after firnuubal. Made by tools/gen/completions.
 # What stands after an option, by the word that its help has for it: those of these words that its help names, or any text
 # where there are none. FILE is a file.
 WORDS = {"FORMAT": ["lines", "json", "sarif"], "NAME": ["jinja", "mustache", "erb"]}
-WORDS |= dict.fromkeys(("LABEL", "URL", "ELEMENT", "ELEMENT.ATTRIBUTE", "ELEMENT.ATTRIBUTE=VALUE"), [])
+WORDS.update(dict.fromkeys(("LABEL", "URL", "ELEMENT", "ELEMENT.ATTRIBUTE", "ELEMENT.ATTRIBUTE=VALUE"), []))
 
 # Words that were typed, the last not to its end, and what bash and zsh complete.
 CASES = [
@@ -238,7 +238,7 @@ def main():
         elif not path.is_file() or path.read_text(encoding="utf-8") != text:
             wrong += 1
             print(f"tools/gen/completions.py: docs/completions/{name} is not what the help says; run python3 tools/gen/completions.py")
-    shells = {"bash": completed} | ({"zsh": zsh_completed} if shutil.which("zsh") else {})
+    shells = {"bash": completed, **({"zsh": zsh_completed} if shutil.which("zsh") else {})}
     for shell, completes in shells.items():
         for words, wanted in CASES:
             found = completes(words)

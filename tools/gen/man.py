@@ -67,7 +67,7 @@ def parts(text):
             options[-1][1].append(line.strip())
         else:
             before.append(line)
-    return usage.removeprefix("usage: "), before, options
+    return usage[len("usage: ") :], before, options
 
 
 def page(name, summary, text):

@@ -110,13 +110,15 @@ READING = {
     "Names": "is_among kind_in all_names kind_of",
     "Scopes": "near",
 }
-FITTING = READING | {"Fitting": "fits open_after each_fits all_open_after"}
-NORMAL = READING | {
+FITTING = {**READING, "Fitting": "fits open_after each_fits all_open_after"}
+NORMAL = {
+    **READING,
     "Fitting": "open_after",
     "Tables": "leading_space after_space",
     "Normal": "count_inside run_of opened plan_of normal_above",
 }
-TREES = READING | {
+TREES = {
+    **READING,
     "Items": "in_front whole_texts without_newlines",
     "Document": "joined changed changed_before found without applied built bare",
     "Parser": "has_node inside outside without_node is_bounded popped_until implied_ended has_entry without_entry"

@@ -281,15 +281,19 @@ def characters(name, dice):
     return bytes_of((byte,) for byte in range(0x100))
 
 
+def random_bytes(dice, count):
+    return dice.getrandbits(8 * count).to_bytes(count, "little")
+
+
 def random_texts(name, dice):
     """Random bytes, and texts of the encoding that are cut, with other bytes among them."""
     usual, found = characters(name, dice), []
     for number in range(20000):
         count = dice.randrange(1, 60)
         if number % 3 == 0:
-            found.append(dice.randbytes(count))
+            found.append(random_bytes(dice, count))
         else:
-            parts = [dice.choice(usual) if dice.random() < 0.9 else dice.randbytes(1) for _ in range(count)]
+            parts = [dice.choice(usual) if dice.random() < 0.9 else random_bytes(dice, 1) for _ in range(count)]
             text = b"".join(parts)
             found.append(text[: dice.randrange(len(text) + 1)] if number % 3 == 1 else text)
     return found

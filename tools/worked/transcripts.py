@@ -27,9 +27,9 @@ def transcripts(text):
         if line.startswith(PROMPT) or not line.startswith(INDENT):
             if command is not None:
                 yield command, printed
-            command, printed = (line.removeprefix(PROMPT), []) if line.startswith(PROMPT) else (None, [])
+            command, printed = (line[len(PROMPT) :], []) if line.startswith(PROMPT) else (None, [])
         elif command is not None:
-            printed.append(line.removeprefix(INDENT))
+            printed.append(line[len(INDENT) :])
     if command is not None:
         yield command, printed
 
