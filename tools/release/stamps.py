@@ -17,6 +17,8 @@ then the status is 1.
 Where the toolchain has no such function it writes no stamps, and all is proved again, in some half an hour.
 """
 
+import collections
+import contextlib
 import functools
 import hashlib
 import importlib.machinery
@@ -27,11 +29,10 @@ import pathlib
 import subprocess
 import sys
 
-import dearest
-
 TOP = pathlib.Path(__file__).resolve().parents[2]
 RECORD = TOP / "out" / "proved.json"
 DEAREST = TOP / "out" / "dearest"
+SECONDS = 2  # between two looks at what runs
 
 
 def said(*words):
@@ -120,19 +121,44 @@ def took(began, ended):
     return f"{clock / 60:.1f} minutes by the clock and {processor / 60:.1f} of processor"
 
 
+def working():
+    """Each process that works in the folder of a crate: its number and start, that crate, and its seconds of processor."""
+    for number in filter(str.isdigit, os.listdir("/proc") if os.path.isdir("/proc/self") else ()):
+        # (it may end meanwhile, or be another user's)
+        with contextlib.suppress(OSError):
+            path = pathlib.Path(os.readlink(f"/proc/{number}/cwd"))
+            said = pathlib.Path(f"/proc/{number}/stat").read_text(errors="replace").rpartition(")")[2].split()
+            if path.parts[: len(TOP.parts) + 1] == (*TOP.parts, "crates") and path != TOP / "crates":
+                name = path.relative_to(TOP / "crates").parts[0]
+                yield (number, said[19]), (name, (int(said[11]) + int(said[12])) / os.sysconf("SC_CLK_TCK"))
+
+
+def run_watched(*words):
+    """The status of a command, and the ten crates that cost the most processor. What a process does after the last look at
+    it is missed."""
+    seen, totals = {}, collections.Counter()
+    with subprocess.Popen(words) as process:
+        while process.poll() is None:
+            with contextlib.suppress(subprocess.TimeoutExpired):
+                process.wait(SECONDS)
+            seen.update(working())
+    for name, seconds in seen.values():
+        totals[name] += seconds
+    return process.returncode, totals.most_common(10)
+
+
 def prove():
     """Runs `rt ci` and leaves the record of what it proved. Answers its status, or else how many crates changed."""
     RECORD.unlink(missing_ok=True)
     DEAREST.unlink(missing_ok=True)
     before, lay_there = sums(), unstamped()
     began = os.times()
-    with dearest.Watch(TOP / "crates") as watch:
-        status = subprocess.run(["rt", "ci"], check=False).returncode
+    status, dearest = run_watched("rt", "ci")
     print(f"tools/release/stamps.py: rt ci took {took(began, os.times())}", flush=True)
     if status:
         return status
     DEAREST.parent.mkdir(exist_ok=True)
-    DEAREST.write_text("".join(f"{seconds / 60:16.1f}  {name}\n" for name, seconds in watch.dearest()), encoding="utf-8")
+    DEAREST.write_text("".join(f"{seconds / 60:16.1f}  {name}\n" for name, seconds in dearest), encoding="utf-8")
     after, lie_there = sums(), unstamped()
     made = [name for name, written in lie_there.items() if written != lay_there.get(name)]
     changed = [name for name in after if after[name] != before.get(name)]

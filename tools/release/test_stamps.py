@@ -5,6 +5,7 @@ import os
 import pathlib
 import shutil
 import subprocess
+import sys
 import tempfile
 import unittest
 
@@ -50,8 +51,7 @@ class Stamps(unittest.TestCase):
         self.write("kit/bin/rtlib.py", RTLIB)
         (self.top / "kit/bin/rt").chmod(0o755)
         (self.top / "tools/release").mkdir(parents=True)
-        for name in ("stamps.py", "dearest.py"):
-            shutil.copy(HERE / name, self.top / "tools/release")
+        shutil.copy(HERE / "stamps.py", self.top / "tools/release")
 
     def write(self, path, text):
         file = self.top / path
@@ -143,6 +143,13 @@ class Stamps(unittest.TestCase):
         shutil.copystat(self.top / "crates/low/out/rlib/low.rlib/code", self.top / "aside")
         self.assertEqual(self.run_script("rt", "ci", meanwhile="mv aside crates/low/out/rlib/low.rlib/code")[0], 1)
         self.assertEqual(self.stamped(), ["high"])
+
+    @unittest.skipUnless(sys.platform == "linux", "processes are seen in /proc")
+    def test_the_dearest_crates_are_said(self):
+        busy = "cd crates/{}/src; timeout {} sh -c 'while :; do :; done'; cd ../../.."
+        self.assertEqual(self.run_script("rt", "ci", meanwhile="; ".join([busy.format("low", 2.5), busy.format("high", 4)]))[0], 0)
+        said = (self.top / "out/dearest").read_text(encoding="utf-8").split()
+        self.assertEqual(said[1::2], ["high", "low"])
 
     def test_other_words_do_nothing(self):
         self.assertNotEqual(self.run_script("rt", "ci", "low")[0], 0)
