@@ -53,7 +53,7 @@ def kind_of(said: argparse.Namespace) -> Kind:
     """The comparison that the words say. Its programs have to be there."""
     kind = Pages if said.folder else Peer if said.peer else KINDS[said.kind]
     paths = [str(CRATES / name / "out" / name) for name in kind.programs]
-    paths[0] = said.program or paths[0]
+    paths[0] = os.path.abspath(said.program or paths[0])
     for path in paths:
         if not os.access(path, os.X_OK):
             print(f"{path}: no such program; `rt ci` leaves it there", file=sys.stderr)
@@ -99,8 +99,9 @@ def compare_all(kind: Kind, pool, count: int | None) -> int:
         if len(differing) >= kind.most:
             break
     for number, case in differing:
+        again = "differs" if kind.differs(case) else "differed in its run, and alone it does not"
         case = smallest(case, kind.differs) if kind.is_made_smaller else case
-        print(f"case {number} differs:\n{kind.difference(case)}")
+        print(f"case {number} {again}:\n{kind.difference(case)}")
     seconds = time.monotonic() - begun
     said = ", ".join(f"{total[what]} {what}" for what in ("cases", "with exact errors", "skipped", "runs", "bytes") if total[what])
     print(f"tools/compare {kind.said}: {said}, {len(differing)} otherwise, {seconds:.0f} seconds")

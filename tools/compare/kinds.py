@@ -141,9 +141,9 @@ class Check(Kind):
             for name, case in zip(names, cases):
                 (pathlib.Path(folder) / name).write_bytes(case.text.encode())
             ended = run([*self.command, *names], b"", cwd=folder)
-        lines = {name: "" for name in names}
-        for line in ended.lines.splitlines(keepends=True):
+        lines = dict.fromkeys(names, "")
+        for line in ended.lines.split("\n")[:-1]:
             name, _, rest = line.partition(":")
-            lines[name] += f"-:{rest}"
-        is_well = not ended.errors and ended.status == int(bool(ended.lines))
-        return iter([Ended(int(bool(text)), text, "") if is_well else ended for text in lines.values()])
+            lines[name] = lines.get(name, "") + f"-:{rest}\n"
+        is_well = not ended.errors and ended.status == int(bool(ended.lines)) and len(lines) == len(names)
+        return iter([Ended(int(bool(lines[name])), lines[name], "") if is_well else ended for name in names])

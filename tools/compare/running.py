@@ -41,6 +41,7 @@ def command_line(program: list[str], case: Words) -> str:
 
 def shown(answer: object) -> str:
     if isinstance(answer, Ended):
-        status = "" if answer.status == 0 else f"status {answer.status}\n"
-        return answer.lines + answer.errors + status
+        printed = answer.lines + answer.errors
+        line_end = "" if printed.endswith("\n") else "\n"
+        return printed + line_end + ("" if answer.status == 0 else f"status {answer.status}\n")
     return "".join(f"{event}\n" for event in answer)
