@@ -1,1 +1,1 @@
-"""Cases for the programs: random ones of each kind by a seed and a number, and worked ones. tools/compare runs them."""
+"""Cases for the programs, which tools/compare runs: random ones of each kind by a seed and a number, and worked ones."""

@@ -103,8 +103,8 @@ def compare_all(kind: Kind, pool, count: int | None) -> int:
         case = smallest(case, kind.differs) if kind.is_made_smaller else case
         print(f"case {number} {again}:\n{kind.difference(case)}")
     seconds = time.monotonic() - begun
-    said = ", ".join(f"{total[what]} {what}" for what in ("cases", "with exact errors", "skipped", "runs", "bytes") if total[what])
-    print(f"tools/compare {kind.said}: {said}, {len(differing)} otherwise, {seconds:.0f} seconds")
+    counts = [f"{total[what]} {what}" for what in ("cases", "with exact errors", "skipped", "runs", "bytes") if total[what]]
+    print(f"tools/compare {kind.said}: {', '.join(counts)}, {len(differing)} otherwise, {seconds:.0f} seconds")
     return 1 if differing else 0
 
 

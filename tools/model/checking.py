@@ -1,4 +1,4 @@
-"""What firnuubal check finds in tags, texts and line breaks, by crates/html5check/README.md and the standard's "Optional tags"."""
+"""What firnuubal check finds in tags and texts, by crates/html5check/README.md and the standard's "Optional tags"."""
 
 from __future__ import annotations
 

@@ -1,5 +1,5 @@
 #!/usr/bin/env python3
-"""Tests of tools/release/stamps.py, in a folder of their own and with a toolchain that proves nothing: python3 tools/release/test_stamps.py"""
+"""Tests of tools/release/stamps.py, in a folder of their own and with a toolchain that proves nothing."""
 
 import os
 import pathlib
