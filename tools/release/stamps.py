@@ -117,7 +117,7 @@ def unstamped():
 def took(began, ended):
     """What passed between two times, of the clock and of the processors that ran this script's children."""
     clock = ended.elapsed - began.elapsed
-    processor = ended.children_user + ended.children_system - began.children_user - began.children_system
+    processor = (ended.children_user - began.children_user) + (ended.children_system - began.children_system)
     return f"{clock / 60:.1f} minutes by the clock and {processor / 60:.1f} of processor"
 
 
