@@ -47,14 +47,14 @@ WAYS = (), (SCRIPTING,), (NAMES,), (SCRIPTING, NAMES)
 # Texts in which each escape is needed, and one in which it is not.
 ESCAPED = ("<title>&lt;/title x</title>", "a&amp;lt;b&#13;c", "<p title='&quot; x'>", "&#65279;a", "\0a")
 ESCAPED += ("<noscript><p title=a>&lt;</p></noscript>&lt;", "&nbsp;")
+CHOSEN = [Case(words, text) for text in ESCAPED for words in WAYS]
 
 
 def case_of(seed: str, number: int) -> Case:
-    """The text of that number: first those in which each escape is needed, each way, and then random ones."""
-    words, at = WAYS[number % len(WAYS)], number // len(WAYS)
-    if at < len(ESCAPED):
-        return Case(words, ESCAPED[at])
-    text = peer_case_of(f"{seed} written", number).text
+    """The text of that number: those that are chosen, and then random ones."""
+    if number < len(CHOSEN):
+        return CHOSEN[number]
+    words, text = WAYS[number % len(WAYS)], peer_case_of(f"{seed} written", number - len(CHOSEN)).text
     return Case(words, NOEMBED.sub("noscript", text) if SCRIPTING in words else text)
 
 
@@ -82,7 +82,7 @@ class Written(Kind):
         self.judge, self.reader = "of the text itself", [paths[1], "--table", standard_table()]
 
     def numbers(self, count: int | None) -> range:
-        return range(len(ESCAPED) * len(WAYS) + super().numbers(count).stop)
+        return range(len(CHOSEN) + super().numbers(count).stop)
 
     def read(self, case: Case, text: str) -> Ended:
         """How html5tok ends over a text that is written in the way of a case, with what is compared of its lines."""
