@@ -19,7 +19,7 @@ import tempfile
 import measure
 
 ROOT = pathlib.Path(__file__).resolve().parent.parent
-PEER = runpy.run_path(str(ROOT / "tools" / "encodings_peer.py"))
+PEER = runpy.run_path(str(ROOT / "tools" / "peers" / "encodings.py"))
 MB = 1_000_000
 
 RATTLE = r"""//! Decodes standard input many times.
@@ -132,7 +132,7 @@ def can_encode(c, label):
 
 
 def programs(folder):
-    """The two programs, built by what tools/encodings_peer.py builds its own with."""
+    """The two programs, built by what tools/peers/encodings.py builds its own with."""
     build_rattle, build_rust = PEER["build_rattle"], PEER["build_rust"]
     build_rattle.__globals__["RATTLE"], build_rust.__globals__["RUST"] = RATTLE, RUST
     return {"here": build_rattle(folder), "encoding_rs": build_rust(folder)}

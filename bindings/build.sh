@@ -1,7 +1,7 @@
 #!/bin/bash
 # Builds the archive and the shared library from sources, and leaves both in bindings/out, with Python's extension where
 # its headers are there, and the program where it is built. What isn't proved yet is proved first, and named as it is: an hour
-# from nothing, and a quarter of an hour after `python3 tools/stamps.py rt ci`. It wants the Rattle toolchain, ar and gcc.
+# from nothing, and a quarter of an hour after `python3 tools/release/stamps.py rt ci`. It wants the Rattle toolchain, ar and gcc.
 set -eu
 cd "$(dirname "$0")"
 here=$PWD
@@ -11,7 +11,7 @@ version=$(sed -n 's/^#define FIRNUUBAL_VERSION "\(.*\)"/\1/p' c/firnuubal.h)
 
 # The library of the crate, over the libraries that a gate passed.
 proved() {
-    python3 ../tools/stamps.py || true
+    python3 ../tools/release/stamps.py || true
     (cd ../crates/html5c && rt lib) >"$out/rt.log" 2>&1 &
     tail -n +1 -f --pid=$! "$out/rt.log" | sed -u -n 's/^crate \([^:]*\):.*/bindings: \1 is proved/p'
     wait $! || {

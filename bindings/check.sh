@@ -145,7 +145,7 @@ placed_lines() {
 # The pages, what html5tok and print_places print of each, and what firnuubal cleans of it.
 pages() {
     local page table
-    table=$(python3 ../tools/entities.py)
+    table=$(python3 ../tools/gen/entities.py)
     cp page.html "$out/page.html"
     printf 'a\0b\1\177<a href="x\ny">\r\n<p\0><!--\0' >"$out/odd.html"
     for page in "$out/page.html" "$out/odd.html"; do
@@ -330,7 +330,7 @@ done
 check "html5tok, print_places and firnuubal" pages
 check_library "$out"
 if [ -d ../dist ]; then
-    check "what is shipped" python3 ../tools/dist.py --check
+    check "what is shipped" python3 ../tools/release/dist.py --check
     # Where both have the same bytes, what was checked holds of both.
     { cmp -s ../dist/libfirnuubal.a "$out/libfirnuubal.a" && cmp -s ../dist/_fast.abi3.so "$out/_fast.abi3.so"; } ||
         check_library "$(cd ../dist && pwd)"

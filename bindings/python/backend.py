@@ -1,6 +1,6 @@
 """Builds the wheel of the package, and its source distribution, with the standard library alone.
 
-pip calls `build_wheel` and `build_sdist` (PEP 517), and so does tools/dist.py. The same files make the same bytes. The wheel
+pip calls `build_wheel` and `build_sdist` (PEP 517), and so does tools/release/dist.py. The same files make the same bytes. The wheel
 has the package, the library, the extension, the program and the page of rules. Where the extension isn't beside the library,
 or this Python takes none of the stable ABI, the wheel is without it; so it is without the program where that isn't there.
 

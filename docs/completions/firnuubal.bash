@@ -1,4 +1,4 @@
-# What a shell completes after firnuubal. Made by tools/completions.py.
+# What a shell completes after firnuubal. Made by tools/gen/completions.py.
 _firnuubal() {
     local word=${COMP_WORDS[COMP_CWORD]} words= at
     COMPREPLY=()

@@ -1,4 +1,4 @@
-# What a shell completes after firnuubal. Made by tools/completions.py.
+# What a shell completes after firnuubal. Made by tools/gen/completions.py.
 complete -c firnuubal -f -n __fish_use_subcommand -a tokens -d 'the tokens, a line each, with errors and line numbers'
 complete -c firnuubal -f -n __fish_use_subcommand -a links -d 'the links, a line each'
 complete -c firnuubal -f -n __fish_use_subcommand -a text -d 'the text, without scripts and styles'

@@ -1,1 +1,1 @@
-"""Random cases for html5tok: what makes them, runs them and makes them smaller. `tools/random_texts.py` uses it."""
+"""Cases for the programs, which tools/compare runs: random ones of each kind by a seed and a number, and worked ones."""

@@ -6,7 +6,8 @@ import html.entities
 import pathlib
 import random
 
-from .maker import Case, Maker
+from .case import Case
+from .maker import Maker
 
 POLICIES = sorted((pathlib.Path(__file__).resolve().parent / "policies").glob("*.txt"))
 KEPT = ("a", "a", "b", "p", "p", "br", "img", "i", "li", "ul", "table", "td", "tr", "x-y", "form", "video", "source", "q")

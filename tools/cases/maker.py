@@ -5,9 +5,10 @@ from __future__ import annotations
 import functools
 import html.entities
 import random
-from dataclasses import dataclass
 
-import entities
+from gen import entities
+
+from .case import Case
 
 # the first and last of each kind of bad character, and characters beside them
 BAD = "\x01\x08\x0b\x0e\x1f\x7f\x80\x9f\ufdd0\ufdef\ufffe\uffff\U0001fffe\U0010ffff"
@@ -27,24 +28,6 @@ LAST_NAMES = ("title", "script", "style", "a", "Title", "", "x1")
 FEW_NAMES = ("amp", "amp;", "gt", "lt;", "nGt;", "not", "notin;", "quot;")
 BAD_ENTRIES = ("=41", "a;;=0", "a=0", "b=41+0", ";=41", "é=41", "a b=41")
 CUTS = ("1", "2", "3", "7")
-
-
-@dataclass(frozen=True)
-class Case:
-    """Words of the command line, each with its value, and a text."""
-
-    words: tuple[tuple[str, ...], ...]
-    text: str
-
-    @property
-    def flat_words(self) -> list[str]:
-        return [word for group in self.words for word in group]
-
-    def has(self, option: str) -> bool:
-        return any(group[0] == option for group in self.words)
-
-    def with_word(self, *group: str) -> Case:
-        return Case((*self.words, group), self.text)
 
 
 @functools.lru_cache

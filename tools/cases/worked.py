@@ -5,8 +5,7 @@ from __future__ import annotations
 import pathlib
 import re
 
-from .maker import Case
-from .running import Ended
+from .case import Case, Ended
 
 WORKED = pathlib.Path(__file__).resolve().parent.parent.parent / "crates" / "test_cases" / "stdin"
 ESCAPE = re.compile(r"\\(?:u\{([0-9a-f]+)\}|(.))")

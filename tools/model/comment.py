@@ -60,7 +60,7 @@ def open_comment(reading: Reading, start: int) -> Told:
     content = reading.text[start:]
     begun = next((end for end in ("--!", "--", "-") if content.endswith(end)), "")
     state = "CommentEnd" if begun == "--" else comment_state(content)
-    return reading.saw_end(state) + [(reading.end, Comment(in_value(content.removesuffix(begun))))]
+    return reading.saw_end(state) + [(reading.end, Comment(in_value(content[: len(content) - len(begun)])))]
 
 
 def comment_state(before: str) -> str:

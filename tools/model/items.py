@@ -76,7 +76,7 @@ def solidus_item(reading: Reading, place: int) -> Item:
 
 
 ITEM_IN = {"Data": data_item, "Plain": plain_item, "Cdata": cdata_item}
-ITEM_IN |= dict.fromkeys(("Rcdata", "Rawtext", "ScriptData", *ESCAPED_KINDS), raw_item)
+ITEM_IN.update(dict.fromkeys(("Rcdata", "Rawtext", "ScriptData", *ESCAPED_KINDS), raw_item))
 
 
 def messages(reading: Reading, mode: Mode):

@@ -3,6 +3,7 @@
 from __future__ import annotations
 
 from dataclasses import dataclass
+from typing import List, Tuple
 
 
 @dataclass(frozen=True)
@@ -65,7 +66,7 @@ class Event:
 
 
 # tokens, each at the place that tells it
-Told = list[tuple[int, object]]
+Told = List[Tuple[int, object]]
 
 
 def texts(place: int, characters: str) -> Told:

@@ -6,13 +6,13 @@ items of items; `plan_of` says what is done for one.
 
 from __future__ import annotations
 
-from collections.abc import Callable
 from dataclasses import dataclass
+from typing import Callable, FrozenSet, List, Tuple
 
 from . import tree
 from .tree import End, Start, Text, names
 
-Stack = list[str]
+Stack = List[str]
 LIST_ITEM_BOUNDS = tree.CELL | names("ol ul")
 PARAGRAPH_BOUNDS = tree.CELL | names("button")
 ANCHORS = names("a nobr button")
@@ -54,8 +54,8 @@ def top_of(stack: Stack) -> str:
 # ---- parts of tables, and what can't stand in a table
 
 CONTEXTS = {name: names("table") for name in tree.PARTS}
-CONTEXTS |= {"col": names("colgroup table"), "tr": tree.BODIES | {"table"}}
-CONTEXTS |= {name: tree.BODIES | names("table tr") for name in tree.CELLS}
+CONTEXTS.update(col=names("colgroup table"), tr=tree.BODIES | {"table"})
+CONTEXTS.update({name: tree.BODIES | names("table tr") for name in tree.CELLS})
 
 
 def parents(top: str, part: str) -> tuple[str, ...]:
@@ -69,7 +69,7 @@ def parents(top: str, part: str) -> tuple[str, ...]:
     return ()
 
 
-Place = tuple[int, tuple[str, ...]]
+Place = Tuple[int, Tuple[str, ...]]
 
 
 def part_place(stack: Stack, part: str) -> Place | None:
@@ -146,7 +146,7 @@ def place_of(stack: Stack, name: str) -> Place | None:
 
 # ---- plans
 
-Bounds = Callable[[str], frozenset[str]]
+Bounds = Callable[[str], FrozenSet[str]]
 
 
 def end_bounds(name: str) -> frozenset[str]:

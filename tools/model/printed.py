@@ -5,7 +5,8 @@ from __future__ import annotations
 from .messages import Comment, Doctype, Error, Instruction, Null, Tag, Text
 from .replies import charset_of, runs_script
 
-ESCAPES = {n: f"\\u{{{n:x}}}" for n in [*range(0x20), 0x7F]} | {ord("\\"): "\\\\", ord('"'): '\\"', ord("\n"): "\\n"}
+ESCAPES = {n: f"\\u{{{n:x}}}" for n in [*range(0x20), 0x7F]}
+ESCAPES.update({ord("\\"): "\\\\", ord('"'): '\\"', ord("\n"): "\\n"})
 
 
 def quoted(text: str) -> str:
@@ -33,20 +34,17 @@ def doctype_line(doctype: Doctype, line: int) -> str:
 
 
 def message_line(token, line: int) -> str:
-    match token:
-        case Null():
-            return f"null {line}\n"
-        case Error(message):
-            return f"error {line} {quoted(message)}\n"
-        case Comment(text):
-            return f"comment {line} {quoted(text)}\n"
-        case Instruction(content):
-            return f"pi {line} {quoted(content)}\n"
-        case Tag():
-            return tag_line(token, line)
-        case Doctype():
-            return doctype_line(token, line)
-    return f"eof {line}\n"
+    if isinstance(token, Null):
+        return f"null {line}\n"
+    if isinstance(token, Error):
+        return f"error {line} {quoted(token.message)}\n"
+    if isinstance(token, Comment):
+        return f"comment {line} {quoted(token.text)}\n"
+    if isinstance(token, Instruction):
+        return f"pi {line} {quoted(token.content)}\n"
+    if isinstance(token, Tag):
+        return tag_line(token, line)
+    return doctype_line(token, line) if isinstance(token, Doctype) else f"eof {line}\n"
 
 
 def printed_lines(told) -> str:

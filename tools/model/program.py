@@ -15,7 +15,7 @@ from .reference import is_no_character
 
 FEW_NAMES = "amp=26,amp;=26,gt=3E,gt;=3E,lt=3C,lt;=3C,nGt;=226B+20D2,not=AC,not;=AC,notin;=2209,quot=22,quot;=22"
 INITIAL_MODES = {"data": "Data", "plaintext": "Plain", "rcdata": "Rcdata", "rawtext": "Rawtext"}
-INITIAL_MODES |= {"script": "ScriptData", "cdata": "Cdata"}
+INITIAL_MODES.update(script="ScriptData", cdata="Cdata")
 USAGE = "usage: html5tok [--exact] [--keep-bom] [--foreign] [--state S] [--last NAME] [--cut N] [--table LIST]"
 
 

@@ -6,11 +6,12 @@ import functools
 import re
 from collections.abc import Callable
 from dataclasses import dataclass, field
+from typing import Tuple
 
 from .messages import Error, Told
 
 # the entries of a table, each its name and its characters
-Entries = tuple[tuple[str, str], ...]
+Entries = Tuple[Tuple[str, str], ...]
 
 
 @dataclass(frozen=True)

@@ -6,7 +6,7 @@ from .messages import Tag
 from .reading import DATA, PLAIN, Mode
 
 RAW_TEXT_IN = {"title": "Rcdata", "textarea": "Rcdata", "script": "ScriptData"}
-RAW_TEXT_IN |= dict.fromkeys(("style", "xmp", "iframe", "noembed", "noframes"), "Rawtext")
+RAW_TEXT_IN.update(dict.fromkeys(("style", "xmp", "iframe", "noembed", "noframes"), "Rawtext"))
 
 
 def mode_after(tag: Tag) -> Mode:

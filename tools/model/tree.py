@@ -540,8 +540,7 @@ class TreeConstruction:
     def reset_mode(self):
         """"Reset the insertion mode appropriately"; the context element is a `div`."""
         modes = {"td": self.in_cell, "th": self.in_cell, "tr": self.in_row, "caption": self.in_caption}
-        modes |= {"colgroup": self.in_column_group, "table": self.in_table}
-        modes |= {name: self.in_table_body for name in BODIES}
+        modes.update(dict.fromkeys(BODIES, self.in_table_body), colgroup=self.in_column_group, table=self.in_table)
         self.mode = next((modes[node.name] for node in reversed(self.stack) if node.name in modes), self.in_body)
 
 
@@ -622,7 +621,7 @@ def shown(nodes: list[Node]) -> str:
 # ---- crates/html5tree/README.md, "What fits"
 
 HOLDS = {"table": BODIES | names("caption colgroup"), "colgroup": names("col"), "tr": CELLS}
-HOLDS |= {name: names("tr") for name in BODIES}
+HOLDS.update({name: names("tr") for name in BODIES})
 CELL = CELLS | names("caption")
 ENDS_PARAGRAPH = BLOCKS | HEADINGS | PREFORMATTED | names("dd dt form hr li table")
 BOUNDS_ITEM = SPECIAL - names("address div p search")

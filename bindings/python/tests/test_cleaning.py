@@ -13,8 +13,8 @@ KEPT = "<p>1 &#60; 2<a>y</a>é</p>"
 
 
 def rows_of(name):
-    """The rows of a file, which tools/cleaned.py reads too: it says what they are."""
-    path = pathlib.Path(__file__).resolve().parents[3] / "tools" / f"{name}.jsonl"
+    """The rows of a file, which tools/worked/cleaned.py reads too: it says what they are."""
+    path = pathlib.Path(__file__).resolve().parents[3] / "tools" / "worked" / f"{name}.jsonl"
     return map(json.loads, path.read_text(encoding="utf-8").splitlines())
 
 

@@ -1,4 +1,4 @@
--- The tables of the single-byte encodings are the Standard's indexes. By tools/encodings.py.
+-- The tables of the single-byte encodings are the Standard's indexes. By tools/gen/encodings.py.
 use Rattle.std.specs.Prelude.{◌≡◌, refl}
 use Rattle.html5encodings.specs.IndexSingleByte.{index_ibm866, index_iso_8859_2, index_iso_8859_3, index_iso_8859_4, index_iso_8859_5, index_iso_8859_6, index_iso_8859_7, index_iso_8859_8, index_iso_8859_10, index_iso_8859_13, index_iso_8859_14, index_iso_8859_15, index_iso_8859_16, index_koi8_r, index_koi8_u, index_macintosh, index_windows_874, index_windows_1250, index_windows_1251, index_windows_1252, index_windows_1253, index_windows_1254, index_windows_1255, index_windows_1256, index_windows_1257, index_windows_1258, index_x_mac_cyrillic}
 use Rattle.html5encodings.specs.declared.index_single_byte.TheConstants.{IBM866, ISO_8859_2, ISO_8859_3, ISO_8859_4, ISO_8859_5, ISO_8859_6, ISO_8859_7, ISO_8859_8, ISO_8859_10, ISO_8859_13, ISO_8859_14, ISO_8859_15, ISO_8859_16, KOI8_R, KOI8_U, MACINTOSH, WINDOWS_874, WINDOWS_1250, WINDOWS_1251, WINDOWS_1252, WINDOWS_1253, WINDOWS_1254, WINDOWS_1255, WINDOWS_1256, WINDOWS_1257, WINDOWS_1258, X_MAC_CYRILLIC}

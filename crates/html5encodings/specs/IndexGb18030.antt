@@ -1,4 +1,4 @@
--- "Indexes": index gb18030, the code point of each pointer, and 0 where there is none. By tools/encodings.py.
+-- "Indexes": index gb18030, the code point of each pointer, and 0 where there is none. By tools/gen/encodings.py.
 use Rattle.std.specs.Prelude.{ℕ, List, [], ◌∷◌}
 
 unfoldable pub index_gb18030 : List ℕ

@@ -1,4 +1,4 @@
--- "Indexes": index gb18030 ranges, pointers in order, and the code point of each. By tools/encodings.py.
+-- "Indexes": index gb18030 ranges, pointers in order, and the code point of each. By tools/gen/encodings.py.
 use Rattle.std.specs.Prelude.{ℕ, List, [], ◌∷◌}
 
 unfoldable pub index_gb18030_ranges : List (ℕ × ℕ)

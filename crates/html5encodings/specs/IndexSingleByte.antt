@@ -1,5 +1,5 @@
 -- "Legacy single-byte encodings": the index of each, the code points of the bytes from 0x80 on, and 0 where there is
--- none. By tools/encodings.py.
+-- none. By tools/gen/encodings.py.
 use Rattle.std.specs.Prelude.{ℕ, List, [], ◌∷◌}
 use Rattle.html5encodings.specs.declared.encoding.SingleByte.{SingleByte}
 use Rattle.html5encodings.specs.declared.encoding.SingleByte.TheVariants as single

@@ -1,4 +1,4 @@
--- "Names and labels". By tools/encodings.py.
+-- "Names and labels". By tools/gen/encodings.py.
 use Rattle.std.specs.Prelude.{ℕ, List, [], ◌∷◌, codes}
 use Rattle.html5encodings.specs.declared.encoding.Encoding.{Encoding}
 use Rattle.html5encodings.specs.declared.encoding.Encoding.TheVariants as encoding

@@ -1,4 +1,4 @@
-//! The index big5: the character of each pointer, and U+0000 where there is none. By tools/encodings.py.
+//! The index big5: the character of each pointer, and U+0000 where there is none. By tools/gen/encodings.py.
 
 #[rattlefmt::skip]
 pub(crate) static BIG5: [char; 19782] = [

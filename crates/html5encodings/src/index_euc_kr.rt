@@ -1,4 +1,4 @@
-//! The index euc-kr: the character of each pointer, and U+0000 where there is none. By tools/encodings.py.
+//! The index euc-kr: the character of each pointer, and U+0000 where there is none. By tools/gen/encodings.py.
 
 #[rattlefmt::skip]
 pub(crate) static EUC_KR: [char; 23750] = [

@@ -1,4 +1,4 @@
-//! The index gb18030: the character of each pointer, and U+0000 where there is none. By tools/encodings.py.
+//! The index gb18030: the character of each pointer, and U+0000 where there is none. By tools/gen/encodings.py.
 
 #[rattlefmt::skip]
 pub(crate) static GB18030: [char; 23940] = [

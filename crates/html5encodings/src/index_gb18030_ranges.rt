@@ -1,4 +1,4 @@
-//! The index gb18030 ranges: pointers, and the code point of each. By tools/encodings.py.
+//! The index gb18030 ranges: pointers, and the code point of each. By tools/gen/encodings.py.
 
 #[rattlefmt::skip]
 pub(crate) static GB18030_RANGES: [(u32, u32); 207] = [

@@ -1,4 +1,4 @@
-//! The index jis0208: the character of each pointer, and U+0000 where there is none. By tools/encodings.py.
+//! The index jis0208: the character of each pointer, and U+0000 where there is none. By tools/gen/encodings.py.
 
 #[rattlefmt::skip]
 pub(crate) static JIS0208: [char; 11104] = [

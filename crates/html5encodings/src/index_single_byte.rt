@@ -1,5 +1,5 @@
 //! The indexes of the single-byte encodings: the characters of the bytes from 0x80 on, and U+0000 where there
-//! is none. By tools/encodings.py.
+//! is none. By tools/gen/encodings.py.
 
 #[rattlefmt::skip]
 pub(crate) static IBM866: [char; 128] = [

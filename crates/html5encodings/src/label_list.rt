@@ -1,4 +1,4 @@
-//! The labels of the encodings. By tools/encodings.py.
+//! The labels of the encodings. By tools/gen/encodings.py.
 
 use crate::encoding::{Encoding, SingleByte};
 

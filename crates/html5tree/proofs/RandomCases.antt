@@ -1,5 +1,5 @@
 -- Items, with the trees that a model of the standard's tree construction builds of them, with whether they all fit, and
--- with what a model of the normaliser makes of them: by `python3 tools/tree_cases.py`, and not by hand.
+-- with what a model of the normaliser makes of them: by `python3 tools/gen/tree_cases.py`, and not by hand.
 use Rattle.std.proofs.Common.{◌≡◌, Bool, true, false, List, [], ◌∷◌, refl}
 use Rattle.std.specs.Prelude.{codes, map}
 use Rattle.html5tree.specs.Items.Item.{StartTag, Text}

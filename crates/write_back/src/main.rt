@@ -1,5 +1,5 @@
 //! Writes the page of standard input back, by its tokens. The word `--scripting` makes it a page that is read with
-//! scripting, and `--names` escapes characters by name. tools/written.py compares the readings of both.
+//! scripting, and `--names` escapes characters by name. tools/compare written compares the readings of both.
 #![tactic(auto)]
 
 mod writing;

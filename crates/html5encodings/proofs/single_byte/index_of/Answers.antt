@@ -1,4 +1,4 @@
--- By tools/encodings.py.
+-- By tools/gen/encodings.py.
 use Rattle.html5encodings.proofs.SingleByteTables.{IBM866-is, ISO_8859_2-is, ISO_8859_3-is, ISO_8859_4-is, ISO_8859_5-is, ISO_8859_6-is, ISO_8859_7-is, ISO_8859_8-is, ISO_8859_10-is, ISO_8859_13-is, ISO_8859_14-is, ISO_8859_15-is, ISO_8859_16-is, KOI8_R-is, KOI8_U-is, MACINTOSH-is, WINDOWS_874-is, WINDOWS_1250-is, WINDOWS_1251-is, WINDOWS_1252-is, WINDOWS_1253-is, WINDOWS_1254-is, WINDOWS_1255-is, WINDOWS_1256-is, WINDOWS_1257-is, WINDOWS_1258-is, X_MAC_CYRILLIC-is}
 use Rattle.html5encodings.proofs.single_byte.index_of.Goals as goal
 

@@ -1,0 +1,1 @@
+"""What documents and heads of files say, compared with the code."""
