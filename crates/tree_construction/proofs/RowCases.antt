@@ -3816,11 +3816,17 @@ rows_79 : List Case
 rows_79 =
     -- a template within a template: "<template><template></template><td>x"
     (document false (start_tag (codes "template") [] ∷ start_tag (codes "template") [] ∷ end_tag (codes "template") ∷ start_tag (codes "td") [] ∷ Text (codes "x") ∷ Text [] ∷ End ∷ []))
+    -- a hidden input stays in a table: "<table><input type=Hidden><tr><input type=text>"
+    ∷ (document false (start_tag (codes "table") [] ∷ start_tag (codes "input") (attribute (codes "type") (codes "Hidden") ∷ []) ∷ start_tag (codes "tr") [] ∷ start_tag (codes "input") (attribute (codes "type") (codes "text") ∷ []) ∷ End ∷ []))
+    -- a second form is ignored: "<form id=a><p><form id=b>x</form>y"
+    ∷ (document false (start_tag (codes "form") (attribute (codes "id") (codes "a") ∷ []) ∷ start_tag (codes "p") [] ∷ start_tag (codes "form") (attribute (codes "id") (codes "b") ∷ []) ∷ Text (codes "x") ∷ end_tag (codes "form") ∷ Text (codes "y") ∷ Text [] ∷ End ∷ []))
     ∷ []
 
 trees_79 : List (List ℕ)
 trees_79 =
     (codes "| <html>\n|   <head>\n|     <template>\n|       content\n|         <template>\n|           content\n|         <td>\n|           \"x\"\n|   <body>\n")
+    ∷ (codes "| <html>\n|   <head>\n|   <body>\n|     <input>\n|       type=\"text\"\n|     <table>\n|       <input>\n|         type=\"Hidden\"\n|       <tbody>\n|         <tr>\n")
+    ∷ (codes "| <html>\n|   <head>\n|   <body>\n|     <form>\n|       id=\"a\"\n|       <p>\n|         \"x\"\n|     \"y\"\n")
     ∷ []
 
 built_79 : map shown_of rows_79 ≡ trees_79
