@@ -28,12 +28,12 @@ pub record Row : Type 0 where
   pub contents : Option ℕ
   pub children : List Child
 
-abbrev pub row : ℕ → What → Row
-row n what = record { node = n; what = what; parent = None; contents = None; children = [] }
+abbrev pub new_row : ℕ → What → Row
+new_row n what = record { node = n; what = what; parent = None; contents = None; children = [] }
 
 -- the document alone
 abbrev pub first_rows : List Row
-first_rows = row 0 Document ∷ []
+first_rows = new_row 0 Document ∷ []
 
 -- ---- rows
 
@@ -42,7 +42,7 @@ changed n change [] = []
 changed n change (r ∷ rows) = if r.node == n then change r ∷ rows else r ∷ changed n change rows
 
 unfoldable pub row_of : ℕ → List Row → Row
-row_of n [] = row n TemplateContents
+row_of n [] = new_row n TemplateContents
 row_of n (r ∷ rows) = if r.node == n then r else row_of n rows
 
 abbrev pub parent_of : ℕ → List Row → Option ℕ
@@ -140,9 +140,9 @@ with_attributes more (Element namespace name own) = Element namespace name (own 
 with_attributes more what = what
 
 abbrev pub applied : Edit → List Row → List Row
-applied (MakeElement n namespace name attributes) rows = row n (Element namespace name attributes) ∷ rows
-applied (MakeContents template n) rows = row n TemplateContents ∷ changed template (λ r. record r { contents = Some n }) rows
-applied (MakeComment n text) rows = row n (Comment text) ∷ rows
+applied (MakeElement n namespace name attributes) rows = new_row n (Element namespace name attributes) ∷ rows
+applied (MakeContents template n) rows = new_row n TemplateContents ∷ changed template (λ r. record r { contents = Some n }) rows
+applied (MakeComment n text) rows = new_row n (Comment text) ∷ rows
 applied (PutDoctype name public_id system_id) rows = changed 0 (with_children (added (Doctype name public_id system_id))) rows
 applied (Put place n) rows = put_node (spot_of place rows) n rows
 applied (PutText place text) rows = put_at (spot_of place rows) (Text text) rows
