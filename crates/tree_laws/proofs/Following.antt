@@ -24,7 +24,7 @@ use Rattle.tree_laws.proofs.CalmSteps.{calm-process}
 
 -- ---- a name after which a start tag asks for no text
 
-text_names : List (List ℕ)
+unfoldable pub text_names : List (List ℕ)
 text_names =
     codes "title" ∷ codes "textarea" ∷ codes "style" ∷ codes "noframes" ∷ codes "xmp" ∷ codes "iframe" ∷ codes "noembed" ∷ codes "script"
     ∷ codes "plaintext" ∷ []
@@ -43,11 +43,26 @@ among-these test name (other ∷ names) all among =
     by_test true same among rest first = subst (λ n. test n ≡ true) (bytes_eq-same other name same) first
     by_test false same among rest first = rest among
 
+-- the same of a property
+unfoldable pub AllOf : (List ℕ → Type 0) → List (List ℕ) → Type 0
+AllOf P [] = Unit {0}
+AllOf P (name ∷ names) = P name × AllOf P names
+
+pub among-all : (P : List ℕ → Type 0) (name : List ℕ) (names : List (List ℕ)) → AllOf P names → is_among name names ≡ true → P name
+unfolding is_among AllOf
+among-all P name [] all among = absurd (false≢true among)
+among-all P name (other ∷ names) all among = by_test (bytes_eq other name) refl among (among-all P name names all.1)
+  where
+    by_test : (same : Bool) → bytes_eq other name ≡ same → (if same then true else is_among name names) ≡ true
+        → (is_among name names ≡ true → P name) → P name
+    by_test true same among rest = subst P (bytes_eq-same other name same) all.0
+    by_test false same among rest = rest among
+
 -- a row of the table that asks for text has such names alone
-is_row_of_texts : NamesOf → Bool
+unfoldable pub is_row_of_texts : NamesOf → Bool
 is_row_of_texts row = if asks_text row.kind then list_all (λ name. is_among name text_names) row.names else true
 
-text-name : (rows : List NamesOf) (name : List ℕ) → list_all is_row_of_texts rows ≡ true → asks_text (kind_in rows name) ≡ true
+pub text-name : (rows : List NamesOf) (name : List ℕ) → list_all is_row_of_texts rows ≡ true → asks_text (kind_in rows name) ≡ true
     → is_among name text_names ≡ true
 unfolding kind_in is_row_of_texts
 text-name [] name all asks = absurd (false≢true asks)
@@ -79,7 +94,7 @@ quiet-name name keeps = by_test (asks_text (kind_of name)) refl
 
 -- ---- a step
 
-calm-step : (token : Token) (p : Parser) → asks_text_by token ≡ false → p.options.scripting ≡ false → IsCalm (step token p)
+pub calm-step : (token : Token) (p : Parser) → asks_text_by token ≡ false → p.options.scripting ≡ false → IsCalm (step token p)
 unfolding reply_of step
 calm-step token p quiet off =
     let fresh : Parser = record p { ignores_newline = false; request = GoOn; acknowledged = false } in

@@ -11,3 +11,4 @@ pub mod Asking
 pub mod Calm
 pub mod CalmSteps
 pub mod Following
+pub mod ByName

@@ -1,9 +1,11 @@
 -- What is proved of tree construction, in words that contracts cite.
-use Rattle.std.specs.Prelude.{◌≡◌, ℕ, suc, ◌<◌, Bool, List, [], ◌∷◌, ◌++◌}
+use Rattle.std.specs.Prelude.{◌≡◌, ℕ, suc, ◌<◌, Bool, true, false, List, [], ◌∷◌, ◌++◌}
 use Rattle.html5ever_interface.specs.Token.{Reply, TagOf, Told}
 use Rattle.html5ever_interface.specs.Token.Told.{Tag}
 use Rattle.html5reading.specs.Reading.{open_after_reply}
 use Rattle.tree_construction.specs.Construction.{is_foreign}
+use Rattle.tree_construction.specs.declared.modes.Mode.{Mode}
+use Rattle.tree_construction.specs.declared.modes.Mode.TheVariants.{InBody, InCaption, InCell, InRow, InTable, InTableBody}
 use Rattle.tree_construction.specs.Page.{Edit, Place}
 use Rattle.tree_construction.specs.Parser.{Parser}
 use Rattle.tree_construction.specs.Text.{replied_by, taken_by}
@@ -65,3 +67,21 @@ pub record AsksAsParser {S H : Type 0} (step : S → Told → ℕ → S) (reply 
   pub replies : (s : S) (tag : TagOf) (line : ℕ) (last : List ℕ)
       → open_after_reply last (reply s (Tag tag) line) ≡ open_after_reply last (replied_by (parser s) (Tag tag) line)
   pub answers : (s : S) → foreign s ≡ is_foreign (parser s)
+
+-- ---- replies by names alone
+
+-- the insertion modes of a body outside templates, text and framesets
+abbrev pub is_body_mode : Mode → Bool
+is_body_mode InBody = true
+is_body_mode InTable = true
+is_body_mode InCaption = true
+is_body_mode InTableBody = true
+is_body_mode InRow = true
+is_body_mode InCell = true
+is_body_mode _ = false
+
+-- the parser is in such a mode, its adjusted current node is an HTML element, and scripting is off
+pub record IsInBody (p : Parser) : Type 0 where
+  pub mode : is_body_mode p.mode ≡ true
+  pub html : is_foreign p ≡ false
+  pub without_scripting : p.options.scripting ≡ false

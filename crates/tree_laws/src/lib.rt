@@ -5,11 +5,11 @@ ghost use Rattle.std.specs.Prelude.{◌≡◌, ℕ, List, [], ◌++◌, false, t
 ghost use Rattle.html5ever_interface.specs.Token.{TagOf, Told, is_tag, keeps_state};
 ghost use Rattle.html5ever_interface.specs.Token.Told.{Tag, Text};
 ghost use Rattle.html5ever_interface.specs.Token.Reply.{KeepOn};
-ghost use Rattle.html5reading.specs.Reading.{all_messages, messages, reading};
+ghost use Rattle.html5reading.specs.Reading.{all_messages, messages, open_after_reply, reading};
 ghost use Rattle.html5reading.specs.Start.{Rules, Start};
 ghost use Rattle.html5sinks.specs.Replies.{standard_reply};
 ghost use Rattle.tree_construction.specs.Construction.{is_foreign, start, told_all};
-ghost use Rattle.tree_laws.specs.Laws.{AreOrderly, AsksAsParser, Extends};
+ghost use Rattle.tree_laws.specs.Laws.{AreOrderly, AsksAsParser, Extends, IsInBody};
 ghost use Rattle.tree_construction.specs.Parser.{Options, Parser};
 ghost use Rattle.tree_construction.specs.Text.{parser_of_text, parser_so_far, replied_by, taken_by};
 
@@ -51,6 +51,15 @@ pub fn one_reading<S: TokenSink<Token<A>>, A: Allocator>()
 pub fn follows_the_standard()
     ensures { (p : Parser) (tag : TagOf) (line : ℕ) → p.options.scripting ≡ false → standard_reply tag ≡ KeepOn
         → keeps_state (replied_by p (Tag tag) line) ≡ true }
+{}
+
+/// In the body of a page names alone are enough: after each tag the tokenizer goes on as after the reply of the
+/// standard's elements. That is in the modes of a body outside templates, if the adjusted current node is an HTML
+/// element, so not in svg or math, and without scripting (`IsInBody`). Elsewhere a start tag may be ignored, and
+/// its text is then read as markup.
+pub fn replies_by_name()
+    ensures { (p : Parser) (tag : TagOf) (line : ℕ) (last : List ℕ) → IsInBody p
+        → open_after_reply last (replied_by p (Tag tag) line) ≡ open_after_reply last (standard_reply tag) }
 {}
 
 /// The parser is a lawful sink of the tokenizer's messages. Two adjacent texts are as one (`joins`), an
