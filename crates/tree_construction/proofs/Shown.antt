@@ -8,7 +8,7 @@ use Rattle.tree_construction.specs.declared.kinds.Kind.{Kind}
 use Rattle.tree_construction.specs.declared.kinds.Namespace.{Namespace}
 use Rattle.tree_construction.specs.declared.kinds.Namespace.TheVariants.{Html, MathMl, Svg}
 use Rattle.tree_construction.specs.declared.modes.QuirksMode.TheVariants.{NoQuirks}
-use Rattle.tree_construction.specs.Names.{kind_in_namespace}
+use Rattle.tree_construction.specs.Names.{is_form, kind_in_namespace}
 use Rattle.tree_construction.specs.Parser.{Context, Options}
 use Rattle.tree_construction.specs.Construction.{start, told_all}
 use Rattle.tree_construction.specs.Document.{Tree, tree_in}
@@ -101,11 +101,9 @@ document scripting messages = record { scripting = scripting; context = None; me
 
 -- a fragment, by its context element
 abbrev pub fragment : Bool → Namespace → List ℕ → List AttributeOf → List Told → Case
-fragment scripting namespace name attributes messages = record {
-  scripting = scripting;
-  context = Some (record { kind = kind_in_namespace namespace name attributes; in_form = false; quirks_mode = NoQuirks });
-  messages = messages;
-}
+fragment scripting namespace name attributes messages =
+    let kind : Kind = kind_in_namespace namespace name attributes in
+    record { scripting = scripting; context = Some (record { kind = kind; in_form = is_form kind; quirks_mode = NoQuirks }); messages = messages }
 
 abbrev pub options_of : Case → Options
 options_of c = record { scripting = c.scripting; iframe_srcdoc = false; context = c.context; depth_limit = None }

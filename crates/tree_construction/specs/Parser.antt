@@ -15,7 +15,7 @@ use Rattle.tree_construction.specs.Page.{Edit, Open, Page, Place, comment_put, c
 use Rattle.tree_construction.specs.Page.Place.{LastChild, BesideNode}
 use Rattle.tree_construction.specs.Page.Edit.{ParseError, Put, PutText, AssociateForm}
 
--- "Parsing HTML fragments": the context element, and whether it or an element around it is a form
+-- "Parsing HTML fragments": the context element, whether it or an element around it is a form, and the mode of its document
 pub record Context : Type 0 where
   pub kind : Kind
   pub in_form : Bool

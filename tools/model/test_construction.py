@@ -1,0 +1,23 @@
+"""The definition of tree construction, run as it stands, builds the trees of its worked cases."""
+
+import json
+import pathlib
+import unittest
+
+from model import construction
+
+CASES = pathlib.Path(__file__).resolve().parent.parent / "cases" / "construction.jsonl"
+
+
+class TestConstruction(unittest.TestCase):
+    def test_worked_cases(self):
+        cases = [json.loads(line) for line in CASES.read_text(encoding="utf-8").splitlines()]
+        found = construction.with_deep_stack(lambda: [
+            construction.tree_of(it["messages"], it["scripting"], it["context"]) for it in cases])
+        for case, tree in zip(cases, found):
+            with self.subTest(row=case["row"], page=case["page"]):
+                self.assertEqual(tree, case["tree"])
+
+
+if __name__ == "__main__":
+    unittest.main()
