@@ -5,7 +5,8 @@
     python3 tools/gen/construction_cases.py --check
 
 tools/cases/construction.jsonl has a case a line: the row of tree construction that it shows, a page, the tokens that the
-tokenizer emits if it is told what the tree asks for, and the tree, as the public tests of tree construction write it.
+tokenizer emits if it is told what the tree asks for, and the tree, as the public tests of tree construction write it. Some
+have limits: of open elements, and of formatting elements.
 The script writes crates/tree_construction/proofs/RowCases.antt from it: there each tree is what the definitions build. With `--check` nothing is
 written, and the status is 1 if that file isn't what would be written.
 """
@@ -27,7 +28,7 @@ use Rattle.std.proofs.Common.{◌≡◌, Bool, true, false, List, [], ◌∷◌,
 use Rattle.std.specs.Prelude.{ℕ, Option, Some, None, codes, map}
 use Rattle.html5ever_interface.specs.Token.Told.{Text, Null, Comment, Instruction, Doctype, End}
 use Rattle.tree_construction.specs.declared.kinds.Namespace.TheVariants.{Html, MathMl, Svg}
-use Rattle.tree_construction.proofs.Shown.{Case, attribute, closed_tag, document, end_tag, fragment, start_tag}
+use Rattle.tree_construction.proofs.Shown.{Case, attribute, closed_tag, document, end_tag, fragment, limited, start_tag}
 """
 
 ESCAPES = {"\n": "\\n", "\t": "\\t", "\r": "\\r", "\\": "\\\\", '"': '\\"'}
@@ -78,6 +79,9 @@ def case_of(case):
     """A case as a term."""
     messages = list_of([message_of(*it) for it in case["messages"]] + ["End"])
     scripting = str(case["scripting"]).lower()
+    if "limits" in case:
+        depth, formatting = ("None" if it is None else f"(Some {it})" for it in case["limits"])
+        return f"limited {depth} {formatting} {messages}"
     if case["context"] is None:
         return f"document {scripting} {messages}"
     namespace, name, attributes = case["context"]

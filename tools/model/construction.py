@@ -43,7 +43,11 @@ def token_of(kind, values):
     return kind.capitalize() if not values else (kind.capitalize(), codes(values[0]))  # Null, Text, Comment, Instruction
 
 
-def options_of(scripting=False, context=None, depth_limit=None):
+def limit_of(limit):
+    return "None" if limit is None else ("Some", limit)
+
+
+def options_of(scripting, context, limits):
     """The options of a page, or of a fragment by its context: namespace, name and attributes."""
     found = "None"
     if context:
@@ -51,16 +55,16 @@ def options_of(scripting=False, context=None, depth_limit=None):
         kind = definition().kind_in_namespace(NAMESPACES[namespace], codes(name), attributes_of(attributes))
         found = ("Some", {"kind": kind, "in_form": kind == "Form", "quirks_mode": "NoQuirks"})
     return {"scripting": scripting, "iframe_srcdoc": False, "context": found,
-            "depth_limit": "None" if depth_limit is None else ("Some", depth_limit)}
+            "depth_limit": limit_of(limits[0]), "formatting_limit": limit_of(limits[1])}
 
 
 class Parser:
     """A parser by the definition, which is sent messages one after another."""
 
-    def __init__(self, scripting=False, context=None, depth_limit=None):
+    def __init__(self, scripting=False, context=None, limits=(None, None)):
         self.own = definition()
         self.root = 3 if context else 0
-        self.state = self.own.start(options_of(scripting, context, depth_limit))
+        self.state = self.own.start(options_of(scripting, context, limits))
 
     def take(self, kind, *values):
         """Takes a message. Answers what it asks for: the request's name and what comes with it."""
@@ -116,9 +120,9 @@ def node_lines(node, depth):
     return [f'{pad}"{text}"' if node[0] == "TextNode" else f"{pad}<!-- {text} -->"]
 
 
-def tree_of(messages, scripting=False, context=None, depth_limit=None):
+def tree_of(messages, scripting=False, context=None, limits=(None, None)):
     """The tree of messages and the end."""
-    parser = Parser(scripting, context, depth_limit)
+    parser = Parser(scripting, context, limits)
     for kind, *values in messages:
         parser.take(kind, *values)
     parser.end()

@@ -13,7 +13,7 @@ class TestConstruction(unittest.TestCase):
     def test_worked_cases(self):
         cases = [json.loads(line) for line in CASES.read_text(encoding="utf-8").splitlines()]
         found = construction.with_deep_stack(lambda: [
-            construction.tree_of(it["messages"], it["scripting"], it["context"]) for it in cases])
+            construction.tree_of(it["messages"], it["scripting"], it["context"], it.get("limits", (None, None))) for it in cases])
         for case, tree in zip(cases, found):
             with self.subTest(row=case["row"], page=case["page"]):
                 self.assertEqual(tree, case["tree"])

@@ -3,14 +3,14 @@ use Rattle.std.proofs.Common.{◌≡◌, Bool, true, false, List, [], ◌∷◌,
 use Rattle.std.specs.Prelude.{ℕ, Option, Some, None, codes, map}
 use Rattle.html5ever_interface.specs.Token.Told.{Text, Null, Comment, Instruction, Doctype, End}
 use Rattle.tree_construction.specs.declared.kinds.Namespace.TheVariants.{Html, MathMl, Svg}
-use Rattle.tree_construction.proofs.Shown.{Case, attribute, closed_tag, document, end_tag, fragment, start_tag}
+use Rattle.tree_construction.proofs.Shown.{Case, attribute, closed_tag, document, end_tag, fragment, limited, start_tag}
 use Rattle.tree_construction.specs.Adjusting.{adjusted_attributes, adjusted_name, adjusted_tag_name, cased, foreign_attributes, math_attribute_names, svg_attribute_names, svg_tag_names}
 use Rattle.tree_construction.specs.Adoption.{added_after, adopted, ended_by, entry_of, furthest_block, inner_loop, nth_open, opened_inside, opened_outside, outer_loop, replaced}
 use Rattle.tree_construction.specs.Construction.{process, run, start, step, told_all}
 use Rattle.tree_construction.specs.Doctypes.{begins_with, begins_with_one, html_4_01_beginnings, limited_quirks_beginnings, means_limited_quirks, means_quirks, quirks_beginnings, quirks_public_ids, quirks_system_ids}
 use Rattle.tree_construction.specs.Document.{added_before, built, changed, has_one_like, lacking, row_of, tree_from, without_node}
 use Rattle.tree_construction.specs.ForeignContent.{foreign_end}
-use Rattle.tree_construction.specs.Formatting.{are_among, cleared, count_alike, has_attribute_like, has_entry, last_named, reopened, still_listed, to_reopen, with_entry, without_earliest, without_entry}
+use Rattle.tree_construction.specs.Formatting.{are_among, cleared, count_after_marker, count_alike, has_attribute_like, has_entry, last_named, reopened, still_listed, to_reopen, with_entry, without_earliest, without_entry, without_oldest}
 use Rattle.tree_construction.specs.InBody.{item_met}
 use Rattle.tree_construction.specs.Names.{all_names, breaks_out, ends_scope, ends_table_scope, has_such, is_among, is_body_context, is_formatting, is_fostering, is_implied, is_implied_thoroughly, is_listed, is_row_context, is_special, kind_in, kind_in_namespace, kind_of, may_stay_open, namespace_of}
 use Rattle.tree_construction.specs.Page.{first_open, foster_place_in, has_in_scope, has_open, popped_to_first_in, popped_until_in, popped_while_in, second_body, without_open}
@@ -65,7 +65,7 @@ trees_0 =
     ∷ []
 
 built_0 : map shown_of rows_0 ≡ trees_0
-unfolding rows_0 trees_0 adjusted_attributes adjusted_name adjusted_tag_name cased foreign_attributes math_attribute_names svg_attribute_names svg_tag_names added_after adopted ended_by entry_of furthest_block inner_loop nth_open opened_inside opened_outside outer_loop replaced process run start step told_all begins_with begins_with_one html_4_01_beginnings limited_quirks_beginnings means_limited_quirks means_quirks quirks_beginnings quirks_public_ids quirks_system_ids added_before built changed has_one_like lacking row_of tree_from without_node foreign_end are_among cleared count_alike has_attribute_like has_entry last_named reopened still_listed to_reopen with_entry without_earliest without_entry item_met all_names breaks_out ends_scope ends_table_scope has_such is_among is_body_context is_formatting is_fostering is_implied is_implied_thoroughly is_listed is_row_context is_special kind_in kind_in_namespace kind_of may_stay_open namespace_of first_open foster_place_in has_in_scope has_open popped_to_first_in popped_until_in popped_while_in second_body without_open mode_of flushed_as_space flushed_fostered is_all_space mode_of_request reply_of value_of among attribute_lines comes_before indent shown shown_of sorted
+unfolding rows_0 trees_0 adjusted_attributes adjusted_name adjusted_tag_name cased foreign_attributes math_attribute_names svg_attribute_names svg_tag_names added_after adopted ended_by entry_of furthest_block inner_loop nth_open opened_inside opened_outside outer_loop replaced process run start step told_all begins_with begins_with_one html_4_01_beginnings limited_quirks_beginnings means_limited_quirks means_quirks quirks_beginnings quirks_public_ids quirks_system_ids added_before built changed has_one_like lacking row_of tree_from without_node foreign_end are_among cleared count_after_marker count_alike has_attribute_like has_entry last_named reopened still_listed to_reopen with_entry without_earliest without_entry without_oldest item_met all_names breaks_out ends_scope ends_table_scope has_such is_among is_body_context is_formatting is_fostering is_implied is_implied_thoroughly is_listed is_row_context is_special kind_in kind_in_namespace kind_of may_stay_open namespace_of first_open foster_place_in has_in_scope has_open popped_to_first_in popped_until_in popped_while_in second_body without_open mode_of flushed_as_space flushed_fostered is_all_space mode_of_request reply_of value_of among attribute_lines comes_before indent shown shown_of sorted
 built_0 = refl
 
 rows_1 : List Case
@@ -113,7 +113,7 @@ trees_1 =
     ∷ []
 
 built_1 : map shown_of rows_1 ≡ trees_1
-unfolding rows_1 trees_1 adjusted_attributes adjusted_name adjusted_tag_name cased foreign_attributes math_attribute_names svg_attribute_names svg_tag_names added_after adopted ended_by entry_of furthest_block inner_loop nth_open opened_inside opened_outside outer_loop replaced process run start step told_all begins_with begins_with_one html_4_01_beginnings limited_quirks_beginnings means_limited_quirks means_quirks quirks_beginnings quirks_public_ids quirks_system_ids added_before built changed has_one_like lacking row_of tree_from without_node foreign_end are_among cleared count_alike has_attribute_like has_entry last_named reopened still_listed to_reopen with_entry without_earliest without_entry item_met all_names breaks_out ends_scope ends_table_scope has_such is_among is_body_context is_formatting is_fostering is_implied is_implied_thoroughly is_listed is_row_context is_special kind_in kind_in_namespace kind_of may_stay_open namespace_of first_open foster_place_in has_in_scope has_open popped_to_first_in popped_until_in popped_while_in second_body without_open mode_of flushed_as_space flushed_fostered is_all_space mode_of_request reply_of value_of among attribute_lines comes_before indent shown shown_of sorted
+unfolding rows_1 trees_1 adjusted_attributes adjusted_name adjusted_tag_name cased foreign_attributes math_attribute_names svg_attribute_names svg_tag_names added_after adopted ended_by entry_of furthest_block inner_loop nth_open opened_inside opened_outside outer_loop replaced process run start step told_all begins_with begins_with_one html_4_01_beginnings limited_quirks_beginnings means_limited_quirks means_quirks quirks_beginnings quirks_public_ids quirks_system_ids added_before built changed has_one_like lacking row_of tree_from without_node foreign_end are_among cleared count_after_marker count_alike has_attribute_like has_entry last_named reopened still_listed to_reopen with_entry without_earliest without_entry without_oldest item_met all_names breaks_out ends_scope ends_table_scope has_such is_among is_body_context is_formatting is_fostering is_implied is_implied_thoroughly is_listed is_row_context is_special kind_in kind_in_namespace kind_of may_stay_open namespace_of first_open foster_place_in has_in_scope has_open popped_to_first_in popped_until_in popped_while_in second_body without_open mode_of flushed_as_space flushed_fostered is_all_space mode_of_request reply_of value_of among attribute_lines comes_before indent shown shown_of sorted
 built_1 = refl
 
 rows_2 : List Case
@@ -161,7 +161,7 @@ trees_2 =
     ∷ []
 
 built_2 : map shown_of rows_2 ≡ trees_2
-unfolding rows_2 trees_2 adjusted_attributes adjusted_name adjusted_tag_name cased foreign_attributes math_attribute_names svg_attribute_names svg_tag_names added_after adopted ended_by entry_of furthest_block inner_loop nth_open opened_inside opened_outside outer_loop replaced process run start step told_all begins_with begins_with_one html_4_01_beginnings limited_quirks_beginnings means_limited_quirks means_quirks quirks_beginnings quirks_public_ids quirks_system_ids added_before built changed has_one_like lacking row_of tree_from without_node foreign_end are_among cleared count_alike has_attribute_like has_entry last_named reopened still_listed to_reopen with_entry without_earliest without_entry item_met all_names breaks_out ends_scope ends_table_scope has_such is_among is_body_context is_formatting is_fostering is_implied is_implied_thoroughly is_listed is_row_context is_special kind_in kind_in_namespace kind_of may_stay_open namespace_of first_open foster_place_in has_in_scope has_open popped_to_first_in popped_until_in popped_while_in second_body without_open mode_of flushed_as_space flushed_fostered is_all_space mode_of_request reply_of value_of among attribute_lines comes_before indent shown shown_of sorted
+unfolding rows_2 trees_2 adjusted_attributes adjusted_name adjusted_tag_name cased foreign_attributes math_attribute_names svg_attribute_names svg_tag_names added_after adopted ended_by entry_of furthest_block inner_loop nth_open opened_inside opened_outside outer_loop replaced process run start step told_all begins_with begins_with_one html_4_01_beginnings limited_quirks_beginnings means_limited_quirks means_quirks quirks_beginnings quirks_public_ids quirks_system_ids added_before built changed has_one_like lacking row_of tree_from without_node foreign_end are_among cleared count_after_marker count_alike has_attribute_like has_entry last_named reopened still_listed to_reopen with_entry without_earliest without_entry without_oldest item_met all_names breaks_out ends_scope ends_table_scope has_such is_among is_body_context is_formatting is_fostering is_implied is_implied_thoroughly is_listed is_row_context is_special kind_in kind_in_namespace kind_of may_stay_open namespace_of first_open foster_place_in has_in_scope has_open popped_to_first_in popped_until_in popped_while_in second_body without_open mode_of flushed_as_space flushed_fostered is_all_space mode_of_request reply_of value_of among attribute_lines comes_before indent shown shown_of sorted
 built_2 = refl
 
 rows_3 : List Case
@@ -209,7 +209,7 @@ trees_3 =
     ∷ []
 
 built_3 : map shown_of rows_3 ≡ trees_3
-unfolding rows_3 trees_3 adjusted_attributes adjusted_name adjusted_tag_name cased foreign_attributes math_attribute_names svg_attribute_names svg_tag_names added_after adopted ended_by entry_of furthest_block inner_loop nth_open opened_inside opened_outside outer_loop replaced process run start step told_all begins_with begins_with_one html_4_01_beginnings limited_quirks_beginnings means_limited_quirks means_quirks quirks_beginnings quirks_public_ids quirks_system_ids added_before built changed has_one_like lacking row_of tree_from without_node foreign_end are_among cleared count_alike has_attribute_like has_entry last_named reopened still_listed to_reopen with_entry without_earliest without_entry item_met all_names breaks_out ends_scope ends_table_scope has_such is_among is_body_context is_formatting is_fostering is_implied is_implied_thoroughly is_listed is_row_context is_special kind_in kind_in_namespace kind_of may_stay_open namespace_of first_open foster_place_in has_in_scope has_open popped_to_first_in popped_until_in popped_while_in second_body without_open mode_of flushed_as_space flushed_fostered is_all_space mode_of_request reply_of value_of among attribute_lines comes_before indent shown shown_of sorted
+unfolding rows_3 trees_3 adjusted_attributes adjusted_name adjusted_tag_name cased foreign_attributes math_attribute_names svg_attribute_names svg_tag_names added_after adopted ended_by entry_of furthest_block inner_loop nth_open opened_inside opened_outside outer_loop replaced process run start step told_all begins_with begins_with_one html_4_01_beginnings limited_quirks_beginnings means_limited_quirks means_quirks quirks_beginnings quirks_public_ids quirks_system_ids added_before built changed has_one_like lacking row_of tree_from without_node foreign_end are_among cleared count_after_marker count_alike has_attribute_like has_entry last_named reopened still_listed to_reopen with_entry without_earliest without_entry without_oldest item_met all_names breaks_out ends_scope ends_table_scope has_such is_among is_body_context is_formatting is_fostering is_implied is_implied_thoroughly is_listed is_row_context is_special kind_in kind_in_namespace kind_of may_stay_open namespace_of first_open foster_place_in has_in_scope has_open popped_to_first_in popped_until_in popped_while_in second_body without_open mode_of flushed_as_space flushed_fostered is_all_space mode_of_request reply_of value_of among attribute_lines comes_before indent shown shown_of sorted
 built_3 = refl
 
 rows_4 : List Case
@@ -257,7 +257,7 @@ trees_4 =
     ∷ []
 
 built_4 : map shown_of rows_4 ≡ trees_4
-unfolding rows_4 trees_4 adjusted_attributes adjusted_name adjusted_tag_name cased foreign_attributes math_attribute_names svg_attribute_names svg_tag_names added_after adopted ended_by entry_of furthest_block inner_loop nth_open opened_inside opened_outside outer_loop replaced process run start step told_all begins_with begins_with_one html_4_01_beginnings limited_quirks_beginnings means_limited_quirks means_quirks quirks_beginnings quirks_public_ids quirks_system_ids added_before built changed has_one_like lacking row_of tree_from without_node foreign_end are_among cleared count_alike has_attribute_like has_entry last_named reopened still_listed to_reopen with_entry without_earliest without_entry item_met all_names breaks_out ends_scope ends_table_scope has_such is_among is_body_context is_formatting is_fostering is_implied is_implied_thoroughly is_listed is_row_context is_special kind_in kind_in_namespace kind_of may_stay_open namespace_of first_open foster_place_in has_in_scope has_open popped_to_first_in popped_until_in popped_while_in second_body without_open mode_of flushed_as_space flushed_fostered is_all_space mode_of_request reply_of value_of among attribute_lines comes_before indent shown shown_of sorted
+unfolding rows_4 trees_4 adjusted_attributes adjusted_name adjusted_tag_name cased foreign_attributes math_attribute_names svg_attribute_names svg_tag_names added_after adopted ended_by entry_of furthest_block inner_loop nth_open opened_inside opened_outside outer_loop replaced process run start step told_all begins_with begins_with_one html_4_01_beginnings limited_quirks_beginnings means_limited_quirks means_quirks quirks_beginnings quirks_public_ids quirks_system_ids added_before built changed has_one_like lacking row_of tree_from without_node foreign_end are_among cleared count_after_marker count_alike has_attribute_like has_entry last_named reopened still_listed to_reopen with_entry without_earliest without_entry without_oldest item_met all_names breaks_out ends_scope ends_table_scope has_such is_among is_body_context is_formatting is_fostering is_implied is_implied_thoroughly is_listed is_row_context is_special kind_in kind_in_namespace kind_of may_stay_open namespace_of first_open foster_place_in has_in_scope has_open popped_to_first_in popped_until_in popped_while_in second_body without_open mode_of flushed_as_space flushed_fostered is_all_space mode_of_request reply_of value_of among attribute_lines comes_before indent shown shown_of sorted
 built_4 = refl
 
 rows_5 : List Case
@@ -305,7 +305,7 @@ trees_5 =
     ∷ []
 
 built_5 : map shown_of rows_5 ≡ trees_5
-unfolding rows_5 trees_5 adjusted_attributes adjusted_name adjusted_tag_name cased foreign_attributes math_attribute_names svg_attribute_names svg_tag_names added_after adopted ended_by entry_of furthest_block inner_loop nth_open opened_inside opened_outside outer_loop replaced process run start step told_all begins_with begins_with_one html_4_01_beginnings limited_quirks_beginnings means_limited_quirks means_quirks quirks_beginnings quirks_public_ids quirks_system_ids added_before built changed has_one_like lacking row_of tree_from without_node foreign_end are_among cleared count_alike has_attribute_like has_entry last_named reopened still_listed to_reopen with_entry without_earliest without_entry item_met all_names breaks_out ends_scope ends_table_scope has_such is_among is_body_context is_formatting is_fostering is_implied is_implied_thoroughly is_listed is_row_context is_special kind_in kind_in_namespace kind_of may_stay_open namespace_of first_open foster_place_in has_in_scope has_open popped_to_first_in popped_until_in popped_while_in second_body without_open mode_of flushed_as_space flushed_fostered is_all_space mode_of_request reply_of value_of among attribute_lines comes_before indent shown shown_of sorted
+unfolding rows_5 trees_5 adjusted_attributes adjusted_name adjusted_tag_name cased foreign_attributes math_attribute_names svg_attribute_names svg_tag_names added_after adopted ended_by entry_of furthest_block inner_loop nth_open opened_inside opened_outside outer_loop replaced process run start step told_all begins_with begins_with_one html_4_01_beginnings limited_quirks_beginnings means_limited_quirks means_quirks quirks_beginnings quirks_public_ids quirks_system_ids added_before built changed has_one_like lacking row_of tree_from without_node foreign_end are_among cleared count_after_marker count_alike has_attribute_like has_entry last_named reopened still_listed to_reopen with_entry without_earliest without_entry without_oldest item_met all_names breaks_out ends_scope ends_table_scope has_such is_among is_body_context is_formatting is_fostering is_implied is_implied_thoroughly is_listed is_row_context is_special kind_in kind_in_namespace kind_of may_stay_open namespace_of first_open foster_place_in has_in_scope has_open popped_to_first_in popped_until_in popped_while_in second_body without_open mode_of flushed_as_space flushed_fostered is_all_space mode_of_request reply_of value_of among attribute_lines comes_before indent shown shown_of sorted
 built_5 = refl
 
 rows_6 : List Case
@@ -353,7 +353,7 @@ trees_6 =
     ∷ []
 
 built_6 : map shown_of rows_6 ≡ trees_6
-unfolding rows_6 trees_6 adjusted_attributes adjusted_name adjusted_tag_name cased foreign_attributes math_attribute_names svg_attribute_names svg_tag_names added_after adopted ended_by entry_of furthest_block inner_loop nth_open opened_inside opened_outside outer_loop replaced process run start step told_all begins_with begins_with_one html_4_01_beginnings limited_quirks_beginnings means_limited_quirks means_quirks quirks_beginnings quirks_public_ids quirks_system_ids added_before built changed has_one_like lacking row_of tree_from without_node foreign_end are_among cleared count_alike has_attribute_like has_entry last_named reopened still_listed to_reopen with_entry without_earliest without_entry item_met all_names breaks_out ends_scope ends_table_scope has_such is_among is_body_context is_formatting is_fostering is_implied is_implied_thoroughly is_listed is_row_context is_special kind_in kind_in_namespace kind_of may_stay_open namespace_of first_open foster_place_in has_in_scope has_open popped_to_first_in popped_until_in popped_while_in second_body without_open mode_of flushed_as_space flushed_fostered is_all_space mode_of_request reply_of value_of among attribute_lines comes_before indent shown shown_of sorted
+unfolding rows_6 trees_6 adjusted_attributes adjusted_name adjusted_tag_name cased foreign_attributes math_attribute_names svg_attribute_names svg_tag_names added_after adopted ended_by entry_of furthest_block inner_loop nth_open opened_inside opened_outside outer_loop replaced process run start step told_all begins_with begins_with_one html_4_01_beginnings limited_quirks_beginnings means_limited_quirks means_quirks quirks_beginnings quirks_public_ids quirks_system_ids added_before built changed has_one_like lacking row_of tree_from without_node foreign_end are_among cleared count_after_marker count_alike has_attribute_like has_entry last_named reopened still_listed to_reopen with_entry without_earliest without_entry without_oldest item_met all_names breaks_out ends_scope ends_table_scope has_such is_among is_body_context is_formatting is_fostering is_implied is_implied_thoroughly is_listed is_row_context is_special kind_in kind_in_namespace kind_of may_stay_open namespace_of first_open foster_place_in has_in_scope has_open popped_to_first_in popped_until_in popped_while_in second_body without_open mode_of flushed_as_space flushed_fostered is_all_space mode_of_request reply_of value_of among attribute_lines comes_before indent shown shown_of sorted
 built_6 = refl
 
 rows_7 : List Case
@@ -401,7 +401,7 @@ trees_7 =
     ∷ []
 
 built_7 : map shown_of rows_7 ≡ trees_7
-unfolding rows_7 trees_7 adjusted_attributes adjusted_name adjusted_tag_name cased foreign_attributes math_attribute_names svg_attribute_names svg_tag_names added_after adopted ended_by entry_of furthest_block inner_loop nth_open opened_inside opened_outside outer_loop replaced process run start step told_all begins_with begins_with_one html_4_01_beginnings limited_quirks_beginnings means_limited_quirks means_quirks quirks_beginnings quirks_public_ids quirks_system_ids added_before built changed has_one_like lacking row_of tree_from without_node foreign_end are_among cleared count_alike has_attribute_like has_entry last_named reopened still_listed to_reopen with_entry without_earliest without_entry item_met all_names breaks_out ends_scope ends_table_scope has_such is_among is_body_context is_formatting is_fostering is_implied is_implied_thoroughly is_listed is_row_context is_special kind_in kind_in_namespace kind_of may_stay_open namespace_of first_open foster_place_in has_in_scope has_open popped_to_first_in popped_until_in popped_while_in second_body without_open mode_of flushed_as_space flushed_fostered is_all_space mode_of_request reply_of value_of among attribute_lines comes_before indent shown shown_of sorted
+unfolding rows_7 trees_7 adjusted_attributes adjusted_name adjusted_tag_name cased foreign_attributes math_attribute_names svg_attribute_names svg_tag_names added_after adopted ended_by entry_of furthest_block inner_loop nth_open opened_inside opened_outside outer_loop replaced process run start step told_all begins_with begins_with_one html_4_01_beginnings limited_quirks_beginnings means_limited_quirks means_quirks quirks_beginnings quirks_public_ids quirks_system_ids added_before built changed has_one_like lacking row_of tree_from without_node foreign_end are_among cleared count_after_marker count_alike has_attribute_like has_entry last_named reopened still_listed to_reopen with_entry without_earliest without_entry without_oldest item_met all_names breaks_out ends_scope ends_table_scope has_such is_among is_body_context is_formatting is_fostering is_implied is_implied_thoroughly is_listed is_row_context is_special kind_in kind_in_namespace kind_of may_stay_open namespace_of first_open foster_place_in has_in_scope has_open popped_to_first_in popped_until_in popped_while_in second_body without_open mode_of flushed_as_space flushed_fostered is_all_space mode_of_request reply_of value_of among attribute_lines comes_before indent shown shown_of sorted
 built_7 = refl
 
 rows_8 : List Case
@@ -449,7 +449,7 @@ trees_8 =
     ∷ []
 
 built_8 : map shown_of rows_8 ≡ trees_8
-unfolding rows_8 trees_8 adjusted_attributes adjusted_name adjusted_tag_name cased foreign_attributes math_attribute_names svg_attribute_names svg_tag_names added_after adopted ended_by entry_of furthest_block inner_loop nth_open opened_inside opened_outside outer_loop replaced process run start step told_all begins_with begins_with_one html_4_01_beginnings limited_quirks_beginnings means_limited_quirks means_quirks quirks_beginnings quirks_public_ids quirks_system_ids added_before built changed has_one_like lacking row_of tree_from without_node foreign_end are_among cleared count_alike has_attribute_like has_entry last_named reopened still_listed to_reopen with_entry without_earliest without_entry item_met all_names breaks_out ends_scope ends_table_scope has_such is_among is_body_context is_formatting is_fostering is_implied is_implied_thoroughly is_listed is_row_context is_special kind_in kind_in_namespace kind_of may_stay_open namespace_of first_open foster_place_in has_in_scope has_open popped_to_first_in popped_until_in popped_while_in second_body without_open mode_of flushed_as_space flushed_fostered is_all_space mode_of_request reply_of value_of among attribute_lines comes_before indent shown shown_of sorted
+unfolding rows_8 trees_8 adjusted_attributes adjusted_name adjusted_tag_name cased foreign_attributes math_attribute_names svg_attribute_names svg_tag_names added_after adopted ended_by entry_of furthest_block inner_loop nth_open opened_inside opened_outside outer_loop replaced process run start step told_all begins_with begins_with_one html_4_01_beginnings limited_quirks_beginnings means_limited_quirks means_quirks quirks_beginnings quirks_public_ids quirks_system_ids added_before built changed has_one_like lacking row_of tree_from without_node foreign_end are_among cleared count_after_marker count_alike has_attribute_like has_entry last_named reopened still_listed to_reopen with_entry without_earliest without_entry without_oldest item_met all_names breaks_out ends_scope ends_table_scope has_such is_among is_body_context is_formatting is_fostering is_implied is_implied_thoroughly is_listed is_row_context is_special kind_in kind_in_namespace kind_of may_stay_open namespace_of first_open foster_place_in has_in_scope has_open popped_to_first_in popped_until_in popped_while_in second_body without_open mode_of flushed_as_space flushed_fostered is_all_space mode_of_request reply_of value_of among attribute_lines comes_before indent shown shown_of sorted
 built_8 = refl
 
 rows_9 : List Case
@@ -497,7 +497,7 @@ trees_9 =
     ∷ []
 
 built_9 : map shown_of rows_9 ≡ trees_9
-unfolding rows_9 trees_9 adjusted_attributes adjusted_name adjusted_tag_name cased foreign_attributes math_attribute_names svg_attribute_names svg_tag_names added_after adopted ended_by entry_of furthest_block inner_loop nth_open opened_inside opened_outside outer_loop replaced process run start step told_all begins_with begins_with_one html_4_01_beginnings limited_quirks_beginnings means_limited_quirks means_quirks quirks_beginnings quirks_public_ids quirks_system_ids added_before built changed has_one_like lacking row_of tree_from without_node foreign_end are_among cleared count_alike has_attribute_like has_entry last_named reopened still_listed to_reopen with_entry without_earliest without_entry item_met all_names breaks_out ends_scope ends_table_scope has_such is_among is_body_context is_formatting is_fostering is_implied is_implied_thoroughly is_listed is_row_context is_special kind_in kind_in_namespace kind_of may_stay_open namespace_of first_open foster_place_in has_in_scope has_open popped_to_first_in popped_until_in popped_while_in second_body without_open mode_of flushed_as_space flushed_fostered is_all_space mode_of_request reply_of value_of among attribute_lines comes_before indent shown shown_of sorted
+unfolding rows_9 trees_9 adjusted_attributes adjusted_name adjusted_tag_name cased foreign_attributes math_attribute_names svg_attribute_names svg_tag_names added_after adopted ended_by entry_of furthest_block inner_loop nth_open opened_inside opened_outside outer_loop replaced process run start step told_all begins_with begins_with_one html_4_01_beginnings limited_quirks_beginnings means_limited_quirks means_quirks quirks_beginnings quirks_public_ids quirks_system_ids added_before built changed has_one_like lacking row_of tree_from without_node foreign_end are_among cleared count_after_marker count_alike has_attribute_like has_entry last_named reopened still_listed to_reopen with_entry without_earliest without_entry without_oldest item_met all_names breaks_out ends_scope ends_table_scope has_such is_among is_body_context is_formatting is_fostering is_implied is_implied_thoroughly is_listed is_row_context is_special kind_in kind_in_namespace kind_of may_stay_open namespace_of first_open foster_place_in has_in_scope has_open popped_to_first_in popped_until_in popped_while_in second_body without_open mode_of flushed_as_space flushed_fostered is_all_space mode_of_request reply_of value_of among attribute_lines comes_before indent shown shown_of sorted
 built_9 = refl
 
 rows_10 : List Case
@@ -545,7 +545,7 @@ trees_10 =
     ∷ []
 
 built_10 : map shown_of rows_10 ≡ trees_10
-unfolding rows_10 trees_10 adjusted_attributes adjusted_name adjusted_tag_name cased foreign_attributes math_attribute_names svg_attribute_names svg_tag_names added_after adopted ended_by entry_of furthest_block inner_loop nth_open opened_inside opened_outside outer_loop replaced process run start step told_all begins_with begins_with_one html_4_01_beginnings limited_quirks_beginnings means_limited_quirks means_quirks quirks_beginnings quirks_public_ids quirks_system_ids added_before built changed has_one_like lacking row_of tree_from without_node foreign_end are_among cleared count_alike has_attribute_like has_entry last_named reopened still_listed to_reopen with_entry without_earliest without_entry item_met all_names breaks_out ends_scope ends_table_scope has_such is_among is_body_context is_formatting is_fostering is_implied is_implied_thoroughly is_listed is_row_context is_special kind_in kind_in_namespace kind_of may_stay_open namespace_of first_open foster_place_in has_in_scope has_open popped_to_first_in popped_until_in popped_while_in second_body without_open mode_of flushed_as_space flushed_fostered is_all_space mode_of_request reply_of value_of among attribute_lines comes_before indent shown shown_of sorted
+unfolding rows_10 trees_10 adjusted_attributes adjusted_name adjusted_tag_name cased foreign_attributes math_attribute_names svg_attribute_names svg_tag_names added_after adopted ended_by entry_of furthest_block inner_loop nth_open opened_inside opened_outside outer_loop replaced process run start step told_all begins_with begins_with_one html_4_01_beginnings limited_quirks_beginnings means_limited_quirks means_quirks quirks_beginnings quirks_public_ids quirks_system_ids added_before built changed has_one_like lacking row_of tree_from without_node foreign_end are_among cleared count_after_marker count_alike has_attribute_like has_entry last_named reopened still_listed to_reopen with_entry without_earliest without_entry without_oldest item_met all_names breaks_out ends_scope ends_table_scope has_such is_among is_body_context is_formatting is_fostering is_implied is_implied_thoroughly is_listed is_row_context is_special kind_in kind_in_namespace kind_of may_stay_open namespace_of first_open foster_place_in has_in_scope has_open popped_to_first_in popped_until_in popped_while_in second_body without_open mode_of flushed_as_space flushed_fostered is_all_space mode_of_request reply_of value_of among attribute_lines comes_before indent shown shown_of sorted
 built_10 = refl
 
 rows_11 : List Case
@@ -593,7 +593,7 @@ trees_11 =
     ∷ []
 
 built_11 : map shown_of rows_11 ≡ trees_11
-unfolding rows_11 trees_11 adjusted_attributes adjusted_name adjusted_tag_name cased foreign_attributes math_attribute_names svg_attribute_names svg_tag_names added_after adopted ended_by entry_of furthest_block inner_loop nth_open opened_inside opened_outside outer_loop replaced process run start step told_all begins_with begins_with_one html_4_01_beginnings limited_quirks_beginnings means_limited_quirks means_quirks quirks_beginnings quirks_public_ids quirks_system_ids added_before built changed has_one_like lacking row_of tree_from without_node foreign_end are_among cleared count_alike has_attribute_like has_entry last_named reopened still_listed to_reopen with_entry without_earliest without_entry item_met all_names breaks_out ends_scope ends_table_scope has_such is_among is_body_context is_formatting is_fostering is_implied is_implied_thoroughly is_listed is_row_context is_special kind_in kind_in_namespace kind_of may_stay_open namespace_of first_open foster_place_in has_in_scope has_open popped_to_first_in popped_until_in popped_while_in second_body without_open mode_of flushed_as_space flushed_fostered is_all_space mode_of_request reply_of value_of among attribute_lines comes_before indent shown shown_of sorted
+unfolding rows_11 trees_11 adjusted_attributes adjusted_name adjusted_tag_name cased foreign_attributes math_attribute_names svg_attribute_names svg_tag_names added_after adopted ended_by entry_of furthest_block inner_loop nth_open opened_inside opened_outside outer_loop replaced process run start step told_all begins_with begins_with_one html_4_01_beginnings limited_quirks_beginnings means_limited_quirks means_quirks quirks_beginnings quirks_public_ids quirks_system_ids added_before built changed has_one_like lacking row_of tree_from without_node foreign_end are_among cleared count_after_marker count_alike has_attribute_like has_entry last_named reopened still_listed to_reopen with_entry without_earliest without_entry without_oldest item_met all_names breaks_out ends_scope ends_table_scope has_such is_among is_body_context is_formatting is_fostering is_implied is_implied_thoroughly is_listed is_row_context is_special kind_in kind_in_namespace kind_of may_stay_open namespace_of first_open foster_place_in has_in_scope has_open popped_to_first_in popped_until_in popped_while_in second_body without_open mode_of flushed_as_space flushed_fostered is_all_space mode_of_request reply_of value_of among attribute_lines comes_before indent shown shown_of sorted
 built_11 = refl
 
 rows_12 : List Case
@@ -641,7 +641,7 @@ trees_12 =
     ∷ []
 
 built_12 : map shown_of rows_12 ≡ trees_12
-unfolding rows_12 trees_12 adjusted_attributes adjusted_name adjusted_tag_name cased foreign_attributes math_attribute_names svg_attribute_names svg_tag_names added_after adopted ended_by entry_of furthest_block inner_loop nth_open opened_inside opened_outside outer_loop replaced process run start step told_all begins_with begins_with_one html_4_01_beginnings limited_quirks_beginnings means_limited_quirks means_quirks quirks_beginnings quirks_public_ids quirks_system_ids added_before built changed has_one_like lacking row_of tree_from without_node foreign_end are_among cleared count_alike has_attribute_like has_entry last_named reopened still_listed to_reopen with_entry without_earliest without_entry item_met all_names breaks_out ends_scope ends_table_scope has_such is_among is_body_context is_formatting is_fostering is_implied is_implied_thoroughly is_listed is_row_context is_special kind_in kind_in_namespace kind_of may_stay_open namespace_of first_open foster_place_in has_in_scope has_open popped_to_first_in popped_until_in popped_while_in second_body without_open mode_of flushed_as_space flushed_fostered is_all_space mode_of_request reply_of value_of among attribute_lines comes_before indent shown shown_of sorted
+unfolding rows_12 trees_12 adjusted_attributes adjusted_name adjusted_tag_name cased foreign_attributes math_attribute_names svg_attribute_names svg_tag_names added_after adopted ended_by entry_of furthest_block inner_loop nth_open opened_inside opened_outside outer_loop replaced process run start step told_all begins_with begins_with_one html_4_01_beginnings limited_quirks_beginnings means_limited_quirks means_quirks quirks_beginnings quirks_public_ids quirks_system_ids added_before built changed has_one_like lacking row_of tree_from without_node foreign_end are_among cleared count_after_marker count_alike has_attribute_like has_entry last_named reopened still_listed to_reopen with_entry without_earliest without_entry without_oldest item_met all_names breaks_out ends_scope ends_table_scope has_such is_among is_body_context is_formatting is_fostering is_implied is_implied_thoroughly is_listed is_row_context is_special kind_in kind_in_namespace kind_of may_stay_open namespace_of first_open foster_place_in has_in_scope has_open popped_to_first_in popped_until_in popped_while_in second_body without_open mode_of flushed_as_space flushed_fostered is_all_space mode_of_request reply_of value_of among attribute_lines comes_before indent shown shown_of sorted
 built_12 = refl
 
 rows_13 : List Case
@@ -689,7 +689,7 @@ trees_13 =
     ∷ []
 
 built_13 : map shown_of rows_13 ≡ trees_13
-unfolding rows_13 trees_13 adjusted_attributes adjusted_name adjusted_tag_name cased foreign_attributes math_attribute_names svg_attribute_names svg_tag_names added_after adopted ended_by entry_of furthest_block inner_loop nth_open opened_inside opened_outside outer_loop replaced process run start step told_all begins_with begins_with_one html_4_01_beginnings limited_quirks_beginnings means_limited_quirks means_quirks quirks_beginnings quirks_public_ids quirks_system_ids added_before built changed has_one_like lacking row_of tree_from without_node foreign_end are_among cleared count_alike has_attribute_like has_entry last_named reopened still_listed to_reopen with_entry without_earliest without_entry item_met all_names breaks_out ends_scope ends_table_scope has_such is_among is_body_context is_formatting is_fostering is_implied is_implied_thoroughly is_listed is_row_context is_special kind_in kind_in_namespace kind_of may_stay_open namespace_of first_open foster_place_in has_in_scope has_open popped_to_first_in popped_until_in popped_while_in second_body without_open mode_of flushed_as_space flushed_fostered is_all_space mode_of_request reply_of value_of among attribute_lines comes_before indent shown shown_of sorted
+unfolding rows_13 trees_13 adjusted_attributes adjusted_name adjusted_tag_name cased foreign_attributes math_attribute_names svg_attribute_names svg_tag_names added_after adopted ended_by entry_of furthest_block inner_loop nth_open opened_inside opened_outside outer_loop replaced process run start step told_all begins_with begins_with_one html_4_01_beginnings limited_quirks_beginnings means_limited_quirks means_quirks quirks_beginnings quirks_public_ids quirks_system_ids added_before built changed has_one_like lacking row_of tree_from without_node foreign_end are_among cleared count_after_marker count_alike has_attribute_like has_entry last_named reopened still_listed to_reopen with_entry without_earliest without_entry without_oldest item_met all_names breaks_out ends_scope ends_table_scope has_such is_among is_body_context is_formatting is_fostering is_implied is_implied_thoroughly is_listed is_row_context is_special kind_in kind_in_namespace kind_of may_stay_open namespace_of first_open foster_place_in has_in_scope has_open popped_to_first_in popped_until_in popped_while_in second_body without_open mode_of flushed_as_space flushed_fostered is_all_space mode_of_request reply_of value_of among attribute_lines comes_before indent shown shown_of sorted
 built_13 = refl
 
 rows_14 : List Case
@@ -737,7 +737,7 @@ trees_14 =
     ∷ []
 
 built_14 : map shown_of rows_14 ≡ trees_14
-unfolding rows_14 trees_14 adjusted_attributes adjusted_name adjusted_tag_name cased foreign_attributes math_attribute_names svg_attribute_names svg_tag_names added_after adopted ended_by entry_of furthest_block inner_loop nth_open opened_inside opened_outside outer_loop replaced process run start step told_all begins_with begins_with_one html_4_01_beginnings limited_quirks_beginnings means_limited_quirks means_quirks quirks_beginnings quirks_public_ids quirks_system_ids added_before built changed has_one_like lacking row_of tree_from without_node foreign_end are_among cleared count_alike has_attribute_like has_entry last_named reopened still_listed to_reopen with_entry without_earliest without_entry item_met all_names breaks_out ends_scope ends_table_scope has_such is_among is_body_context is_formatting is_fostering is_implied is_implied_thoroughly is_listed is_row_context is_special kind_in kind_in_namespace kind_of may_stay_open namespace_of first_open foster_place_in has_in_scope has_open popped_to_first_in popped_until_in popped_while_in second_body without_open mode_of flushed_as_space flushed_fostered is_all_space mode_of_request reply_of value_of among attribute_lines comes_before indent shown shown_of sorted
+unfolding rows_14 trees_14 adjusted_attributes adjusted_name adjusted_tag_name cased foreign_attributes math_attribute_names svg_attribute_names svg_tag_names added_after adopted ended_by entry_of furthest_block inner_loop nth_open opened_inside opened_outside outer_loop replaced process run start step told_all begins_with begins_with_one html_4_01_beginnings limited_quirks_beginnings means_limited_quirks means_quirks quirks_beginnings quirks_public_ids quirks_system_ids added_before built changed has_one_like lacking row_of tree_from without_node foreign_end are_among cleared count_after_marker count_alike has_attribute_like has_entry last_named reopened still_listed to_reopen with_entry without_earliest without_entry without_oldest item_met all_names breaks_out ends_scope ends_table_scope has_such is_among is_body_context is_formatting is_fostering is_implied is_implied_thoroughly is_listed is_row_context is_special kind_in kind_in_namespace kind_of may_stay_open namespace_of first_open foster_place_in has_in_scope has_open popped_to_first_in popped_until_in popped_while_in second_body without_open mode_of flushed_as_space flushed_fostered is_all_space mode_of_request reply_of value_of among attribute_lines comes_before indent shown shown_of sorted
 built_14 = refl
 
 rows_15 : List Case
@@ -785,7 +785,7 @@ trees_15 =
     ∷ []
 
 built_15 : map shown_of rows_15 ≡ trees_15
-unfolding rows_15 trees_15 adjusted_attributes adjusted_name adjusted_tag_name cased foreign_attributes math_attribute_names svg_attribute_names svg_tag_names added_after adopted ended_by entry_of furthest_block inner_loop nth_open opened_inside opened_outside outer_loop replaced process run start step told_all begins_with begins_with_one html_4_01_beginnings limited_quirks_beginnings means_limited_quirks means_quirks quirks_beginnings quirks_public_ids quirks_system_ids added_before built changed has_one_like lacking row_of tree_from without_node foreign_end are_among cleared count_alike has_attribute_like has_entry last_named reopened still_listed to_reopen with_entry without_earliest without_entry item_met all_names breaks_out ends_scope ends_table_scope has_such is_among is_body_context is_formatting is_fostering is_implied is_implied_thoroughly is_listed is_row_context is_special kind_in kind_in_namespace kind_of may_stay_open namespace_of first_open foster_place_in has_in_scope has_open popped_to_first_in popped_until_in popped_while_in second_body without_open mode_of flushed_as_space flushed_fostered is_all_space mode_of_request reply_of value_of among attribute_lines comes_before indent shown shown_of sorted
+unfolding rows_15 trees_15 adjusted_attributes adjusted_name adjusted_tag_name cased foreign_attributes math_attribute_names svg_attribute_names svg_tag_names added_after adopted ended_by entry_of furthest_block inner_loop nth_open opened_inside opened_outside outer_loop replaced process run start step told_all begins_with begins_with_one html_4_01_beginnings limited_quirks_beginnings means_limited_quirks means_quirks quirks_beginnings quirks_public_ids quirks_system_ids added_before built changed has_one_like lacking row_of tree_from without_node foreign_end are_among cleared count_after_marker count_alike has_attribute_like has_entry last_named reopened still_listed to_reopen with_entry without_earliest without_entry without_oldest item_met all_names breaks_out ends_scope ends_table_scope has_such is_among is_body_context is_formatting is_fostering is_implied is_implied_thoroughly is_listed is_row_context is_special kind_in kind_in_namespace kind_of may_stay_open namespace_of first_open foster_place_in has_in_scope has_open popped_to_first_in popped_until_in popped_while_in second_body without_open mode_of flushed_as_space flushed_fostered is_all_space mode_of_request reply_of value_of among attribute_lines comes_before indent shown shown_of sorted
 built_15 = refl
 
 rows_16 : List Case
@@ -833,7 +833,7 @@ trees_16 =
     ∷ []
 
 built_16 : map shown_of rows_16 ≡ trees_16
-unfolding rows_16 trees_16 adjusted_attributes adjusted_name adjusted_tag_name cased foreign_attributes math_attribute_names svg_attribute_names svg_tag_names added_after adopted ended_by entry_of furthest_block inner_loop nth_open opened_inside opened_outside outer_loop replaced process run start step told_all begins_with begins_with_one html_4_01_beginnings limited_quirks_beginnings means_limited_quirks means_quirks quirks_beginnings quirks_public_ids quirks_system_ids added_before built changed has_one_like lacking row_of tree_from without_node foreign_end are_among cleared count_alike has_attribute_like has_entry last_named reopened still_listed to_reopen with_entry without_earliest without_entry item_met all_names breaks_out ends_scope ends_table_scope has_such is_among is_body_context is_formatting is_fostering is_implied is_implied_thoroughly is_listed is_row_context is_special kind_in kind_in_namespace kind_of may_stay_open namespace_of first_open foster_place_in has_in_scope has_open popped_to_first_in popped_until_in popped_while_in second_body without_open mode_of flushed_as_space flushed_fostered is_all_space mode_of_request reply_of value_of among attribute_lines comes_before indent shown shown_of sorted
+unfolding rows_16 trees_16 adjusted_attributes adjusted_name adjusted_tag_name cased foreign_attributes math_attribute_names svg_attribute_names svg_tag_names added_after adopted ended_by entry_of furthest_block inner_loop nth_open opened_inside opened_outside outer_loop replaced process run start step told_all begins_with begins_with_one html_4_01_beginnings limited_quirks_beginnings means_limited_quirks means_quirks quirks_beginnings quirks_public_ids quirks_system_ids added_before built changed has_one_like lacking row_of tree_from without_node foreign_end are_among cleared count_after_marker count_alike has_attribute_like has_entry last_named reopened still_listed to_reopen with_entry without_earliest without_entry without_oldest item_met all_names breaks_out ends_scope ends_table_scope has_such is_among is_body_context is_formatting is_fostering is_implied is_implied_thoroughly is_listed is_row_context is_special kind_in kind_in_namespace kind_of may_stay_open namespace_of first_open foster_place_in has_in_scope has_open popped_to_first_in popped_until_in popped_while_in second_body without_open mode_of flushed_as_space flushed_fostered is_all_space mode_of_request reply_of value_of among attribute_lines comes_before indent shown shown_of sorted
 built_16 = refl
 
 rows_17 : List Case
@@ -881,7 +881,7 @@ trees_17 =
     ∷ []
 
 built_17 : map shown_of rows_17 ≡ trees_17
-unfolding rows_17 trees_17 adjusted_attributes adjusted_name adjusted_tag_name cased foreign_attributes math_attribute_names svg_attribute_names svg_tag_names added_after adopted ended_by entry_of furthest_block inner_loop nth_open opened_inside opened_outside outer_loop replaced process run start step told_all begins_with begins_with_one html_4_01_beginnings limited_quirks_beginnings means_limited_quirks means_quirks quirks_beginnings quirks_public_ids quirks_system_ids added_before built changed has_one_like lacking row_of tree_from without_node foreign_end are_among cleared count_alike has_attribute_like has_entry last_named reopened still_listed to_reopen with_entry without_earliest without_entry item_met all_names breaks_out ends_scope ends_table_scope has_such is_among is_body_context is_formatting is_fostering is_implied is_implied_thoroughly is_listed is_row_context is_special kind_in kind_in_namespace kind_of may_stay_open namespace_of first_open foster_place_in has_in_scope has_open popped_to_first_in popped_until_in popped_while_in second_body without_open mode_of flushed_as_space flushed_fostered is_all_space mode_of_request reply_of value_of among attribute_lines comes_before indent shown shown_of sorted
+unfolding rows_17 trees_17 adjusted_attributes adjusted_name adjusted_tag_name cased foreign_attributes math_attribute_names svg_attribute_names svg_tag_names added_after adopted ended_by entry_of furthest_block inner_loop nth_open opened_inside opened_outside outer_loop replaced process run start step told_all begins_with begins_with_one html_4_01_beginnings limited_quirks_beginnings means_limited_quirks means_quirks quirks_beginnings quirks_public_ids quirks_system_ids added_before built changed has_one_like lacking row_of tree_from without_node foreign_end are_among cleared count_after_marker count_alike has_attribute_like has_entry last_named reopened still_listed to_reopen with_entry without_earliest without_entry without_oldest item_met all_names breaks_out ends_scope ends_table_scope has_such is_among is_body_context is_formatting is_fostering is_implied is_implied_thoroughly is_listed is_row_context is_special kind_in kind_in_namespace kind_of may_stay_open namespace_of first_open foster_place_in has_in_scope has_open popped_to_first_in popped_until_in popped_while_in second_body without_open mode_of flushed_as_space flushed_fostered is_all_space mode_of_request reply_of value_of among attribute_lines comes_before indent shown shown_of sorted
 built_17 = refl
 
 rows_18 : List Case
@@ -929,7 +929,7 @@ trees_18 =
     ∷ []
 
 built_18 : map shown_of rows_18 ≡ trees_18
-unfolding rows_18 trees_18 adjusted_attributes adjusted_name adjusted_tag_name cased foreign_attributes math_attribute_names svg_attribute_names svg_tag_names added_after adopted ended_by entry_of furthest_block inner_loop nth_open opened_inside opened_outside outer_loop replaced process run start step told_all begins_with begins_with_one html_4_01_beginnings limited_quirks_beginnings means_limited_quirks means_quirks quirks_beginnings quirks_public_ids quirks_system_ids added_before built changed has_one_like lacking row_of tree_from without_node foreign_end are_among cleared count_alike has_attribute_like has_entry last_named reopened still_listed to_reopen with_entry without_earliest without_entry item_met all_names breaks_out ends_scope ends_table_scope has_such is_among is_body_context is_formatting is_fostering is_implied is_implied_thoroughly is_listed is_row_context is_special kind_in kind_in_namespace kind_of may_stay_open namespace_of first_open foster_place_in has_in_scope has_open popped_to_first_in popped_until_in popped_while_in second_body without_open mode_of flushed_as_space flushed_fostered is_all_space mode_of_request reply_of value_of among attribute_lines comes_before indent shown shown_of sorted
+unfolding rows_18 trees_18 adjusted_attributes adjusted_name adjusted_tag_name cased foreign_attributes math_attribute_names svg_attribute_names svg_tag_names added_after adopted ended_by entry_of furthest_block inner_loop nth_open opened_inside opened_outside outer_loop replaced process run start step told_all begins_with begins_with_one html_4_01_beginnings limited_quirks_beginnings means_limited_quirks means_quirks quirks_beginnings quirks_public_ids quirks_system_ids added_before built changed has_one_like lacking row_of tree_from without_node foreign_end are_among cleared count_after_marker count_alike has_attribute_like has_entry last_named reopened still_listed to_reopen with_entry without_earliest without_entry without_oldest item_met all_names breaks_out ends_scope ends_table_scope has_such is_among is_body_context is_formatting is_fostering is_implied is_implied_thoroughly is_listed is_row_context is_special kind_in kind_in_namespace kind_of may_stay_open namespace_of first_open foster_place_in has_in_scope has_open popped_to_first_in popped_until_in popped_while_in second_body without_open mode_of flushed_as_space flushed_fostered is_all_space mode_of_request reply_of value_of among attribute_lines comes_before indent shown shown_of sorted
 built_18 = refl
 
 rows_19 : List Case
@@ -977,7 +977,7 @@ trees_19 =
     ∷ []
 
 built_19 : map shown_of rows_19 ≡ trees_19
-unfolding rows_19 trees_19 adjusted_attributes adjusted_name adjusted_tag_name cased foreign_attributes math_attribute_names svg_attribute_names svg_tag_names added_after adopted ended_by entry_of furthest_block inner_loop nth_open opened_inside opened_outside outer_loop replaced process run start step told_all begins_with begins_with_one html_4_01_beginnings limited_quirks_beginnings means_limited_quirks means_quirks quirks_beginnings quirks_public_ids quirks_system_ids added_before built changed has_one_like lacking row_of tree_from without_node foreign_end are_among cleared count_alike has_attribute_like has_entry last_named reopened still_listed to_reopen with_entry without_earliest without_entry item_met all_names breaks_out ends_scope ends_table_scope has_such is_among is_body_context is_formatting is_fostering is_implied is_implied_thoroughly is_listed is_row_context is_special kind_in kind_in_namespace kind_of may_stay_open namespace_of first_open foster_place_in has_in_scope has_open popped_to_first_in popped_until_in popped_while_in second_body without_open mode_of flushed_as_space flushed_fostered is_all_space mode_of_request reply_of value_of among attribute_lines comes_before indent shown shown_of sorted
+unfolding rows_19 trees_19 adjusted_attributes adjusted_name adjusted_tag_name cased foreign_attributes math_attribute_names svg_attribute_names svg_tag_names added_after adopted ended_by entry_of furthest_block inner_loop nth_open opened_inside opened_outside outer_loop replaced process run start step told_all begins_with begins_with_one html_4_01_beginnings limited_quirks_beginnings means_limited_quirks means_quirks quirks_beginnings quirks_public_ids quirks_system_ids added_before built changed has_one_like lacking row_of tree_from without_node foreign_end are_among cleared count_after_marker count_alike has_attribute_like has_entry last_named reopened still_listed to_reopen with_entry without_earliest without_entry without_oldest item_met all_names breaks_out ends_scope ends_table_scope has_such is_among is_body_context is_formatting is_fostering is_implied is_implied_thoroughly is_listed is_row_context is_special kind_in kind_in_namespace kind_of may_stay_open namespace_of first_open foster_place_in has_in_scope has_open popped_to_first_in popped_until_in popped_while_in second_body without_open mode_of flushed_as_space flushed_fostered is_all_space mode_of_request reply_of value_of among attribute_lines comes_before indent shown shown_of sorted
 built_19 = refl
 
 rows_20 : List Case
@@ -1025,7 +1025,7 @@ trees_20 =
     ∷ []
 
 built_20 : map shown_of rows_20 ≡ trees_20
-unfolding rows_20 trees_20 adjusted_attributes adjusted_name adjusted_tag_name cased foreign_attributes math_attribute_names svg_attribute_names svg_tag_names added_after adopted ended_by entry_of furthest_block inner_loop nth_open opened_inside opened_outside outer_loop replaced process run start step told_all begins_with begins_with_one html_4_01_beginnings limited_quirks_beginnings means_limited_quirks means_quirks quirks_beginnings quirks_public_ids quirks_system_ids added_before built changed has_one_like lacking row_of tree_from without_node foreign_end are_among cleared count_alike has_attribute_like has_entry last_named reopened still_listed to_reopen with_entry without_earliest without_entry item_met all_names breaks_out ends_scope ends_table_scope has_such is_among is_body_context is_formatting is_fostering is_implied is_implied_thoroughly is_listed is_row_context is_special kind_in kind_in_namespace kind_of may_stay_open namespace_of first_open foster_place_in has_in_scope has_open popped_to_first_in popped_until_in popped_while_in second_body without_open mode_of flushed_as_space flushed_fostered is_all_space mode_of_request reply_of value_of among attribute_lines comes_before indent shown shown_of sorted
+unfolding rows_20 trees_20 adjusted_attributes adjusted_name adjusted_tag_name cased foreign_attributes math_attribute_names svg_attribute_names svg_tag_names added_after adopted ended_by entry_of furthest_block inner_loop nth_open opened_inside opened_outside outer_loop replaced process run start step told_all begins_with begins_with_one html_4_01_beginnings limited_quirks_beginnings means_limited_quirks means_quirks quirks_beginnings quirks_public_ids quirks_system_ids added_before built changed has_one_like lacking row_of tree_from without_node foreign_end are_among cleared count_after_marker count_alike has_attribute_like has_entry last_named reopened still_listed to_reopen with_entry without_earliest without_entry without_oldest item_met all_names breaks_out ends_scope ends_table_scope has_such is_among is_body_context is_formatting is_fostering is_implied is_implied_thoroughly is_listed is_row_context is_special kind_in kind_in_namespace kind_of may_stay_open namespace_of first_open foster_place_in has_in_scope has_open popped_to_first_in popped_until_in popped_while_in second_body without_open mode_of flushed_as_space flushed_fostered is_all_space mode_of_request reply_of value_of among attribute_lines comes_before indent shown shown_of sorted
 built_20 = refl
 
 rows_21 : List Case
@@ -1073,7 +1073,7 @@ trees_21 =
     ∷ []
 
 built_21 : map shown_of rows_21 ≡ trees_21
-unfolding rows_21 trees_21 adjusted_attributes adjusted_name adjusted_tag_name cased foreign_attributes math_attribute_names svg_attribute_names svg_tag_names added_after adopted ended_by entry_of furthest_block inner_loop nth_open opened_inside opened_outside outer_loop replaced process run start step told_all begins_with begins_with_one html_4_01_beginnings limited_quirks_beginnings means_limited_quirks means_quirks quirks_beginnings quirks_public_ids quirks_system_ids added_before built changed has_one_like lacking row_of tree_from without_node foreign_end are_among cleared count_alike has_attribute_like has_entry last_named reopened still_listed to_reopen with_entry without_earliest without_entry item_met all_names breaks_out ends_scope ends_table_scope has_such is_among is_body_context is_formatting is_fostering is_implied is_implied_thoroughly is_listed is_row_context is_special kind_in kind_in_namespace kind_of may_stay_open namespace_of first_open foster_place_in has_in_scope has_open popped_to_first_in popped_until_in popped_while_in second_body without_open mode_of flushed_as_space flushed_fostered is_all_space mode_of_request reply_of value_of among attribute_lines comes_before indent shown shown_of sorted
+unfolding rows_21 trees_21 adjusted_attributes adjusted_name adjusted_tag_name cased foreign_attributes math_attribute_names svg_attribute_names svg_tag_names added_after adopted ended_by entry_of furthest_block inner_loop nth_open opened_inside opened_outside outer_loop replaced process run start step told_all begins_with begins_with_one html_4_01_beginnings limited_quirks_beginnings means_limited_quirks means_quirks quirks_beginnings quirks_public_ids quirks_system_ids added_before built changed has_one_like lacking row_of tree_from without_node foreign_end are_among cleared count_after_marker count_alike has_attribute_like has_entry last_named reopened still_listed to_reopen with_entry without_earliest without_entry without_oldest item_met all_names breaks_out ends_scope ends_table_scope has_such is_among is_body_context is_formatting is_fostering is_implied is_implied_thoroughly is_listed is_row_context is_special kind_in kind_in_namespace kind_of may_stay_open namespace_of first_open foster_place_in has_in_scope has_open popped_to_first_in popped_until_in popped_while_in second_body without_open mode_of flushed_as_space flushed_fostered is_all_space mode_of_request reply_of value_of among attribute_lines comes_before indent shown shown_of sorted
 built_21 = refl
 
 rows_22 : List Case
@@ -1121,7 +1121,7 @@ trees_22 =
     ∷ []
 
 built_22 : map shown_of rows_22 ≡ trees_22
-unfolding rows_22 trees_22 adjusted_attributes adjusted_name adjusted_tag_name cased foreign_attributes math_attribute_names svg_attribute_names svg_tag_names added_after adopted ended_by entry_of furthest_block inner_loop nth_open opened_inside opened_outside outer_loop replaced process run start step told_all begins_with begins_with_one html_4_01_beginnings limited_quirks_beginnings means_limited_quirks means_quirks quirks_beginnings quirks_public_ids quirks_system_ids added_before built changed has_one_like lacking row_of tree_from without_node foreign_end are_among cleared count_alike has_attribute_like has_entry last_named reopened still_listed to_reopen with_entry without_earliest without_entry item_met all_names breaks_out ends_scope ends_table_scope has_such is_among is_body_context is_formatting is_fostering is_implied is_implied_thoroughly is_listed is_row_context is_special kind_in kind_in_namespace kind_of may_stay_open namespace_of first_open foster_place_in has_in_scope has_open popped_to_first_in popped_until_in popped_while_in second_body without_open mode_of flushed_as_space flushed_fostered is_all_space mode_of_request reply_of value_of among attribute_lines comes_before indent shown shown_of sorted
+unfolding rows_22 trees_22 adjusted_attributes adjusted_name adjusted_tag_name cased foreign_attributes math_attribute_names svg_attribute_names svg_tag_names added_after adopted ended_by entry_of furthest_block inner_loop nth_open opened_inside opened_outside outer_loop replaced process run start step told_all begins_with begins_with_one html_4_01_beginnings limited_quirks_beginnings means_limited_quirks means_quirks quirks_beginnings quirks_public_ids quirks_system_ids added_before built changed has_one_like lacking row_of tree_from without_node foreign_end are_among cleared count_after_marker count_alike has_attribute_like has_entry last_named reopened still_listed to_reopen with_entry without_earliest without_entry without_oldest item_met all_names breaks_out ends_scope ends_table_scope has_such is_among is_body_context is_formatting is_fostering is_implied is_implied_thoroughly is_listed is_row_context is_special kind_in kind_in_namespace kind_of may_stay_open namespace_of first_open foster_place_in has_in_scope has_open popped_to_first_in popped_until_in popped_while_in second_body without_open mode_of flushed_as_space flushed_fostered is_all_space mode_of_request reply_of value_of among attribute_lines comes_before indent shown shown_of sorted
 built_22 = refl
 
 rows_23 : List Case
@@ -1169,7 +1169,7 @@ trees_23 =
     ∷ []
 
 built_23 : map shown_of rows_23 ≡ trees_23
-unfolding rows_23 trees_23 adjusted_attributes adjusted_name adjusted_tag_name cased foreign_attributes math_attribute_names svg_attribute_names svg_tag_names added_after adopted ended_by entry_of furthest_block inner_loop nth_open opened_inside opened_outside outer_loop replaced process run start step told_all begins_with begins_with_one html_4_01_beginnings limited_quirks_beginnings means_limited_quirks means_quirks quirks_beginnings quirks_public_ids quirks_system_ids added_before built changed has_one_like lacking row_of tree_from without_node foreign_end are_among cleared count_alike has_attribute_like has_entry last_named reopened still_listed to_reopen with_entry without_earliest without_entry item_met all_names breaks_out ends_scope ends_table_scope has_such is_among is_body_context is_formatting is_fostering is_implied is_implied_thoroughly is_listed is_row_context is_special kind_in kind_in_namespace kind_of may_stay_open namespace_of first_open foster_place_in has_in_scope has_open popped_to_first_in popped_until_in popped_while_in second_body without_open mode_of flushed_as_space flushed_fostered is_all_space mode_of_request reply_of value_of among attribute_lines comes_before indent shown shown_of sorted
+unfolding rows_23 trees_23 adjusted_attributes adjusted_name adjusted_tag_name cased foreign_attributes math_attribute_names svg_attribute_names svg_tag_names added_after adopted ended_by entry_of furthest_block inner_loop nth_open opened_inside opened_outside outer_loop replaced process run start step told_all begins_with begins_with_one html_4_01_beginnings limited_quirks_beginnings means_limited_quirks means_quirks quirks_beginnings quirks_public_ids quirks_system_ids added_before built changed has_one_like lacking row_of tree_from without_node foreign_end are_among cleared count_after_marker count_alike has_attribute_like has_entry last_named reopened still_listed to_reopen with_entry without_earliest without_entry without_oldest item_met all_names breaks_out ends_scope ends_table_scope has_such is_among is_body_context is_formatting is_fostering is_implied is_implied_thoroughly is_listed is_row_context is_special kind_in kind_in_namespace kind_of may_stay_open namespace_of first_open foster_place_in has_in_scope has_open popped_to_first_in popped_until_in popped_while_in second_body without_open mode_of flushed_as_space flushed_fostered is_all_space mode_of_request reply_of value_of among attribute_lines comes_before indent shown shown_of sorted
 built_23 = refl
 
 rows_24 : List Case
@@ -1217,7 +1217,7 @@ trees_24 =
     ∷ []
 
 built_24 : map shown_of rows_24 ≡ trees_24
-unfolding rows_24 trees_24 adjusted_attributes adjusted_name adjusted_tag_name cased foreign_attributes math_attribute_names svg_attribute_names svg_tag_names added_after adopted ended_by entry_of furthest_block inner_loop nth_open opened_inside opened_outside outer_loop replaced process run start step told_all begins_with begins_with_one html_4_01_beginnings limited_quirks_beginnings means_limited_quirks means_quirks quirks_beginnings quirks_public_ids quirks_system_ids added_before built changed has_one_like lacking row_of tree_from without_node foreign_end are_among cleared count_alike has_attribute_like has_entry last_named reopened still_listed to_reopen with_entry without_earliest without_entry item_met all_names breaks_out ends_scope ends_table_scope has_such is_among is_body_context is_formatting is_fostering is_implied is_implied_thoroughly is_listed is_row_context is_special kind_in kind_in_namespace kind_of may_stay_open namespace_of first_open foster_place_in has_in_scope has_open popped_to_first_in popped_until_in popped_while_in second_body without_open mode_of flushed_as_space flushed_fostered is_all_space mode_of_request reply_of value_of among attribute_lines comes_before indent shown shown_of sorted
+unfolding rows_24 trees_24 adjusted_attributes adjusted_name adjusted_tag_name cased foreign_attributes math_attribute_names svg_attribute_names svg_tag_names added_after adopted ended_by entry_of furthest_block inner_loop nth_open opened_inside opened_outside outer_loop replaced process run start step told_all begins_with begins_with_one html_4_01_beginnings limited_quirks_beginnings means_limited_quirks means_quirks quirks_beginnings quirks_public_ids quirks_system_ids added_before built changed has_one_like lacking row_of tree_from without_node foreign_end are_among cleared count_after_marker count_alike has_attribute_like has_entry last_named reopened still_listed to_reopen with_entry without_earliest without_entry without_oldest item_met all_names breaks_out ends_scope ends_table_scope has_such is_among is_body_context is_formatting is_fostering is_implied is_implied_thoroughly is_listed is_row_context is_special kind_in kind_in_namespace kind_of may_stay_open namespace_of first_open foster_place_in has_in_scope has_open popped_to_first_in popped_until_in popped_while_in second_body without_open mode_of flushed_as_space flushed_fostered is_all_space mode_of_request reply_of value_of among attribute_lines comes_before indent shown shown_of sorted
 built_24 = refl
 
 rows_25 : List Case
@@ -1265,7 +1265,7 @@ trees_25 =
     ∷ []
 
 built_25 : map shown_of rows_25 ≡ trees_25
-unfolding rows_25 trees_25 adjusted_attributes adjusted_name adjusted_tag_name cased foreign_attributes math_attribute_names svg_attribute_names svg_tag_names added_after adopted ended_by entry_of furthest_block inner_loop nth_open opened_inside opened_outside outer_loop replaced process run start step told_all begins_with begins_with_one html_4_01_beginnings limited_quirks_beginnings means_limited_quirks means_quirks quirks_beginnings quirks_public_ids quirks_system_ids added_before built changed has_one_like lacking row_of tree_from without_node foreign_end are_among cleared count_alike has_attribute_like has_entry last_named reopened still_listed to_reopen with_entry without_earliest without_entry item_met all_names breaks_out ends_scope ends_table_scope has_such is_among is_body_context is_formatting is_fostering is_implied is_implied_thoroughly is_listed is_row_context is_special kind_in kind_in_namespace kind_of may_stay_open namespace_of first_open foster_place_in has_in_scope has_open popped_to_first_in popped_until_in popped_while_in second_body without_open mode_of flushed_as_space flushed_fostered is_all_space mode_of_request reply_of value_of among attribute_lines comes_before indent shown shown_of sorted
+unfolding rows_25 trees_25 adjusted_attributes adjusted_name adjusted_tag_name cased foreign_attributes math_attribute_names svg_attribute_names svg_tag_names added_after adopted ended_by entry_of furthest_block inner_loop nth_open opened_inside opened_outside outer_loop replaced process run start step told_all begins_with begins_with_one html_4_01_beginnings limited_quirks_beginnings means_limited_quirks means_quirks quirks_beginnings quirks_public_ids quirks_system_ids added_before built changed has_one_like lacking row_of tree_from without_node foreign_end are_among cleared count_after_marker count_alike has_attribute_like has_entry last_named reopened still_listed to_reopen with_entry without_earliest without_entry without_oldest item_met all_names breaks_out ends_scope ends_table_scope has_such is_among is_body_context is_formatting is_fostering is_implied is_implied_thoroughly is_listed is_row_context is_special kind_in kind_in_namespace kind_of may_stay_open namespace_of first_open foster_place_in has_in_scope has_open popped_to_first_in popped_until_in popped_while_in second_body without_open mode_of flushed_as_space flushed_fostered is_all_space mode_of_request reply_of value_of among attribute_lines comes_before indent shown shown_of sorted
 built_25 = refl
 
 rows_26 : List Case
@@ -1313,7 +1313,7 @@ trees_26 =
     ∷ []
 
 built_26 : map shown_of rows_26 ≡ trees_26
-unfolding rows_26 trees_26 adjusted_attributes adjusted_name adjusted_tag_name cased foreign_attributes math_attribute_names svg_attribute_names svg_tag_names added_after adopted ended_by entry_of furthest_block inner_loop nth_open opened_inside opened_outside outer_loop replaced process run start step told_all begins_with begins_with_one html_4_01_beginnings limited_quirks_beginnings means_limited_quirks means_quirks quirks_beginnings quirks_public_ids quirks_system_ids added_before built changed has_one_like lacking row_of tree_from without_node foreign_end are_among cleared count_alike has_attribute_like has_entry last_named reopened still_listed to_reopen with_entry without_earliest without_entry item_met all_names breaks_out ends_scope ends_table_scope has_such is_among is_body_context is_formatting is_fostering is_implied is_implied_thoroughly is_listed is_row_context is_special kind_in kind_in_namespace kind_of may_stay_open namespace_of first_open foster_place_in has_in_scope has_open popped_to_first_in popped_until_in popped_while_in second_body without_open mode_of flushed_as_space flushed_fostered is_all_space mode_of_request reply_of value_of among attribute_lines comes_before indent shown shown_of sorted
+unfolding rows_26 trees_26 adjusted_attributes adjusted_name adjusted_tag_name cased foreign_attributes math_attribute_names svg_attribute_names svg_tag_names added_after adopted ended_by entry_of furthest_block inner_loop nth_open opened_inside opened_outside outer_loop replaced process run start step told_all begins_with begins_with_one html_4_01_beginnings limited_quirks_beginnings means_limited_quirks means_quirks quirks_beginnings quirks_public_ids quirks_system_ids added_before built changed has_one_like lacking row_of tree_from without_node foreign_end are_among cleared count_after_marker count_alike has_attribute_like has_entry last_named reopened still_listed to_reopen with_entry without_earliest without_entry without_oldest item_met all_names breaks_out ends_scope ends_table_scope has_such is_among is_body_context is_formatting is_fostering is_implied is_implied_thoroughly is_listed is_row_context is_special kind_in kind_in_namespace kind_of may_stay_open namespace_of first_open foster_place_in has_in_scope has_open popped_to_first_in popped_until_in popped_while_in second_body without_open mode_of flushed_as_space flushed_fostered is_all_space mode_of_request reply_of value_of among attribute_lines comes_before indent shown shown_of sorted
 built_26 = refl
 
 rows_27 : List Case
@@ -1361,7 +1361,7 @@ trees_27 =
     ∷ []
 
 built_27 : map shown_of rows_27 ≡ trees_27
-unfolding rows_27 trees_27 adjusted_attributes adjusted_name adjusted_tag_name cased foreign_attributes math_attribute_names svg_attribute_names svg_tag_names added_after adopted ended_by entry_of furthest_block inner_loop nth_open opened_inside opened_outside outer_loop replaced process run start step told_all begins_with begins_with_one html_4_01_beginnings limited_quirks_beginnings means_limited_quirks means_quirks quirks_beginnings quirks_public_ids quirks_system_ids added_before built changed has_one_like lacking row_of tree_from without_node foreign_end are_among cleared count_alike has_attribute_like has_entry last_named reopened still_listed to_reopen with_entry without_earliest without_entry item_met all_names breaks_out ends_scope ends_table_scope has_such is_among is_body_context is_formatting is_fostering is_implied is_implied_thoroughly is_listed is_row_context is_special kind_in kind_in_namespace kind_of may_stay_open namespace_of first_open foster_place_in has_in_scope has_open popped_to_first_in popped_until_in popped_while_in second_body without_open mode_of flushed_as_space flushed_fostered is_all_space mode_of_request reply_of value_of among attribute_lines comes_before indent shown shown_of sorted
+unfolding rows_27 trees_27 adjusted_attributes adjusted_name adjusted_tag_name cased foreign_attributes math_attribute_names svg_attribute_names svg_tag_names added_after adopted ended_by entry_of furthest_block inner_loop nth_open opened_inside opened_outside outer_loop replaced process run start step told_all begins_with begins_with_one html_4_01_beginnings limited_quirks_beginnings means_limited_quirks means_quirks quirks_beginnings quirks_public_ids quirks_system_ids added_before built changed has_one_like lacking row_of tree_from without_node foreign_end are_among cleared count_after_marker count_alike has_attribute_like has_entry last_named reopened still_listed to_reopen with_entry without_earliest without_entry without_oldest item_met all_names breaks_out ends_scope ends_table_scope has_such is_among is_body_context is_formatting is_fostering is_implied is_implied_thoroughly is_listed is_row_context is_special kind_in kind_in_namespace kind_of may_stay_open namespace_of first_open foster_place_in has_in_scope has_open popped_to_first_in popped_until_in popped_while_in second_body without_open mode_of flushed_as_space flushed_fostered is_all_space mode_of_request reply_of value_of among attribute_lines comes_before indent shown shown_of sorted
 built_27 = refl
 
 rows_28 : List Case
@@ -1409,7 +1409,7 @@ trees_28 =
     ∷ []
 
 built_28 : map shown_of rows_28 ≡ trees_28
-unfolding rows_28 trees_28 adjusted_attributes adjusted_name adjusted_tag_name cased foreign_attributes math_attribute_names svg_attribute_names svg_tag_names added_after adopted ended_by entry_of furthest_block inner_loop nth_open opened_inside opened_outside outer_loop replaced process run start step told_all begins_with begins_with_one html_4_01_beginnings limited_quirks_beginnings means_limited_quirks means_quirks quirks_beginnings quirks_public_ids quirks_system_ids added_before built changed has_one_like lacking row_of tree_from without_node foreign_end are_among cleared count_alike has_attribute_like has_entry last_named reopened still_listed to_reopen with_entry without_earliest without_entry item_met all_names breaks_out ends_scope ends_table_scope has_such is_among is_body_context is_formatting is_fostering is_implied is_implied_thoroughly is_listed is_row_context is_special kind_in kind_in_namespace kind_of may_stay_open namespace_of first_open foster_place_in has_in_scope has_open popped_to_first_in popped_until_in popped_while_in second_body without_open mode_of flushed_as_space flushed_fostered is_all_space mode_of_request reply_of value_of among attribute_lines comes_before indent shown shown_of sorted
+unfolding rows_28 trees_28 adjusted_attributes adjusted_name adjusted_tag_name cased foreign_attributes math_attribute_names svg_attribute_names svg_tag_names added_after adopted ended_by entry_of furthest_block inner_loop nth_open opened_inside opened_outside outer_loop replaced process run start step told_all begins_with begins_with_one html_4_01_beginnings limited_quirks_beginnings means_limited_quirks means_quirks quirks_beginnings quirks_public_ids quirks_system_ids added_before built changed has_one_like lacking row_of tree_from without_node foreign_end are_among cleared count_after_marker count_alike has_attribute_like has_entry last_named reopened still_listed to_reopen with_entry without_earliest without_entry without_oldest item_met all_names breaks_out ends_scope ends_table_scope has_such is_among is_body_context is_formatting is_fostering is_implied is_implied_thoroughly is_listed is_row_context is_special kind_in kind_in_namespace kind_of may_stay_open namespace_of first_open foster_place_in has_in_scope has_open popped_to_first_in popped_until_in popped_while_in second_body without_open mode_of flushed_as_space flushed_fostered is_all_space mode_of_request reply_of value_of among attribute_lines comes_before indent shown shown_of sorted
 built_28 = refl
 
 rows_29 : List Case
@@ -1457,7 +1457,7 @@ trees_29 =
     ∷ []
 
 built_29 : map shown_of rows_29 ≡ trees_29
-unfolding rows_29 trees_29 adjusted_attributes adjusted_name adjusted_tag_name cased foreign_attributes math_attribute_names svg_attribute_names svg_tag_names added_after adopted ended_by entry_of furthest_block inner_loop nth_open opened_inside opened_outside outer_loop replaced process run start step told_all begins_with begins_with_one html_4_01_beginnings limited_quirks_beginnings means_limited_quirks means_quirks quirks_beginnings quirks_public_ids quirks_system_ids added_before built changed has_one_like lacking row_of tree_from without_node foreign_end are_among cleared count_alike has_attribute_like has_entry last_named reopened still_listed to_reopen with_entry without_earliest without_entry item_met all_names breaks_out ends_scope ends_table_scope has_such is_among is_body_context is_formatting is_fostering is_implied is_implied_thoroughly is_listed is_row_context is_special kind_in kind_in_namespace kind_of may_stay_open namespace_of first_open foster_place_in has_in_scope has_open popped_to_first_in popped_until_in popped_while_in second_body without_open mode_of flushed_as_space flushed_fostered is_all_space mode_of_request reply_of value_of among attribute_lines comes_before indent shown shown_of sorted
+unfolding rows_29 trees_29 adjusted_attributes adjusted_name adjusted_tag_name cased foreign_attributes math_attribute_names svg_attribute_names svg_tag_names added_after adopted ended_by entry_of furthest_block inner_loop nth_open opened_inside opened_outside outer_loop replaced process run start step told_all begins_with begins_with_one html_4_01_beginnings limited_quirks_beginnings means_limited_quirks means_quirks quirks_beginnings quirks_public_ids quirks_system_ids added_before built changed has_one_like lacking row_of tree_from without_node foreign_end are_among cleared count_after_marker count_alike has_attribute_like has_entry last_named reopened still_listed to_reopen with_entry without_earliest without_entry without_oldest item_met all_names breaks_out ends_scope ends_table_scope has_such is_among is_body_context is_formatting is_fostering is_implied is_implied_thoroughly is_listed is_row_context is_special kind_in kind_in_namespace kind_of may_stay_open namespace_of first_open foster_place_in has_in_scope has_open popped_to_first_in popped_until_in popped_while_in second_body without_open mode_of flushed_as_space flushed_fostered is_all_space mode_of_request reply_of value_of among attribute_lines comes_before indent shown shown_of sorted
 built_29 = refl
 
 rows_30 : List Case
@@ -1505,7 +1505,7 @@ trees_30 =
     ∷ []
 
 built_30 : map shown_of rows_30 ≡ trees_30
-unfolding rows_30 trees_30 adjusted_attributes adjusted_name adjusted_tag_name cased foreign_attributes math_attribute_names svg_attribute_names svg_tag_names added_after adopted ended_by entry_of furthest_block inner_loop nth_open opened_inside opened_outside outer_loop replaced process run start step told_all begins_with begins_with_one html_4_01_beginnings limited_quirks_beginnings means_limited_quirks means_quirks quirks_beginnings quirks_public_ids quirks_system_ids added_before built changed has_one_like lacking row_of tree_from without_node foreign_end are_among cleared count_alike has_attribute_like has_entry last_named reopened still_listed to_reopen with_entry without_earliest without_entry item_met all_names breaks_out ends_scope ends_table_scope has_such is_among is_body_context is_formatting is_fostering is_implied is_implied_thoroughly is_listed is_row_context is_special kind_in kind_in_namespace kind_of may_stay_open namespace_of first_open foster_place_in has_in_scope has_open popped_to_first_in popped_until_in popped_while_in second_body without_open mode_of flushed_as_space flushed_fostered is_all_space mode_of_request reply_of value_of among attribute_lines comes_before indent shown shown_of sorted
+unfolding rows_30 trees_30 adjusted_attributes adjusted_name adjusted_tag_name cased foreign_attributes math_attribute_names svg_attribute_names svg_tag_names added_after adopted ended_by entry_of furthest_block inner_loop nth_open opened_inside opened_outside outer_loop replaced process run start step told_all begins_with begins_with_one html_4_01_beginnings limited_quirks_beginnings means_limited_quirks means_quirks quirks_beginnings quirks_public_ids quirks_system_ids added_before built changed has_one_like lacking row_of tree_from without_node foreign_end are_among cleared count_after_marker count_alike has_attribute_like has_entry last_named reopened still_listed to_reopen with_entry without_earliest without_entry without_oldest item_met all_names breaks_out ends_scope ends_table_scope has_such is_among is_body_context is_formatting is_fostering is_implied is_implied_thoroughly is_listed is_row_context is_special kind_in kind_in_namespace kind_of may_stay_open namespace_of first_open foster_place_in has_in_scope has_open popped_to_first_in popped_until_in popped_while_in second_body without_open mode_of flushed_as_space flushed_fostered is_all_space mode_of_request reply_of value_of among attribute_lines comes_before indent shown shown_of sorted
 built_30 = refl
 
 rows_31 : List Case
@@ -1553,7 +1553,7 @@ trees_31 =
     ∷ []
 
 built_31 : map shown_of rows_31 ≡ trees_31
-unfolding rows_31 trees_31 adjusted_attributes adjusted_name adjusted_tag_name cased foreign_attributes math_attribute_names svg_attribute_names svg_tag_names added_after adopted ended_by entry_of furthest_block inner_loop nth_open opened_inside opened_outside outer_loop replaced process run start step told_all begins_with begins_with_one html_4_01_beginnings limited_quirks_beginnings means_limited_quirks means_quirks quirks_beginnings quirks_public_ids quirks_system_ids added_before built changed has_one_like lacking row_of tree_from without_node foreign_end are_among cleared count_alike has_attribute_like has_entry last_named reopened still_listed to_reopen with_entry without_earliest without_entry item_met all_names breaks_out ends_scope ends_table_scope has_such is_among is_body_context is_formatting is_fostering is_implied is_implied_thoroughly is_listed is_row_context is_special kind_in kind_in_namespace kind_of may_stay_open namespace_of first_open foster_place_in has_in_scope has_open popped_to_first_in popped_until_in popped_while_in second_body without_open mode_of flushed_as_space flushed_fostered is_all_space mode_of_request reply_of value_of among attribute_lines comes_before indent shown shown_of sorted
+unfolding rows_31 trees_31 adjusted_attributes adjusted_name adjusted_tag_name cased foreign_attributes math_attribute_names svg_attribute_names svg_tag_names added_after adopted ended_by entry_of furthest_block inner_loop nth_open opened_inside opened_outside outer_loop replaced process run start step told_all begins_with begins_with_one html_4_01_beginnings limited_quirks_beginnings means_limited_quirks means_quirks quirks_beginnings quirks_public_ids quirks_system_ids added_before built changed has_one_like lacking row_of tree_from without_node foreign_end are_among cleared count_after_marker count_alike has_attribute_like has_entry last_named reopened still_listed to_reopen with_entry without_earliest without_entry without_oldest item_met all_names breaks_out ends_scope ends_table_scope has_such is_among is_body_context is_formatting is_fostering is_implied is_implied_thoroughly is_listed is_row_context is_special kind_in kind_in_namespace kind_of may_stay_open namespace_of first_open foster_place_in has_in_scope has_open popped_to_first_in popped_until_in popped_while_in second_body without_open mode_of flushed_as_space flushed_fostered is_all_space mode_of_request reply_of value_of among attribute_lines comes_before indent shown shown_of sorted
 built_31 = refl
 
 rows_32 : List Case
@@ -1601,7 +1601,7 @@ trees_32 =
     ∷ []
 
 built_32 : map shown_of rows_32 ≡ trees_32
-unfolding rows_32 trees_32 adjusted_attributes adjusted_name adjusted_tag_name cased foreign_attributes math_attribute_names svg_attribute_names svg_tag_names added_after adopted ended_by entry_of furthest_block inner_loop nth_open opened_inside opened_outside outer_loop replaced process run start step told_all begins_with begins_with_one html_4_01_beginnings limited_quirks_beginnings means_limited_quirks means_quirks quirks_beginnings quirks_public_ids quirks_system_ids added_before built changed has_one_like lacking row_of tree_from without_node foreign_end are_among cleared count_alike has_attribute_like has_entry last_named reopened still_listed to_reopen with_entry without_earliest without_entry item_met all_names breaks_out ends_scope ends_table_scope has_such is_among is_body_context is_formatting is_fostering is_implied is_implied_thoroughly is_listed is_row_context is_special kind_in kind_in_namespace kind_of may_stay_open namespace_of first_open foster_place_in has_in_scope has_open popped_to_first_in popped_until_in popped_while_in second_body without_open mode_of flushed_as_space flushed_fostered is_all_space mode_of_request reply_of value_of among attribute_lines comes_before indent shown shown_of sorted
+unfolding rows_32 trees_32 adjusted_attributes adjusted_name adjusted_tag_name cased foreign_attributes math_attribute_names svg_attribute_names svg_tag_names added_after adopted ended_by entry_of furthest_block inner_loop nth_open opened_inside opened_outside outer_loop replaced process run start step told_all begins_with begins_with_one html_4_01_beginnings limited_quirks_beginnings means_limited_quirks means_quirks quirks_beginnings quirks_public_ids quirks_system_ids added_before built changed has_one_like lacking row_of tree_from without_node foreign_end are_among cleared count_after_marker count_alike has_attribute_like has_entry last_named reopened still_listed to_reopen with_entry without_earliest without_entry without_oldest item_met all_names breaks_out ends_scope ends_table_scope has_such is_among is_body_context is_formatting is_fostering is_implied is_implied_thoroughly is_listed is_row_context is_special kind_in kind_in_namespace kind_of may_stay_open namespace_of first_open foster_place_in has_in_scope has_open popped_to_first_in popped_until_in popped_while_in second_body without_open mode_of flushed_as_space flushed_fostered is_all_space mode_of_request reply_of value_of among attribute_lines comes_before indent shown shown_of sorted
 built_32 = refl
 
 rows_33 : List Case
@@ -1649,7 +1649,7 @@ trees_33 =
     ∷ []
 
 built_33 : map shown_of rows_33 ≡ trees_33
-unfolding rows_33 trees_33 adjusted_attributes adjusted_name adjusted_tag_name cased foreign_attributes math_attribute_names svg_attribute_names svg_tag_names added_after adopted ended_by entry_of furthest_block inner_loop nth_open opened_inside opened_outside outer_loop replaced process run start step told_all begins_with begins_with_one html_4_01_beginnings limited_quirks_beginnings means_limited_quirks means_quirks quirks_beginnings quirks_public_ids quirks_system_ids added_before built changed has_one_like lacking row_of tree_from without_node foreign_end are_among cleared count_alike has_attribute_like has_entry last_named reopened still_listed to_reopen with_entry without_earliest without_entry item_met all_names breaks_out ends_scope ends_table_scope has_such is_among is_body_context is_formatting is_fostering is_implied is_implied_thoroughly is_listed is_row_context is_special kind_in kind_in_namespace kind_of may_stay_open namespace_of first_open foster_place_in has_in_scope has_open popped_to_first_in popped_until_in popped_while_in second_body without_open mode_of flushed_as_space flushed_fostered is_all_space mode_of_request reply_of value_of among attribute_lines comes_before indent shown shown_of sorted
+unfolding rows_33 trees_33 adjusted_attributes adjusted_name adjusted_tag_name cased foreign_attributes math_attribute_names svg_attribute_names svg_tag_names added_after adopted ended_by entry_of furthest_block inner_loop nth_open opened_inside opened_outside outer_loop replaced process run start step told_all begins_with begins_with_one html_4_01_beginnings limited_quirks_beginnings means_limited_quirks means_quirks quirks_beginnings quirks_public_ids quirks_system_ids added_before built changed has_one_like lacking row_of tree_from without_node foreign_end are_among cleared count_after_marker count_alike has_attribute_like has_entry last_named reopened still_listed to_reopen with_entry without_earliest without_entry without_oldest item_met all_names breaks_out ends_scope ends_table_scope has_such is_among is_body_context is_formatting is_fostering is_implied is_implied_thoroughly is_listed is_row_context is_special kind_in kind_in_namespace kind_of may_stay_open namespace_of first_open foster_place_in has_in_scope has_open popped_to_first_in popped_until_in popped_while_in second_body without_open mode_of flushed_as_space flushed_fostered is_all_space mode_of_request reply_of value_of among attribute_lines comes_before indent shown shown_of sorted
 built_33 = refl
 
 rows_34 : List Case
@@ -1697,7 +1697,7 @@ trees_34 =
     ∷ []
 
 built_34 : map shown_of rows_34 ≡ trees_34
-unfolding rows_34 trees_34 adjusted_attributes adjusted_name adjusted_tag_name cased foreign_attributes math_attribute_names svg_attribute_names svg_tag_names added_after adopted ended_by entry_of furthest_block inner_loop nth_open opened_inside opened_outside outer_loop replaced process run start step told_all begins_with begins_with_one html_4_01_beginnings limited_quirks_beginnings means_limited_quirks means_quirks quirks_beginnings quirks_public_ids quirks_system_ids added_before built changed has_one_like lacking row_of tree_from without_node foreign_end are_among cleared count_alike has_attribute_like has_entry last_named reopened still_listed to_reopen with_entry without_earliest without_entry item_met all_names breaks_out ends_scope ends_table_scope has_such is_among is_body_context is_formatting is_fostering is_implied is_implied_thoroughly is_listed is_row_context is_special kind_in kind_in_namespace kind_of may_stay_open namespace_of first_open foster_place_in has_in_scope has_open popped_to_first_in popped_until_in popped_while_in second_body without_open mode_of flushed_as_space flushed_fostered is_all_space mode_of_request reply_of value_of among attribute_lines comes_before indent shown shown_of sorted
+unfolding rows_34 trees_34 adjusted_attributes adjusted_name adjusted_tag_name cased foreign_attributes math_attribute_names svg_attribute_names svg_tag_names added_after adopted ended_by entry_of furthest_block inner_loop nth_open opened_inside opened_outside outer_loop replaced process run start step told_all begins_with begins_with_one html_4_01_beginnings limited_quirks_beginnings means_limited_quirks means_quirks quirks_beginnings quirks_public_ids quirks_system_ids added_before built changed has_one_like lacking row_of tree_from without_node foreign_end are_among cleared count_after_marker count_alike has_attribute_like has_entry last_named reopened still_listed to_reopen with_entry without_earliest without_entry without_oldest item_met all_names breaks_out ends_scope ends_table_scope has_such is_among is_body_context is_formatting is_fostering is_implied is_implied_thoroughly is_listed is_row_context is_special kind_in kind_in_namespace kind_of may_stay_open namespace_of first_open foster_place_in has_in_scope has_open popped_to_first_in popped_until_in popped_while_in second_body without_open mode_of flushed_as_space flushed_fostered is_all_space mode_of_request reply_of value_of among attribute_lines comes_before indent shown shown_of sorted
 built_34 = refl
 
 rows_35 : List Case
@@ -1745,7 +1745,7 @@ trees_35 =
     ∷ []
 
 built_35 : map shown_of rows_35 ≡ trees_35
-unfolding rows_35 trees_35 adjusted_attributes adjusted_name adjusted_tag_name cased foreign_attributes math_attribute_names svg_attribute_names svg_tag_names added_after adopted ended_by entry_of furthest_block inner_loop nth_open opened_inside opened_outside outer_loop replaced process run start step told_all begins_with begins_with_one html_4_01_beginnings limited_quirks_beginnings means_limited_quirks means_quirks quirks_beginnings quirks_public_ids quirks_system_ids added_before built changed has_one_like lacking row_of tree_from without_node foreign_end are_among cleared count_alike has_attribute_like has_entry last_named reopened still_listed to_reopen with_entry without_earliest without_entry item_met all_names breaks_out ends_scope ends_table_scope has_such is_among is_body_context is_formatting is_fostering is_implied is_implied_thoroughly is_listed is_row_context is_special kind_in kind_in_namespace kind_of may_stay_open namespace_of first_open foster_place_in has_in_scope has_open popped_to_first_in popped_until_in popped_while_in second_body without_open mode_of flushed_as_space flushed_fostered is_all_space mode_of_request reply_of value_of among attribute_lines comes_before indent shown shown_of sorted
+unfolding rows_35 trees_35 adjusted_attributes adjusted_name adjusted_tag_name cased foreign_attributes math_attribute_names svg_attribute_names svg_tag_names added_after adopted ended_by entry_of furthest_block inner_loop nth_open opened_inside opened_outside outer_loop replaced process run start step told_all begins_with begins_with_one html_4_01_beginnings limited_quirks_beginnings means_limited_quirks means_quirks quirks_beginnings quirks_public_ids quirks_system_ids added_before built changed has_one_like lacking row_of tree_from without_node foreign_end are_among cleared count_after_marker count_alike has_attribute_like has_entry last_named reopened still_listed to_reopen with_entry without_earliest without_entry without_oldest item_met all_names breaks_out ends_scope ends_table_scope has_such is_among is_body_context is_formatting is_fostering is_implied is_implied_thoroughly is_listed is_row_context is_special kind_in kind_in_namespace kind_of may_stay_open namespace_of first_open foster_place_in has_in_scope has_open popped_to_first_in popped_until_in popped_while_in second_body without_open mode_of flushed_as_space flushed_fostered is_all_space mode_of_request reply_of value_of among attribute_lines comes_before indent shown shown_of sorted
 built_35 = refl
 
 rows_36 : List Case
@@ -1793,7 +1793,7 @@ trees_36 =
     ∷ []
 
 built_36 : map shown_of rows_36 ≡ trees_36
-unfolding rows_36 trees_36 adjusted_attributes adjusted_name adjusted_tag_name cased foreign_attributes math_attribute_names svg_attribute_names svg_tag_names added_after adopted ended_by entry_of furthest_block inner_loop nth_open opened_inside opened_outside outer_loop replaced process run start step told_all begins_with begins_with_one html_4_01_beginnings limited_quirks_beginnings means_limited_quirks means_quirks quirks_beginnings quirks_public_ids quirks_system_ids added_before built changed has_one_like lacking row_of tree_from without_node foreign_end are_among cleared count_alike has_attribute_like has_entry last_named reopened still_listed to_reopen with_entry without_earliest without_entry item_met all_names breaks_out ends_scope ends_table_scope has_such is_among is_body_context is_formatting is_fostering is_implied is_implied_thoroughly is_listed is_row_context is_special kind_in kind_in_namespace kind_of may_stay_open namespace_of first_open foster_place_in has_in_scope has_open popped_to_first_in popped_until_in popped_while_in second_body without_open mode_of flushed_as_space flushed_fostered is_all_space mode_of_request reply_of value_of among attribute_lines comes_before indent shown shown_of sorted
+unfolding rows_36 trees_36 adjusted_attributes adjusted_name adjusted_tag_name cased foreign_attributes math_attribute_names svg_attribute_names svg_tag_names added_after adopted ended_by entry_of furthest_block inner_loop nth_open opened_inside opened_outside outer_loop replaced process run start step told_all begins_with begins_with_one html_4_01_beginnings limited_quirks_beginnings means_limited_quirks means_quirks quirks_beginnings quirks_public_ids quirks_system_ids added_before built changed has_one_like lacking row_of tree_from without_node foreign_end are_among cleared count_after_marker count_alike has_attribute_like has_entry last_named reopened still_listed to_reopen with_entry without_earliest without_entry without_oldest item_met all_names breaks_out ends_scope ends_table_scope has_such is_among is_body_context is_formatting is_fostering is_implied is_implied_thoroughly is_listed is_row_context is_special kind_in kind_in_namespace kind_of may_stay_open namespace_of first_open foster_place_in has_in_scope has_open popped_to_first_in popped_until_in popped_while_in second_body without_open mode_of flushed_as_space flushed_fostered is_all_space mode_of_request reply_of value_of among attribute_lines comes_before indent shown shown_of sorted
 built_36 = refl
 
 rows_37 : List Case
@@ -1841,7 +1841,7 @@ trees_37 =
     ∷ []
 
 built_37 : map shown_of rows_37 ≡ trees_37
-unfolding rows_37 trees_37 adjusted_attributes adjusted_name adjusted_tag_name cased foreign_attributes math_attribute_names svg_attribute_names svg_tag_names added_after adopted ended_by entry_of furthest_block inner_loop nth_open opened_inside opened_outside outer_loop replaced process run start step told_all begins_with begins_with_one html_4_01_beginnings limited_quirks_beginnings means_limited_quirks means_quirks quirks_beginnings quirks_public_ids quirks_system_ids added_before built changed has_one_like lacking row_of tree_from without_node foreign_end are_among cleared count_alike has_attribute_like has_entry last_named reopened still_listed to_reopen with_entry without_earliest without_entry item_met all_names breaks_out ends_scope ends_table_scope has_such is_among is_body_context is_formatting is_fostering is_implied is_implied_thoroughly is_listed is_row_context is_special kind_in kind_in_namespace kind_of may_stay_open namespace_of first_open foster_place_in has_in_scope has_open popped_to_first_in popped_until_in popped_while_in second_body without_open mode_of flushed_as_space flushed_fostered is_all_space mode_of_request reply_of value_of among attribute_lines comes_before indent shown shown_of sorted
+unfolding rows_37 trees_37 adjusted_attributes adjusted_name adjusted_tag_name cased foreign_attributes math_attribute_names svg_attribute_names svg_tag_names added_after adopted ended_by entry_of furthest_block inner_loop nth_open opened_inside opened_outside outer_loop replaced process run start step told_all begins_with begins_with_one html_4_01_beginnings limited_quirks_beginnings means_limited_quirks means_quirks quirks_beginnings quirks_public_ids quirks_system_ids added_before built changed has_one_like lacking row_of tree_from without_node foreign_end are_among cleared count_after_marker count_alike has_attribute_like has_entry last_named reopened still_listed to_reopen with_entry without_earliest without_entry without_oldest item_met all_names breaks_out ends_scope ends_table_scope has_such is_among is_body_context is_formatting is_fostering is_implied is_implied_thoroughly is_listed is_row_context is_special kind_in kind_in_namespace kind_of may_stay_open namespace_of first_open foster_place_in has_in_scope has_open popped_to_first_in popped_until_in popped_while_in second_body without_open mode_of flushed_as_space flushed_fostered is_all_space mode_of_request reply_of value_of among attribute_lines comes_before indent shown shown_of sorted
 built_37 = refl
 
 rows_38 : List Case
@@ -1889,7 +1889,7 @@ trees_38 =
     ∷ []
 
 built_38 : map shown_of rows_38 ≡ trees_38
-unfolding rows_38 trees_38 adjusted_attributes adjusted_name adjusted_tag_name cased foreign_attributes math_attribute_names svg_attribute_names svg_tag_names added_after adopted ended_by entry_of furthest_block inner_loop nth_open opened_inside opened_outside outer_loop replaced process run start step told_all begins_with begins_with_one html_4_01_beginnings limited_quirks_beginnings means_limited_quirks means_quirks quirks_beginnings quirks_public_ids quirks_system_ids added_before built changed has_one_like lacking row_of tree_from without_node foreign_end are_among cleared count_alike has_attribute_like has_entry last_named reopened still_listed to_reopen with_entry without_earliest without_entry item_met all_names breaks_out ends_scope ends_table_scope has_such is_among is_body_context is_formatting is_fostering is_implied is_implied_thoroughly is_listed is_row_context is_special kind_in kind_in_namespace kind_of may_stay_open namespace_of first_open foster_place_in has_in_scope has_open popped_to_first_in popped_until_in popped_while_in second_body without_open mode_of flushed_as_space flushed_fostered is_all_space mode_of_request reply_of value_of among attribute_lines comes_before indent shown shown_of sorted
+unfolding rows_38 trees_38 adjusted_attributes adjusted_name adjusted_tag_name cased foreign_attributes math_attribute_names svg_attribute_names svg_tag_names added_after adopted ended_by entry_of furthest_block inner_loop nth_open opened_inside opened_outside outer_loop replaced process run start step told_all begins_with begins_with_one html_4_01_beginnings limited_quirks_beginnings means_limited_quirks means_quirks quirks_beginnings quirks_public_ids quirks_system_ids added_before built changed has_one_like lacking row_of tree_from without_node foreign_end are_among cleared count_after_marker count_alike has_attribute_like has_entry last_named reopened still_listed to_reopen with_entry without_earliest without_entry without_oldest item_met all_names breaks_out ends_scope ends_table_scope has_such is_among is_body_context is_formatting is_fostering is_implied is_implied_thoroughly is_listed is_row_context is_special kind_in kind_in_namespace kind_of may_stay_open namespace_of first_open foster_place_in has_in_scope has_open popped_to_first_in popped_until_in popped_while_in second_body without_open mode_of flushed_as_space flushed_fostered is_all_space mode_of_request reply_of value_of among attribute_lines comes_before indent shown shown_of sorted
 built_38 = refl
 
 rows_39 : List Case
@@ -1937,7 +1937,7 @@ trees_39 =
     ∷ []
 
 built_39 : map shown_of rows_39 ≡ trees_39
-unfolding rows_39 trees_39 adjusted_attributes adjusted_name adjusted_tag_name cased foreign_attributes math_attribute_names svg_attribute_names svg_tag_names added_after adopted ended_by entry_of furthest_block inner_loop nth_open opened_inside opened_outside outer_loop replaced process run start step told_all begins_with begins_with_one html_4_01_beginnings limited_quirks_beginnings means_limited_quirks means_quirks quirks_beginnings quirks_public_ids quirks_system_ids added_before built changed has_one_like lacking row_of tree_from without_node foreign_end are_among cleared count_alike has_attribute_like has_entry last_named reopened still_listed to_reopen with_entry without_earliest without_entry item_met all_names breaks_out ends_scope ends_table_scope has_such is_among is_body_context is_formatting is_fostering is_implied is_implied_thoroughly is_listed is_row_context is_special kind_in kind_in_namespace kind_of may_stay_open namespace_of first_open foster_place_in has_in_scope has_open popped_to_first_in popped_until_in popped_while_in second_body without_open mode_of flushed_as_space flushed_fostered is_all_space mode_of_request reply_of value_of among attribute_lines comes_before indent shown shown_of sorted
+unfolding rows_39 trees_39 adjusted_attributes adjusted_name adjusted_tag_name cased foreign_attributes math_attribute_names svg_attribute_names svg_tag_names added_after adopted ended_by entry_of furthest_block inner_loop nth_open opened_inside opened_outside outer_loop replaced process run start step told_all begins_with begins_with_one html_4_01_beginnings limited_quirks_beginnings means_limited_quirks means_quirks quirks_beginnings quirks_public_ids quirks_system_ids added_before built changed has_one_like lacking row_of tree_from without_node foreign_end are_among cleared count_after_marker count_alike has_attribute_like has_entry last_named reopened still_listed to_reopen with_entry without_earliest without_entry without_oldest item_met all_names breaks_out ends_scope ends_table_scope has_such is_among is_body_context is_formatting is_fostering is_implied is_implied_thoroughly is_listed is_row_context is_special kind_in kind_in_namespace kind_of may_stay_open namespace_of first_open foster_place_in has_in_scope has_open popped_to_first_in popped_until_in popped_while_in second_body without_open mode_of flushed_as_space flushed_fostered is_all_space mode_of_request reply_of value_of among attribute_lines comes_before indent shown shown_of sorted
 built_39 = refl
 
 rows_40 : List Case
@@ -1985,7 +1985,7 @@ trees_40 =
     ∷ []
 
 built_40 : map shown_of rows_40 ≡ trees_40
-unfolding rows_40 trees_40 adjusted_attributes adjusted_name adjusted_tag_name cased foreign_attributes math_attribute_names svg_attribute_names svg_tag_names added_after adopted ended_by entry_of furthest_block inner_loop nth_open opened_inside opened_outside outer_loop replaced process run start step told_all begins_with begins_with_one html_4_01_beginnings limited_quirks_beginnings means_limited_quirks means_quirks quirks_beginnings quirks_public_ids quirks_system_ids added_before built changed has_one_like lacking row_of tree_from without_node foreign_end are_among cleared count_alike has_attribute_like has_entry last_named reopened still_listed to_reopen with_entry without_earliest without_entry item_met all_names breaks_out ends_scope ends_table_scope has_such is_among is_body_context is_formatting is_fostering is_implied is_implied_thoroughly is_listed is_row_context is_special kind_in kind_in_namespace kind_of may_stay_open namespace_of first_open foster_place_in has_in_scope has_open popped_to_first_in popped_until_in popped_while_in second_body without_open mode_of flushed_as_space flushed_fostered is_all_space mode_of_request reply_of value_of among attribute_lines comes_before indent shown shown_of sorted
+unfolding rows_40 trees_40 adjusted_attributes adjusted_name adjusted_tag_name cased foreign_attributes math_attribute_names svg_attribute_names svg_tag_names added_after adopted ended_by entry_of furthest_block inner_loop nth_open opened_inside opened_outside outer_loop replaced process run start step told_all begins_with begins_with_one html_4_01_beginnings limited_quirks_beginnings means_limited_quirks means_quirks quirks_beginnings quirks_public_ids quirks_system_ids added_before built changed has_one_like lacking row_of tree_from without_node foreign_end are_among cleared count_after_marker count_alike has_attribute_like has_entry last_named reopened still_listed to_reopen with_entry without_earliest without_entry without_oldest item_met all_names breaks_out ends_scope ends_table_scope has_such is_among is_body_context is_formatting is_fostering is_implied is_implied_thoroughly is_listed is_row_context is_special kind_in kind_in_namespace kind_of may_stay_open namespace_of first_open foster_place_in has_in_scope has_open popped_to_first_in popped_until_in popped_while_in second_body without_open mode_of flushed_as_space flushed_fostered is_all_space mode_of_request reply_of value_of among attribute_lines comes_before indent shown shown_of sorted
 built_40 = refl
 
 rows_41 : List Case
@@ -2033,7 +2033,7 @@ trees_41 =
     ∷ []
 
 built_41 : map shown_of rows_41 ≡ trees_41
-unfolding rows_41 trees_41 adjusted_attributes adjusted_name adjusted_tag_name cased foreign_attributes math_attribute_names svg_attribute_names svg_tag_names added_after adopted ended_by entry_of furthest_block inner_loop nth_open opened_inside opened_outside outer_loop replaced process run start step told_all begins_with begins_with_one html_4_01_beginnings limited_quirks_beginnings means_limited_quirks means_quirks quirks_beginnings quirks_public_ids quirks_system_ids added_before built changed has_one_like lacking row_of tree_from without_node foreign_end are_among cleared count_alike has_attribute_like has_entry last_named reopened still_listed to_reopen with_entry without_earliest without_entry item_met all_names breaks_out ends_scope ends_table_scope has_such is_among is_body_context is_formatting is_fostering is_implied is_implied_thoroughly is_listed is_row_context is_special kind_in kind_in_namespace kind_of may_stay_open namespace_of first_open foster_place_in has_in_scope has_open popped_to_first_in popped_until_in popped_while_in second_body without_open mode_of flushed_as_space flushed_fostered is_all_space mode_of_request reply_of value_of among attribute_lines comes_before indent shown shown_of sorted
+unfolding rows_41 trees_41 adjusted_attributes adjusted_name adjusted_tag_name cased foreign_attributes math_attribute_names svg_attribute_names svg_tag_names added_after adopted ended_by entry_of furthest_block inner_loop nth_open opened_inside opened_outside outer_loop replaced process run start step told_all begins_with begins_with_one html_4_01_beginnings limited_quirks_beginnings means_limited_quirks means_quirks quirks_beginnings quirks_public_ids quirks_system_ids added_before built changed has_one_like lacking row_of tree_from without_node foreign_end are_among cleared count_after_marker count_alike has_attribute_like has_entry last_named reopened still_listed to_reopen with_entry without_earliest without_entry without_oldest item_met all_names breaks_out ends_scope ends_table_scope has_such is_among is_body_context is_formatting is_fostering is_implied is_implied_thoroughly is_listed is_row_context is_special kind_in kind_in_namespace kind_of may_stay_open namespace_of first_open foster_place_in has_in_scope has_open popped_to_first_in popped_until_in popped_while_in second_body without_open mode_of flushed_as_space flushed_fostered is_all_space mode_of_request reply_of value_of among attribute_lines comes_before indent shown shown_of sorted
 built_41 = refl
 
 rows_42 : List Case
@@ -2081,7 +2081,7 @@ trees_42 =
     ∷ []
 
 built_42 : map shown_of rows_42 ≡ trees_42
-unfolding rows_42 trees_42 adjusted_attributes adjusted_name adjusted_tag_name cased foreign_attributes math_attribute_names svg_attribute_names svg_tag_names added_after adopted ended_by entry_of furthest_block inner_loop nth_open opened_inside opened_outside outer_loop replaced process run start step told_all begins_with begins_with_one html_4_01_beginnings limited_quirks_beginnings means_limited_quirks means_quirks quirks_beginnings quirks_public_ids quirks_system_ids added_before built changed has_one_like lacking row_of tree_from without_node foreign_end are_among cleared count_alike has_attribute_like has_entry last_named reopened still_listed to_reopen with_entry without_earliest without_entry item_met all_names breaks_out ends_scope ends_table_scope has_such is_among is_body_context is_formatting is_fostering is_implied is_implied_thoroughly is_listed is_row_context is_special kind_in kind_in_namespace kind_of may_stay_open namespace_of first_open foster_place_in has_in_scope has_open popped_to_first_in popped_until_in popped_while_in second_body without_open mode_of flushed_as_space flushed_fostered is_all_space mode_of_request reply_of value_of among attribute_lines comes_before indent shown shown_of sorted
+unfolding rows_42 trees_42 adjusted_attributes adjusted_name adjusted_tag_name cased foreign_attributes math_attribute_names svg_attribute_names svg_tag_names added_after adopted ended_by entry_of furthest_block inner_loop nth_open opened_inside opened_outside outer_loop replaced process run start step told_all begins_with begins_with_one html_4_01_beginnings limited_quirks_beginnings means_limited_quirks means_quirks quirks_beginnings quirks_public_ids quirks_system_ids added_before built changed has_one_like lacking row_of tree_from without_node foreign_end are_among cleared count_after_marker count_alike has_attribute_like has_entry last_named reopened still_listed to_reopen with_entry without_earliest without_entry without_oldest item_met all_names breaks_out ends_scope ends_table_scope has_such is_among is_body_context is_formatting is_fostering is_implied is_implied_thoroughly is_listed is_row_context is_special kind_in kind_in_namespace kind_of may_stay_open namespace_of first_open foster_place_in has_in_scope has_open popped_to_first_in popped_until_in popped_while_in second_body without_open mode_of flushed_as_space flushed_fostered is_all_space mode_of_request reply_of value_of among attribute_lines comes_before indent shown shown_of sorted
 built_42 = refl
 
 rows_43 : List Case
@@ -2129,7 +2129,7 @@ trees_43 =
     ∷ []
 
 built_43 : map shown_of rows_43 ≡ trees_43
-unfolding rows_43 trees_43 adjusted_attributes adjusted_name adjusted_tag_name cased foreign_attributes math_attribute_names svg_attribute_names svg_tag_names added_after adopted ended_by entry_of furthest_block inner_loop nth_open opened_inside opened_outside outer_loop replaced process run start step told_all begins_with begins_with_one html_4_01_beginnings limited_quirks_beginnings means_limited_quirks means_quirks quirks_beginnings quirks_public_ids quirks_system_ids added_before built changed has_one_like lacking row_of tree_from without_node foreign_end are_among cleared count_alike has_attribute_like has_entry last_named reopened still_listed to_reopen with_entry without_earliest without_entry item_met all_names breaks_out ends_scope ends_table_scope has_such is_among is_body_context is_formatting is_fostering is_implied is_implied_thoroughly is_listed is_row_context is_special kind_in kind_in_namespace kind_of may_stay_open namespace_of first_open foster_place_in has_in_scope has_open popped_to_first_in popped_until_in popped_while_in second_body without_open mode_of flushed_as_space flushed_fostered is_all_space mode_of_request reply_of value_of among attribute_lines comes_before indent shown shown_of sorted
+unfolding rows_43 trees_43 adjusted_attributes adjusted_name adjusted_tag_name cased foreign_attributes math_attribute_names svg_attribute_names svg_tag_names added_after adopted ended_by entry_of furthest_block inner_loop nth_open opened_inside opened_outside outer_loop replaced process run start step told_all begins_with begins_with_one html_4_01_beginnings limited_quirks_beginnings means_limited_quirks means_quirks quirks_beginnings quirks_public_ids quirks_system_ids added_before built changed has_one_like lacking row_of tree_from without_node foreign_end are_among cleared count_after_marker count_alike has_attribute_like has_entry last_named reopened still_listed to_reopen with_entry without_earliest without_entry without_oldest item_met all_names breaks_out ends_scope ends_table_scope has_such is_among is_body_context is_formatting is_fostering is_implied is_implied_thoroughly is_listed is_row_context is_special kind_in kind_in_namespace kind_of may_stay_open namespace_of first_open foster_place_in has_in_scope has_open popped_to_first_in popped_until_in popped_while_in second_body without_open mode_of flushed_as_space flushed_fostered is_all_space mode_of_request reply_of value_of among attribute_lines comes_before indent shown shown_of sorted
 built_43 = refl
 
 rows_44 : List Case
@@ -2177,7 +2177,7 @@ trees_44 =
     ∷ []
 
 built_44 : map shown_of rows_44 ≡ trees_44
-unfolding rows_44 trees_44 adjusted_attributes adjusted_name adjusted_tag_name cased foreign_attributes math_attribute_names svg_attribute_names svg_tag_names added_after adopted ended_by entry_of furthest_block inner_loop nth_open opened_inside opened_outside outer_loop replaced process run start step told_all begins_with begins_with_one html_4_01_beginnings limited_quirks_beginnings means_limited_quirks means_quirks quirks_beginnings quirks_public_ids quirks_system_ids added_before built changed has_one_like lacking row_of tree_from without_node foreign_end are_among cleared count_alike has_attribute_like has_entry last_named reopened still_listed to_reopen with_entry without_earliest without_entry item_met all_names breaks_out ends_scope ends_table_scope has_such is_among is_body_context is_formatting is_fostering is_implied is_implied_thoroughly is_listed is_row_context is_special kind_in kind_in_namespace kind_of may_stay_open namespace_of first_open foster_place_in has_in_scope has_open popped_to_first_in popped_until_in popped_while_in second_body without_open mode_of flushed_as_space flushed_fostered is_all_space mode_of_request reply_of value_of among attribute_lines comes_before indent shown shown_of sorted
+unfolding rows_44 trees_44 adjusted_attributes adjusted_name adjusted_tag_name cased foreign_attributes math_attribute_names svg_attribute_names svg_tag_names added_after adopted ended_by entry_of furthest_block inner_loop nth_open opened_inside opened_outside outer_loop replaced process run start step told_all begins_with begins_with_one html_4_01_beginnings limited_quirks_beginnings means_limited_quirks means_quirks quirks_beginnings quirks_public_ids quirks_system_ids added_before built changed has_one_like lacking row_of tree_from without_node foreign_end are_among cleared count_after_marker count_alike has_attribute_like has_entry last_named reopened still_listed to_reopen with_entry without_earliest without_entry without_oldest item_met all_names breaks_out ends_scope ends_table_scope has_such is_among is_body_context is_formatting is_fostering is_implied is_implied_thoroughly is_listed is_row_context is_special kind_in kind_in_namespace kind_of may_stay_open namespace_of first_open foster_place_in has_in_scope has_open popped_to_first_in popped_until_in popped_while_in second_body without_open mode_of flushed_as_space flushed_fostered is_all_space mode_of_request reply_of value_of among attribute_lines comes_before indent shown shown_of sorted
 built_44 = refl
 
 rows_45 : List Case
@@ -2225,7 +2225,7 @@ trees_45 =
     ∷ []
 
 built_45 : map shown_of rows_45 ≡ trees_45
-unfolding rows_45 trees_45 adjusted_attributes adjusted_name adjusted_tag_name cased foreign_attributes math_attribute_names svg_attribute_names svg_tag_names added_after adopted ended_by entry_of furthest_block inner_loop nth_open opened_inside opened_outside outer_loop replaced process run start step told_all begins_with begins_with_one html_4_01_beginnings limited_quirks_beginnings means_limited_quirks means_quirks quirks_beginnings quirks_public_ids quirks_system_ids added_before built changed has_one_like lacking row_of tree_from without_node foreign_end are_among cleared count_alike has_attribute_like has_entry last_named reopened still_listed to_reopen with_entry without_earliest without_entry item_met all_names breaks_out ends_scope ends_table_scope has_such is_among is_body_context is_formatting is_fostering is_implied is_implied_thoroughly is_listed is_row_context is_special kind_in kind_in_namespace kind_of may_stay_open namespace_of first_open foster_place_in has_in_scope has_open popped_to_first_in popped_until_in popped_while_in second_body without_open mode_of flushed_as_space flushed_fostered is_all_space mode_of_request reply_of value_of among attribute_lines comes_before indent shown shown_of sorted
+unfolding rows_45 trees_45 adjusted_attributes adjusted_name adjusted_tag_name cased foreign_attributes math_attribute_names svg_attribute_names svg_tag_names added_after adopted ended_by entry_of furthest_block inner_loop nth_open opened_inside opened_outside outer_loop replaced process run start step told_all begins_with begins_with_one html_4_01_beginnings limited_quirks_beginnings means_limited_quirks means_quirks quirks_beginnings quirks_public_ids quirks_system_ids added_before built changed has_one_like lacking row_of tree_from without_node foreign_end are_among cleared count_after_marker count_alike has_attribute_like has_entry last_named reopened still_listed to_reopen with_entry without_earliest without_entry without_oldest item_met all_names breaks_out ends_scope ends_table_scope has_such is_among is_body_context is_formatting is_fostering is_implied is_implied_thoroughly is_listed is_row_context is_special kind_in kind_in_namespace kind_of may_stay_open namespace_of first_open foster_place_in has_in_scope has_open popped_to_first_in popped_until_in popped_while_in second_body without_open mode_of flushed_as_space flushed_fostered is_all_space mode_of_request reply_of value_of among attribute_lines comes_before indent shown shown_of sorted
 built_45 = refl
 
 rows_46 : List Case
@@ -2273,7 +2273,7 @@ trees_46 =
     ∷ []
 
 built_46 : map shown_of rows_46 ≡ trees_46
-unfolding rows_46 trees_46 adjusted_attributes adjusted_name adjusted_tag_name cased foreign_attributes math_attribute_names svg_attribute_names svg_tag_names added_after adopted ended_by entry_of furthest_block inner_loop nth_open opened_inside opened_outside outer_loop replaced process run start step told_all begins_with begins_with_one html_4_01_beginnings limited_quirks_beginnings means_limited_quirks means_quirks quirks_beginnings quirks_public_ids quirks_system_ids added_before built changed has_one_like lacking row_of tree_from without_node foreign_end are_among cleared count_alike has_attribute_like has_entry last_named reopened still_listed to_reopen with_entry without_earliest without_entry item_met all_names breaks_out ends_scope ends_table_scope has_such is_among is_body_context is_formatting is_fostering is_implied is_implied_thoroughly is_listed is_row_context is_special kind_in kind_in_namespace kind_of may_stay_open namespace_of first_open foster_place_in has_in_scope has_open popped_to_first_in popped_until_in popped_while_in second_body without_open mode_of flushed_as_space flushed_fostered is_all_space mode_of_request reply_of value_of among attribute_lines comes_before indent shown shown_of sorted
+unfolding rows_46 trees_46 adjusted_attributes adjusted_name adjusted_tag_name cased foreign_attributes math_attribute_names svg_attribute_names svg_tag_names added_after adopted ended_by entry_of furthest_block inner_loop nth_open opened_inside opened_outside outer_loop replaced process run start step told_all begins_with begins_with_one html_4_01_beginnings limited_quirks_beginnings means_limited_quirks means_quirks quirks_beginnings quirks_public_ids quirks_system_ids added_before built changed has_one_like lacking row_of tree_from without_node foreign_end are_among cleared count_after_marker count_alike has_attribute_like has_entry last_named reopened still_listed to_reopen with_entry without_earliest without_entry without_oldest item_met all_names breaks_out ends_scope ends_table_scope has_such is_among is_body_context is_formatting is_fostering is_implied is_implied_thoroughly is_listed is_row_context is_special kind_in kind_in_namespace kind_of may_stay_open namespace_of first_open foster_place_in has_in_scope has_open popped_to_first_in popped_until_in popped_while_in second_body without_open mode_of flushed_as_space flushed_fostered is_all_space mode_of_request reply_of value_of among attribute_lines comes_before indent shown shown_of sorted
 built_46 = refl
 
 rows_47 : List Case
@@ -2321,7 +2321,7 @@ trees_47 =
     ∷ []
 
 built_47 : map shown_of rows_47 ≡ trees_47
-unfolding rows_47 trees_47 adjusted_attributes adjusted_name adjusted_tag_name cased foreign_attributes math_attribute_names svg_attribute_names svg_tag_names added_after adopted ended_by entry_of furthest_block inner_loop nth_open opened_inside opened_outside outer_loop replaced process run start step told_all begins_with begins_with_one html_4_01_beginnings limited_quirks_beginnings means_limited_quirks means_quirks quirks_beginnings quirks_public_ids quirks_system_ids added_before built changed has_one_like lacking row_of tree_from without_node foreign_end are_among cleared count_alike has_attribute_like has_entry last_named reopened still_listed to_reopen with_entry without_earliest without_entry item_met all_names breaks_out ends_scope ends_table_scope has_such is_among is_body_context is_formatting is_fostering is_implied is_implied_thoroughly is_listed is_row_context is_special kind_in kind_in_namespace kind_of may_stay_open namespace_of first_open foster_place_in has_in_scope has_open popped_to_first_in popped_until_in popped_while_in second_body without_open mode_of flushed_as_space flushed_fostered is_all_space mode_of_request reply_of value_of among attribute_lines comes_before indent shown shown_of sorted
+unfolding rows_47 trees_47 adjusted_attributes adjusted_name adjusted_tag_name cased foreign_attributes math_attribute_names svg_attribute_names svg_tag_names added_after adopted ended_by entry_of furthest_block inner_loop nth_open opened_inside opened_outside outer_loop replaced process run start step told_all begins_with begins_with_one html_4_01_beginnings limited_quirks_beginnings means_limited_quirks means_quirks quirks_beginnings quirks_public_ids quirks_system_ids added_before built changed has_one_like lacking row_of tree_from without_node foreign_end are_among cleared count_after_marker count_alike has_attribute_like has_entry last_named reopened still_listed to_reopen with_entry without_earliest without_entry without_oldest item_met all_names breaks_out ends_scope ends_table_scope has_such is_among is_body_context is_formatting is_fostering is_implied is_implied_thoroughly is_listed is_row_context is_special kind_in kind_in_namespace kind_of may_stay_open namespace_of first_open foster_place_in has_in_scope has_open popped_to_first_in popped_until_in popped_while_in second_body without_open mode_of flushed_as_space flushed_fostered is_all_space mode_of_request reply_of value_of among attribute_lines comes_before indent shown shown_of sorted
 built_47 = refl
 
 rows_48 : List Case
@@ -2369,7 +2369,7 @@ trees_48 =
     ∷ []
 
 built_48 : map shown_of rows_48 ≡ trees_48
-unfolding rows_48 trees_48 adjusted_attributes adjusted_name adjusted_tag_name cased foreign_attributes math_attribute_names svg_attribute_names svg_tag_names added_after adopted ended_by entry_of furthest_block inner_loop nth_open opened_inside opened_outside outer_loop replaced process run start step told_all begins_with begins_with_one html_4_01_beginnings limited_quirks_beginnings means_limited_quirks means_quirks quirks_beginnings quirks_public_ids quirks_system_ids added_before built changed has_one_like lacking row_of tree_from without_node foreign_end are_among cleared count_alike has_attribute_like has_entry last_named reopened still_listed to_reopen with_entry without_earliest without_entry item_met all_names breaks_out ends_scope ends_table_scope has_such is_among is_body_context is_formatting is_fostering is_implied is_implied_thoroughly is_listed is_row_context is_special kind_in kind_in_namespace kind_of may_stay_open namespace_of first_open foster_place_in has_in_scope has_open popped_to_first_in popped_until_in popped_while_in second_body without_open mode_of flushed_as_space flushed_fostered is_all_space mode_of_request reply_of value_of among attribute_lines comes_before indent shown shown_of sorted
+unfolding rows_48 trees_48 adjusted_attributes adjusted_name adjusted_tag_name cased foreign_attributes math_attribute_names svg_attribute_names svg_tag_names added_after adopted ended_by entry_of furthest_block inner_loop nth_open opened_inside opened_outside outer_loop replaced process run start step told_all begins_with begins_with_one html_4_01_beginnings limited_quirks_beginnings means_limited_quirks means_quirks quirks_beginnings quirks_public_ids quirks_system_ids added_before built changed has_one_like lacking row_of tree_from without_node foreign_end are_among cleared count_after_marker count_alike has_attribute_like has_entry last_named reopened still_listed to_reopen with_entry without_earliest without_entry without_oldest item_met all_names breaks_out ends_scope ends_table_scope has_such is_among is_body_context is_formatting is_fostering is_implied is_implied_thoroughly is_listed is_row_context is_special kind_in kind_in_namespace kind_of may_stay_open namespace_of first_open foster_place_in has_in_scope has_open popped_to_first_in popped_until_in popped_while_in second_body without_open mode_of flushed_as_space flushed_fostered is_all_space mode_of_request reply_of value_of among attribute_lines comes_before indent shown shown_of sorted
 built_48 = refl
 
 rows_49 : List Case
@@ -2417,7 +2417,7 @@ trees_49 =
     ∷ []
 
 built_49 : map shown_of rows_49 ≡ trees_49
-unfolding rows_49 trees_49 adjusted_attributes adjusted_name adjusted_tag_name cased foreign_attributes math_attribute_names svg_attribute_names svg_tag_names added_after adopted ended_by entry_of furthest_block inner_loop nth_open opened_inside opened_outside outer_loop replaced process run start step told_all begins_with begins_with_one html_4_01_beginnings limited_quirks_beginnings means_limited_quirks means_quirks quirks_beginnings quirks_public_ids quirks_system_ids added_before built changed has_one_like lacking row_of tree_from without_node foreign_end are_among cleared count_alike has_attribute_like has_entry last_named reopened still_listed to_reopen with_entry without_earliest without_entry item_met all_names breaks_out ends_scope ends_table_scope has_such is_among is_body_context is_formatting is_fostering is_implied is_implied_thoroughly is_listed is_row_context is_special kind_in kind_in_namespace kind_of may_stay_open namespace_of first_open foster_place_in has_in_scope has_open popped_to_first_in popped_until_in popped_while_in second_body without_open mode_of flushed_as_space flushed_fostered is_all_space mode_of_request reply_of value_of among attribute_lines comes_before indent shown shown_of sorted
+unfolding rows_49 trees_49 adjusted_attributes adjusted_name adjusted_tag_name cased foreign_attributes math_attribute_names svg_attribute_names svg_tag_names added_after adopted ended_by entry_of furthest_block inner_loop nth_open opened_inside opened_outside outer_loop replaced process run start step told_all begins_with begins_with_one html_4_01_beginnings limited_quirks_beginnings means_limited_quirks means_quirks quirks_beginnings quirks_public_ids quirks_system_ids added_before built changed has_one_like lacking row_of tree_from without_node foreign_end are_among cleared count_after_marker count_alike has_attribute_like has_entry last_named reopened still_listed to_reopen with_entry without_earliest without_entry without_oldest item_met all_names breaks_out ends_scope ends_table_scope has_such is_among is_body_context is_formatting is_fostering is_implied is_implied_thoroughly is_listed is_row_context is_special kind_in kind_in_namespace kind_of may_stay_open namespace_of first_open foster_place_in has_in_scope has_open popped_to_first_in popped_until_in popped_while_in second_body without_open mode_of flushed_as_space flushed_fostered is_all_space mode_of_request reply_of value_of among attribute_lines comes_before indent shown shown_of sorted
 built_49 = refl
 
 rows_50 : List Case
@@ -2465,7 +2465,7 @@ trees_50 =
     ∷ []
 
 built_50 : map shown_of rows_50 ≡ trees_50
-unfolding rows_50 trees_50 adjusted_attributes adjusted_name adjusted_tag_name cased foreign_attributes math_attribute_names svg_attribute_names svg_tag_names added_after adopted ended_by entry_of furthest_block inner_loop nth_open opened_inside opened_outside outer_loop replaced process run start step told_all begins_with begins_with_one html_4_01_beginnings limited_quirks_beginnings means_limited_quirks means_quirks quirks_beginnings quirks_public_ids quirks_system_ids added_before built changed has_one_like lacking row_of tree_from without_node foreign_end are_among cleared count_alike has_attribute_like has_entry last_named reopened still_listed to_reopen with_entry without_earliest without_entry item_met all_names breaks_out ends_scope ends_table_scope has_such is_among is_body_context is_formatting is_fostering is_implied is_implied_thoroughly is_listed is_row_context is_special kind_in kind_in_namespace kind_of may_stay_open namespace_of first_open foster_place_in has_in_scope has_open popped_to_first_in popped_until_in popped_while_in second_body without_open mode_of flushed_as_space flushed_fostered is_all_space mode_of_request reply_of value_of among attribute_lines comes_before indent shown shown_of sorted
+unfolding rows_50 trees_50 adjusted_attributes adjusted_name adjusted_tag_name cased foreign_attributes math_attribute_names svg_attribute_names svg_tag_names added_after adopted ended_by entry_of furthest_block inner_loop nth_open opened_inside opened_outside outer_loop replaced process run start step told_all begins_with begins_with_one html_4_01_beginnings limited_quirks_beginnings means_limited_quirks means_quirks quirks_beginnings quirks_public_ids quirks_system_ids added_before built changed has_one_like lacking row_of tree_from without_node foreign_end are_among cleared count_after_marker count_alike has_attribute_like has_entry last_named reopened still_listed to_reopen with_entry without_earliest without_entry without_oldest item_met all_names breaks_out ends_scope ends_table_scope has_such is_among is_body_context is_formatting is_fostering is_implied is_implied_thoroughly is_listed is_row_context is_special kind_in kind_in_namespace kind_of may_stay_open namespace_of first_open foster_place_in has_in_scope has_open popped_to_first_in popped_until_in popped_while_in second_body without_open mode_of flushed_as_space flushed_fostered is_all_space mode_of_request reply_of value_of among attribute_lines comes_before indent shown shown_of sorted
 built_50 = refl
 
 rows_51 : List Case
@@ -2513,7 +2513,7 @@ trees_51 =
     ∷ []
 
 built_51 : map shown_of rows_51 ≡ trees_51
-unfolding rows_51 trees_51 adjusted_attributes adjusted_name adjusted_tag_name cased foreign_attributes math_attribute_names svg_attribute_names svg_tag_names added_after adopted ended_by entry_of furthest_block inner_loop nth_open opened_inside opened_outside outer_loop replaced process run start step told_all begins_with begins_with_one html_4_01_beginnings limited_quirks_beginnings means_limited_quirks means_quirks quirks_beginnings quirks_public_ids quirks_system_ids added_before built changed has_one_like lacking row_of tree_from without_node foreign_end are_among cleared count_alike has_attribute_like has_entry last_named reopened still_listed to_reopen with_entry without_earliest without_entry item_met all_names breaks_out ends_scope ends_table_scope has_such is_among is_body_context is_formatting is_fostering is_implied is_implied_thoroughly is_listed is_row_context is_special kind_in kind_in_namespace kind_of may_stay_open namespace_of first_open foster_place_in has_in_scope has_open popped_to_first_in popped_until_in popped_while_in second_body without_open mode_of flushed_as_space flushed_fostered is_all_space mode_of_request reply_of value_of among attribute_lines comes_before indent shown shown_of sorted
+unfolding rows_51 trees_51 adjusted_attributes adjusted_name adjusted_tag_name cased foreign_attributes math_attribute_names svg_attribute_names svg_tag_names added_after adopted ended_by entry_of furthest_block inner_loop nth_open opened_inside opened_outside outer_loop replaced process run start step told_all begins_with begins_with_one html_4_01_beginnings limited_quirks_beginnings means_limited_quirks means_quirks quirks_beginnings quirks_public_ids quirks_system_ids added_before built changed has_one_like lacking row_of tree_from without_node foreign_end are_among cleared count_after_marker count_alike has_attribute_like has_entry last_named reopened still_listed to_reopen with_entry without_earliest without_entry without_oldest item_met all_names breaks_out ends_scope ends_table_scope has_such is_among is_body_context is_formatting is_fostering is_implied is_implied_thoroughly is_listed is_row_context is_special kind_in kind_in_namespace kind_of may_stay_open namespace_of first_open foster_place_in has_in_scope has_open popped_to_first_in popped_until_in popped_while_in second_body without_open mode_of flushed_as_space flushed_fostered is_all_space mode_of_request reply_of value_of among attribute_lines comes_before indent shown shown_of sorted
 built_51 = refl
 
 rows_52 : List Case
@@ -2561,7 +2561,7 @@ trees_52 =
     ∷ []
 
 built_52 : map shown_of rows_52 ≡ trees_52
-unfolding rows_52 trees_52 adjusted_attributes adjusted_name adjusted_tag_name cased foreign_attributes math_attribute_names svg_attribute_names svg_tag_names added_after adopted ended_by entry_of furthest_block inner_loop nth_open opened_inside opened_outside outer_loop replaced process run start step told_all begins_with begins_with_one html_4_01_beginnings limited_quirks_beginnings means_limited_quirks means_quirks quirks_beginnings quirks_public_ids quirks_system_ids added_before built changed has_one_like lacking row_of tree_from without_node foreign_end are_among cleared count_alike has_attribute_like has_entry last_named reopened still_listed to_reopen with_entry without_earliest without_entry item_met all_names breaks_out ends_scope ends_table_scope has_such is_among is_body_context is_formatting is_fostering is_implied is_implied_thoroughly is_listed is_row_context is_special kind_in kind_in_namespace kind_of may_stay_open namespace_of first_open foster_place_in has_in_scope has_open popped_to_first_in popped_until_in popped_while_in second_body without_open mode_of flushed_as_space flushed_fostered is_all_space mode_of_request reply_of value_of among attribute_lines comes_before indent shown shown_of sorted
+unfolding rows_52 trees_52 adjusted_attributes adjusted_name adjusted_tag_name cased foreign_attributes math_attribute_names svg_attribute_names svg_tag_names added_after adopted ended_by entry_of furthest_block inner_loop nth_open opened_inside opened_outside outer_loop replaced process run start step told_all begins_with begins_with_one html_4_01_beginnings limited_quirks_beginnings means_limited_quirks means_quirks quirks_beginnings quirks_public_ids quirks_system_ids added_before built changed has_one_like lacking row_of tree_from without_node foreign_end are_among cleared count_after_marker count_alike has_attribute_like has_entry last_named reopened still_listed to_reopen with_entry without_earliest without_entry without_oldest item_met all_names breaks_out ends_scope ends_table_scope has_such is_among is_body_context is_formatting is_fostering is_implied is_implied_thoroughly is_listed is_row_context is_special kind_in kind_in_namespace kind_of may_stay_open namespace_of first_open foster_place_in has_in_scope has_open popped_to_first_in popped_until_in popped_while_in second_body without_open mode_of flushed_as_space flushed_fostered is_all_space mode_of_request reply_of value_of among attribute_lines comes_before indent shown shown_of sorted
 built_52 = refl
 
 rows_53 : List Case
@@ -2609,7 +2609,7 @@ trees_53 =
     ∷ []
 
 built_53 : map shown_of rows_53 ≡ trees_53
-unfolding rows_53 trees_53 adjusted_attributes adjusted_name adjusted_tag_name cased foreign_attributes math_attribute_names svg_attribute_names svg_tag_names added_after adopted ended_by entry_of furthest_block inner_loop nth_open opened_inside opened_outside outer_loop replaced process run start step told_all begins_with begins_with_one html_4_01_beginnings limited_quirks_beginnings means_limited_quirks means_quirks quirks_beginnings quirks_public_ids quirks_system_ids added_before built changed has_one_like lacking row_of tree_from without_node foreign_end are_among cleared count_alike has_attribute_like has_entry last_named reopened still_listed to_reopen with_entry without_earliest without_entry item_met all_names breaks_out ends_scope ends_table_scope has_such is_among is_body_context is_formatting is_fostering is_implied is_implied_thoroughly is_listed is_row_context is_special kind_in kind_in_namespace kind_of may_stay_open namespace_of first_open foster_place_in has_in_scope has_open popped_to_first_in popped_until_in popped_while_in second_body without_open mode_of flushed_as_space flushed_fostered is_all_space mode_of_request reply_of value_of among attribute_lines comes_before indent shown shown_of sorted
+unfolding rows_53 trees_53 adjusted_attributes adjusted_name adjusted_tag_name cased foreign_attributes math_attribute_names svg_attribute_names svg_tag_names added_after adopted ended_by entry_of furthest_block inner_loop nth_open opened_inside opened_outside outer_loop replaced process run start step told_all begins_with begins_with_one html_4_01_beginnings limited_quirks_beginnings means_limited_quirks means_quirks quirks_beginnings quirks_public_ids quirks_system_ids added_before built changed has_one_like lacking row_of tree_from without_node foreign_end are_among cleared count_after_marker count_alike has_attribute_like has_entry last_named reopened still_listed to_reopen with_entry without_earliest without_entry without_oldest item_met all_names breaks_out ends_scope ends_table_scope has_such is_among is_body_context is_formatting is_fostering is_implied is_implied_thoroughly is_listed is_row_context is_special kind_in kind_in_namespace kind_of may_stay_open namespace_of first_open foster_place_in has_in_scope has_open popped_to_first_in popped_until_in popped_while_in second_body without_open mode_of flushed_as_space flushed_fostered is_all_space mode_of_request reply_of value_of among attribute_lines comes_before indent shown shown_of sorted
 built_53 = refl
 
 rows_54 : List Case
@@ -2657,7 +2657,7 @@ trees_54 =
     ∷ []
 
 built_54 : map shown_of rows_54 ≡ trees_54
-unfolding rows_54 trees_54 adjusted_attributes adjusted_name adjusted_tag_name cased foreign_attributes math_attribute_names svg_attribute_names svg_tag_names added_after adopted ended_by entry_of furthest_block inner_loop nth_open opened_inside opened_outside outer_loop replaced process run start step told_all begins_with begins_with_one html_4_01_beginnings limited_quirks_beginnings means_limited_quirks means_quirks quirks_beginnings quirks_public_ids quirks_system_ids added_before built changed has_one_like lacking row_of tree_from without_node foreign_end are_among cleared count_alike has_attribute_like has_entry last_named reopened still_listed to_reopen with_entry without_earliest without_entry item_met all_names breaks_out ends_scope ends_table_scope has_such is_among is_body_context is_formatting is_fostering is_implied is_implied_thoroughly is_listed is_row_context is_special kind_in kind_in_namespace kind_of may_stay_open namespace_of first_open foster_place_in has_in_scope has_open popped_to_first_in popped_until_in popped_while_in second_body without_open mode_of flushed_as_space flushed_fostered is_all_space mode_of_request reply_of value_of among attribute_lines comes_before indent shown shown_of sorted
+unfolding rows_54 trees_54 adjusted_attributes adjusted_name adjusted_tag_name cased foreign_attributes math_attribute_names svg_attribute_names svg_tag_names added_after adopted ended_by entry_of furthest_block inner_loop nth_open opened_inside opened_outside outer_loop replaced process run start step told_all begins_with begins_with_one html_4_01_beginnings limited_quirks_beginnings means_limited_quirks means_quirks quirks_beginnings quirks_public_ids quirks_system_ids added_before built changed has_one_like lacking row_of tree_from without_node foreign_end are_among cleared count_after_marker count_alike has_attribute_like has_entry last_named reopened still_listed to_reopen with_entry without_earliest without_entry without_oldest item_met all_names breaks_out ends_scope ends_table_scope has_such is_among is_body_context is_formatting is_fostering is_implied is_implied_thoroughly is_listed is_row_context is_special kind_in kind_in_namespace kind_of may_stay_open namespace_of first_open foster_place_in has_in_scope has_open popped_to_first_in popped_until_in popped_while_in second_body without_open mode_of flushed_as_space flushed_fostered is_all_space mode_of_request reply_of value_of among attribute_lines comes_before indent shown shown_of sorted
 built_54 = refl
 
 rows_55 : List Case
@@ -2705,7 +2705,7 @@ trees_55 =
     ∷ []
 
 built_55 : map shown_of rows_55 ≡ trees_55
-unfolding rows_55 trees_55 adjusted_attributes adjusted_name adjusted_tag_name cased foreign_attributes math_attribute_names svg_attribute_names svg_tag_names added_after adopted ended_by entry_of furthest_block inner_loop nth_open opened_inside opened_outside outer_loop replaced process run start step told_all begins_with begins_with_one html_4_01_beginnings limited_quirks_beginnings means_limited_quirks means_quirks quirks_beginnings quirks_public_ids quirks_system_ids added_before built changed has_one_like lacking row_of tree_from without_node foreign_end are_among cleared count_alike has_attribute_like has_entry last_named reopened still_listed to_reopen with_entry without_earliest without_entry item_met all_names breaks_out ends_scope ends_table_scope has_such is_among is_body_context is_formatting is_fostering is_implied is_implied_thoroughly is_listed is_row_context is_special kind_in kind_in_namespace kind_of may_stay_open namespace_of first_open foster_place_in has_in_scope has_open popped_to_first_in popped_until_in popped_while_in second_body without_open mode_of flushed_as_space flushed_fostered is_all_space mode_of_request reply_of value_of among attribute_lines comes_before indent shown shown_of sorted
+unfolding rows_55 trees_55 adjusted_attributes adjusted_name adjusted_tag_name cased foreign_attributes math_attribute_names svg_attribute_names svg_tag_names added_after adopted ended_by entry_of furthest_block inner_loop nth_open opened_inside opened_outside outer_loop replaced process run start step told_all begins_with begins_with_one html_4_01_beginnings limited_quirks_beginnings means_limited_quirks means_quirks quirks_beginnings quirks_public_ids quirks_system_ids added_before built changed has_one_like lacking row_of tree_from without_node foreign_end are_among cleared count_after_marker count_alike has_attribute_like has_entry last_named reopened still_listed to_reopen with_entry without_earliest without_entry without_oldest item_met all_names breaks_out ends_scope ends_table_scope has_such is_among is_body_context is_formatting is_fostering is_implied is_implied_thoroughly is_listed is_row_context is_special kind_in kind_in_namespace kind_of may_stay_open namespace_of first_open foster_place_in has_in_scope has_open popped_to_first_in popped_until_in popped_while_in second_body without_open mode_of flushed_as_space flushed_fostered is_all_space mode_of_request reply_of value_of among attribute_lines comes_before indent shown shown_of sorted
 built_55 = refl
 
 rows_56 : List Case
@@ -2753,7 +2753,7 @@ trees_56 =
     ∷ []
 
 built_56 : map shown_of rows_56 ≡ trees_56
-unfolding rows_56 trees_56 adjusted_attributes adjusted_name adjusted_tag_name cased foreign_attributes math_attribute_names svg_attribute_names svg_tag_names added_after adopted ended_by entry_of furthest_block inner_loop nth_open opened_inside opened_outside outer_loop replaced process run start step told_all begins_with begins_with_one html_4_01_beginnings limited_quirks_beginnings means_limited_quirks means_quirks quirks_beginnings quirks_public_ids quirks_system_ids added_before built changed has_one_like lacking row_of tree_from without_node foreign_end are_among cleared count_alike has_attribute_like has_entry last_named reopened still_listed to_reopen with_entry without_earliest without_entry item_met all_names breaks_out ends_scope ends_table_scope has_such is_among is_body_context is_formatting is_fostering is_implied is_implied_thoroughly is_listed is_row_context is_special kind_in kind_in_namespace kind_of may_stay_open namespace_of first_open foster_place_in has_in_scope has_open popped_to_first_in popped_until_in popped_while_in second_body without_open mode_of flushed_as_space flushed_fostered is_all_space mode_of_request reply_of value_of among attribute_lines comes_before indent shown shown_of sorted
+unfolding rows_56 trees_56 adjusted_attributes adjusted_name adjusted_tag_name cased foreign_attributes math_attribute_names svg_attribute_names svg_tag_names added_after adopted ended_by entry_of furthest_block inner_loop nth_open opened_inside opened_outside outer_loop replaced process run start step told_all begins_with begins_with_one html_4_01_beginnings limited_quirks_beginnings means_limited_quirks means_quirks quirks_beginnings quirks_public_ids quirks_system_ids added_before built changed has_one_like lacking row_of tree_from without_node foreign_end are_among cleared count_after_marker count_alike has_attribute_like has_entry last_named reopened still_listed to_reopen with_entry without_earliest without_entry without_oldest item_met all_names breaks_out ends_scope ends_table_scope has_such is_among is_body_context is_formatting is_fostering is_implied is_implied_thoroughly is_listed is_row_context is_special kind_in kind_in_namespace kind_of may_stay_open namespace_of first_open foster_place_in has_in_scope has_open popped_to_first_in popped_until_in popped_while_in second_body without_open mode_of flushed_as_space flushed_fostered is_all_space mode_of_request reply_of value_of among attribute_lines comes_before indent shown shown_of sorted
 built_56 = refl
 
 rows_57 : List Case
@@ -2801,7 +2801,7 @@ trees_57 =
     ∷ []
 
 built_57 : map shown_of rows_57 ≡ trees_57
-unfolding rows_57 trees_57 adjusted_attributes adjusted_name adjusted_tag_name cased foreign_attributes math_attribute_names svg_attribute_names svg_tag_names added_after adopted ended_by entry_of furthest_block inner_loop nth_open opened_inside opened_outside outer_loop replaced process run start step told_all begins_with begins_with_one html_4_01_beginnings limited_quirks_beginnings means_limited_quirks means_quirks quirks_beginnings quirks_public_ids quirks_system_ids added_before built changed has_one_like lacking row_of tree_from without_node foreign_end are_among cleared count_alike has_attribute_like has_entry last_named reopened still_listed to_reopen with_entry without_earliest without_entry item_met all_names breaks_out ends_scope ends_table_scope has_such is_among is_body_context is_formatting is_fostering is_implied is_implied_thoroughly is_listed is_row_context is_special kind_in kind_in_namespace kind_of may_stay_open namespace_of first_open foster_place_in has_in_scope has_open popped_to_first_in popped_until_in popped_while_in second_body without_open mode_of flushed_as_space flushed_fostered is_all_space mode_of_request reply_of value_of among attribute_lines comes_before indent shown shown_of sorted
+unfolding rows_57 trees_57 adjusted_attributes adjusted_name adjusted_tag_name cased foreign_attributes math_attribute_names svg_attribute_names svg_tag_names added_after adopted ended_by entry_of furthest_block inner_loop nth_open opened_inside opened_outside outer_loop replaced process run start step told_all begins_with begins_with_one html_4_01_beginnings limited_quirks_beginnings means_limited_quirks means_quirks quirks_beginnings quirks_public_ids quirks_system_ids added_before built changed has_one_like lacking row_of tree_from without_node foreign_end are_among cleared count_after_marker count_alike has_attribute_like has_entry last_named reopened still_listed to_reopen with_entry without_earliest without_entry without_oldest item_met all_names breaks_out ends_scope ends_table_scope has_such is_among is_body_context is_formatting is_fostering is_implied is_implied_thoroughly is_listed is_row_context is_special kind_in kind_in_namespace kind_of may_stay_open namespace_of first_open foster_place_in has_in_scope has_open popped_to_first_in popped_until_in popped_while_in second_body without_open mode_of flushed_as_space flushed_fostered is_all_space mode_of_request reply_of value_of among attribute_lines comes_before indent shown shown_of sorted
 built_57 = refl
 
 rows_58 : List Case
@@ -2849,7 +2849,7 @@ trees_58 =
     ∷ []
 
 built_58 : map shown_of rows_58 ≡ trees_58
-unfolding rows_58 trees_58 adjusted_attributes adjusted_name adjusted_tag_name cased foreign_attributes math_attribute_names svg_attribute_names svg_tag_names added_after adopted ended_by entry_of furthest_block inner_loop nth_open opened_inside opened_outside outer_loop replaced process run start step told_all begins_with begins_with_one html_4_01_beginnings limited_quirks_beginnings means_limited_quirks means_quirks quirks_beginnings quirks_public_ids quirks_system_ids added_before built changed has_one_like lacking row_of tree_from without_node foreign_end are_among cleared count_alike has_attribute_like has_entry last_named reopened still_listed to_reopen with_entry without_earliest without_entry item_met all_names breaks_out ends_scope ends_table_scope has_such is_among is_body_context is_formatting is_fostering is_implied is_implied_thoroughly is_listed is_row_context is_special kind_in kind_in_namespace kind_of may_stay_open namespace_of first_open foster_place_in has_in_scope has_open popped_to_first_in popped_until_in popped_while_in second_body without_open mode_of flushed_as_space flushed_fostered is_all_space mode_of_request reply_of value_of among attribute_lines comes_before indent shown shown_of sorted
+unfolding rows_58 trees_58 adjusted_attributes adjusted_name adjusted_tag_name cased foreign_attributes math_attribute_names svg_attribute_names svg_tag_names added_after adopted ended_by entry_of furthest_block inner_loop nth_open opened_inside opened_outside outer_loop replaced process run start step told_all begins_with begins_with_one html_4_01_beginnings limited_quirks_beginnings means_limited_quirks means_quirks quirks_beginnings quirks_public_ids quirks_system_ids added_before built changed has_one_like lacking row_of tree_from without_node foreign_end are_among cleared count_after_marker count_alike has_attribute_like has_entry last_named reopened still_listed to_reopen with_entry without_earliest without_entry without_oldest item_met all_names breaks_out ends_scope ends_table_scope has_such is_among is_body_context is_formatting is_fostering is_implied is_implied_thoroughly is_listed is_row_context is_special kind_in kind_in_namespace kind_of may_stay_open namespace_of first_open foster_place_in has_in_scope has_open popped_to_first_in popped_until_in popped_while_in second_body without_open mode_of flushed_as_space flushed_fostered is_all_space mode_of_request reply_of value_of among attribute_lines comes_before indent shown shown_of sorted
 built_58 = refl
 
 rows_59 : List Case
@@ -2897,7 +2897,7 @@ trees_59 =
     ∷ []
 
 built_59 : map shown_of rows_59 ≡ trees_59
-unfolding rows_59 trees_59 adjusted_attributes adjusted_name adjusted_tag_name cased foreign_attributes math_attribute_names svg_attribute_names svg_tag_names added_after adopted ended_by entry_of furthest_block inner_loop nth_open opened_inside opened_outside outer_loop replaced process run start step told_all begins_with begins_with_one html_4_01_beginnings limited_quirks_beginnings means_limited_quirks means_quirks quirks_beginnings quirks_public_ids quirks_system_ids added_before built changed has_one_like lacking row_of tree_from without_node foreign_end are_among cleared count_alike has_attribute_like has_entry last_named reopened still_listed to_reopen with_entry without_earliest without_entry item_met all_names breaks_out ends_scope ends_table_scope has_such is_among is_body_context is_formatting is_fostering is_implied is_implied_thoroughly is_listed is_row_context is_special kind_in kind_in_namespace kind_of may_stay_open namespace_of first_open foster_place_in has_in_scope has_open popped_to_first_in popped_until_in popped_while_in second_body without_open mode_of flushed_as_space flushed_fostered is_all_space mode_of_request reply_of value_of among attribute_lines comes_before indent shown shown_of sorted
+unfolding rows_59 trees_59 adjusted_attributes adjusted_name adjusted_tag_name cased foreign_attributes math_attribute_names svg_attribute_names svg_tag_names added_after adopted ended_by entry_of furthest_block inner_loop nth_open opened_inside opened_outside outer_loop replaced process run start step told_all begins_with begins_with_one html_4_01_beginnings limited_quirks_beginnings means_limited_quirks means_quirks quirks_beginnings quirks_public_ids quirks_system_ids added_before built changed has_one_like lacking row_of tree_from without_node foreign_end are_among cleared count_after_marker count_alike has_attribute_like has_entry last_named reopened still_listed to_reopen with_entry without_earliest without_entry without_oldest item_met all_names breaks_out ends_scope ends_table_scope has_such is_among is_body_context is_formatting is_fostering is_implied is_implied_thoroughly is_listed is_row_context is_special kind_in kind_in_namespace kind_of may_stay_open namespace_of first_open foster_place_in has_in_scope has_open popped_to_first_in popped_until_in popped_while_in second_body without_open mode_of flushed_as_space flushed_fostered is_all_space mode_of_request reply_of value_of among attribute_lines comes_before indent shown shown_of sorted
 built_59 = refl
 
 rows_60 : List Case
@@ -2945,7 +2945,7 @@ trees_60 =
     ∷ []
 
 built_60 : map shown_of rows_60 ≡ trees_60
-unfolding rows_60 trees_60 adjusted_attributes adjusted_name adjusted_tag_name cased foreign_attributes math_attribute_names svg_attribute_names svg_tag_names added_after adopted ended_by entry_of furthest_block inner_loop nth_open opened_inside opened_outside outer_loop replaced process run start step told_all begins_with begins_with_one html_4_01_beginnings limited_quirks_beginnings means_limited_quirks means_quirks quirks_beginnings quirks_public_ids quirks_system_ids added_before built changed has_one_like lacking row_of tree_from without_node foreign_end are_among cleared count_alike has_attribute_like has_entry last_named reopened still_listed to_reopen with_entry without_earliest without_entry item_met all_names breaks_out ends_scope ends_table_scope has_such is_among is_body_context is_formatting is_fostering is_implied is_implied_thoroughly is_listed is_row_context is_special kind_in kind_in_namespace kind_of may_stay_open namespace_of first_open foster_place_in has_in_scope has_open popped_to_first_in popped_until_in popped_while_in second_body without_open mode_of flushed_as_space flushed_fostered is_all_space mode_of_request reply_of value_of among attribute_lines comes_before indent shown shown_of sorted
+unfolding rows_60 trees_60 adjusted_attributes adjusted_name adjusted_tag_name cased foreign_attributes math_attribute_names svg_attribute_names svg_tag_names added_after adopted ended_by entry_of furthest_block inner_loop nth_open opened_inside opened_outside outer_loop replaced process run start step told_all begins_with begins_with_one html_4_01_beginnings limited_quirks_beginnings means_limited_quirks means_quirks quirks_beginnings quirks_public_ids quirks_system_ids added_before built changed has_one_like lacking row_of tree_from without_node foreign_end are_among cleared count_after_marker count_alike has_attribute_like has_entry last_named reopened still_listed to_reopen with_entry without_earliest without_entry without_oldest item_met all_names breaks_out ends_scope ends_table_scope has_such is_among is_body_context is_formatting is_fostering is_implied is_implied_thoroughly is_listed is_row_context is_special kind_in kind_in_namespace kind_of may_stay_open namespace_of first_open foster_place_in has_in_scope has_open popped_to_first_in popped_until_in popped_while_in second_body without_open mode_of flushed_as_space flushed_fostered is_all_space mode_of_request reply_of value_of among attribute_lines comes_before indent shown shown_of sorted
 built_60 = refl
 
 rows_61 : List Case
@@ -2993,7 +2993,7 @@ trees_61 =
     ∷ []
 
 built_61 : map shown_of rows_61 ≡ trees_61
-unfolding rows_61 trees_61 adjusted_attributes adjusted_name adjusted_tag_name cased foreign_attributes math_attribute_names svg_attribute_names svg_tag_names added_after adopted ended_by entry_of furthest_block inner_loop nth_open opened_inside opened_outside outer_loop replaced process run start step told_all begins_with begins_with_one html_4_01_beginnings limited_quirks_beginnings means_limited_quirks means_quirks quirks_beginnings quirks_public_ids quirks_system_ids added_before built changed has_one_like lacking row_of tree_from without_node foreign_end are_among cleared count_alike has_attribute_like has_entry last_named reopened still_listed to_reopen with_entry without_earliest without_entry item_met all_names breaks_out ends_scope ends_table_scope has_such is_among is_body_context is_formatting is_fostering is_implied is_implied_thoroughly is_listed is_row_context is_special kind_in kind_in_namespace kind_of may_stay_open namespace_of first_open foster_place_in has_in_scope has_open popped_to_first_in popped_until_in popped_while_in second_body without_open mode_of flushed_as_space flushed_fostered is_all_space mode_of_request reply_of value_of among attribute_lines comes_before indent shown shown_of sorted
+unfolding rows_61 trees_61 adjusted_attributes adjusted_name adjusted_tag_name cased foreign_attributes math_attribute_names svg_attribute_names svg_tag_names added_after adopted ended_by entry_of furthest_block inner_loop nth_open opened_inside opened_outside outer_loop replaced process run start step told_all begins_with begins_with_one html_4_01_beginnings limited_quirks_beginnings means_limited_quirks means_quirks quirks_beginnings quirks_public_ids quirks_system_ids added_before built changed has_one_like lacking row_of tree_from without_node foreign_end are_among cleared count_after_marker count_alike has_attribute_like has_entry last_named reopened still_listed to_reopen with_entry without_earliest without_entry without_oldest item_met all_names breaks_out ends_scope ends_table_scope has_such is_among is_body_context is_formatting is_fostering is_implied is_implied_thoroughly is_listed is_row_context is_special kind_in kind_in_namespace kind_of may_stay_open namespace_of first_open foster_place_in has_in_scope has_open popped_to_first_in popped_until_in popped_while_in second_body without_open mode_of flushed_as_space flushed_fostered is_all_space mode_of_request reply_of value_of among attribute_lines comes_before indent shown shown_of sorted
 built_61 = refl
 
 rows_62 : List Case
@@ -3041,7 +3041,7 @@ trees_62 =
     ∷ []
 
 built_62 : map shown_of rows_62 ≡ trees_62
-unfolding rows_62 trees_62 adjusted_attributes adjusted_name adjusted_tag_name cased foreign_attributes math_attribute_names svg_attribute_names svg_tag_names added_after adopted ended_by entry_of furthest_block inner_loop nth_open opened_inside opened_outside outer_loop replaced process run start step told_all begins_with begins_with_one html_4_01_beginnings limited_quirks_beginnings means_limited_quirks means_quirks quirks_beginnings quirks_public_ids quirks_system_ids added_before built changed has_one_like lacking row_of tree_from without_node foreign_end are_among cleared count_alike has_attribute_like has_entry last_named reopened still_listed to_reopen with_entry without_earliest without_entry item_met all_names breaks_out ends_scope ends_table_scope has_such is_among is_body_context is_formatting is_fostering is_implied is_implied_thoroughly is_listed is_row_context is_special kind_in kind_in_namespace kind_of may_stay_open namespace_of first_open foster_place_in has_in_scope has_open popped_to_first_in popped_until_in popped_while_in second_body without_open mode_of flushed_as_space flushed_fostered is_all_space mode_of_request reply_of value_of among attribute_lines comes_before indent shown shown_of sorted
+unfolding rows_62 trees_62 adjusted_attributes adjusted_name adjusted_tag_name cased foreign_attributes math_attribute_names svg_attribute_names svg_tag_names added_after adopted ended_by entry_of furthest_block inner_loop nth_open opened_inside opened_outside outer_loop replaced process run start step told_all begins_with begins_with_one html_4_01_beginnings limited_quirks_beginnings means_limited_quirks means_quirks quirks_beginnings quirks_public_ids quirks_system_ids added_before built changed has_one_like lacking row_of tree_from without_node foreign_end are_among cleared count_after_marker count_alike has_attribute_like has_entry last_named reopened still_listed to_reopen with_entry without_earliest without_entry without_oldest item_met all_names breaks_out ends_scope ends_table_scope has_such is_among is_body_context is_formatting is_fostering is_implied is_implied_thoroughly is_listed is_row_context is_special kind_in kind_in_namespace kind_of may_stay_open namespace_of first_open foster_place_in has_in_scope has_open popped_to_first_in popped_until_in popped_while_in second_body without_open mode_of flushed_as_space flushed_fostered is_all_space mode_of_request reply_of value_of among attribute_lines comes_before indent shown shown_of sorted
 built_62 = refl
 
 rows_63 : List Case
@@ -3089,7 +3089,7 @@ trees_63 =
     ∷ []
 
 built_63 : map shown_of rows_63 ≡ trees_63
-unfolding rows_63 trees_63 adjusted_attributes adjusted_name adjusted_tag_name cased foreign_attributes math_attribute_names svg_attribute_names svg_tag_names added_after adopted ended_by entry_of furthest_block inner_loop nth_open opened_inside opened_outside outer_loop replaced process run start step told_all begins_with begins_with_one html_4_01_beginnings limited_quirks_beginnings means_limited_quirks means_quirks quirks_beginnings quirks_public_ids quirks_system_ids added_before built changed has_one_like lacking row_of tree_from without_node foreign_end are_among cleared count_alike has_attribute_like has_entry last_named reopened still_listed to_reopen with_entry without_earliest without_entry item_met all_names breaks_out ends_scope ends_table_scope has_such is_among is_body_context is_formatting is_fostering is_implied is_implied_thoroughly is_listed is_row_context is_special kind_in kind_in_namespace kind_of may_stay_open namespace_of first_open foster_place_in has_in_scope has_open popped_to_first_in popped_until_in popped_while_in second_body without_open mode_of flushed_as_space flushed_fostered is_all_space mode_of_request reply_of value_of among attribute_lines comes_before indent shown shown_of sorted
+unfolding rows_63 trees_63 adjusted_attributes adjusted_name adjusted_tag_name cased foreign_attributes math_attribute_names svg_attribute_names svg_tag_names added_after adopted ended_by entry_of furthest_block inner_loop nth_open opened_inside opened_outside outer_loop replaced process run start step told_all begins_with begins_with_one html_4_01_beginnings limited_quirks_beginnings means_limited_quirks means_quirks quirks_beginnings quirks_public_ids quirks_system_ids added_before built changed has_one_like lacking row_of tree_from without_node foreign_end are_among cleared count_after_marker count_alike has_attribute_like has_entry last_named reopened still_listed to_reopen with_entry without_earliest without_entry without_oldest item_met all_names breaks_out ends_scope ends_table_scope has_such is_among is_body_context is_formatting is_fostering is_implied is_implied_thoroughly is_listed is_row_context is_special kind_in kind_in_namespace kind_of may_stay_open namespace_of first_open foster_place_in has_in_scope has_open popped_to_first_in popped_until_in popped_while_in second_body without_open mode_of flushed_as_space flushed_fostered is_all_space mode_of_request reply_of value_of among attribute_lines comes_before indent shown shown_of sorted
 built_63 = refl
 
 rows_64 : List Case
@@ -3137,7 +3137,7 @@ trees_64 =
     ∷ []
 
 built_64 : map shown_of rows_64 ≡ trees_64
-unfolding rows_64 trees_64 adjusted_attributes adjusted_name adjusted_tag_name cased foreign_attributes math_attribute_names svg_attribute_names svg_tag_names added_after adopted ended_by entry_of furthest_block inner_loop nth_open opened_inside opened_outside outer_loop replaced process run start step told_all begins_with begins_with_one html_4_01_beginnings limited_quirks_beginnings means_limited_quirks means_quirks quirks_beginnings quirks_public_ids quirks_system_ids added_before built changed has_one_like lacking row_of tree_from without_node foreign_end are_among cleared count_alike has_attribute_like has_entry last_named reopened still_listed to_reopen with_entry without_earliest without_entry item_met all_names breaks_out ends_scope ends_table_scope has_such is_among is_body_context is_formatting is_fostering is_implied is_implied_thoroughly is_listed is_row_context is_special kind_in kind_in_namespace kind_of may_stay_open namespace_of first_open foster_place_in has_in_scope has_open popped_to_first_in popped_until_in popped_while_in second_body without_open mode_of flushed_as_space flushed_fostered is_all_space mode_of_request reply_of value_of among attribute_lines comes_before indent shown shown_of sorted
+unfolding rows_64 trees_64 adjusted_attributes adjusted_name adjusted_tag_name cased foreign_attributes math_attribute_names svg_attribute_names svg_tag_names added_after adopted ended_by entry_of furthest_block inner_loop nth_open opened_inside opened_outside outer_loop replaced process run start step told_all begins_with begins_with_one html_4_01_beginnings limited_quirks_beginnings means_limited_quirks means_quirks quirks_beginnings quirks_public_ids quirks_system_ids added_before built changed has_one_like lacking row_of tree_from without_node foreign_end are_among cleared count_after_marker count_alike has_attribute_like has_entry last_named reopened still_listed to_reopen with_entry without_earliest without_entry without_oldest item_met all_names breaks_out ends_scope ends_table_scope has_such is_among is_body_context is_formatting is_fostering is_implied is_implied_thoroughly is_listed is_row_context is_special kind_in kind_in_namespace kind_of may_stay_open namespace_of first_open foster_place_in has_in_scope has_open popped_to_first_in popped_until_in popped_while_in second_body without_open mode_of flushed_as_space flushed_fostered is_all_space mode_of_request reply_of value_of among attribute_lines comes_before indent shown shown_of sorted
 built_64 = refl
 
 rows_65 : List Case
@@ -3185,7 +3185,7 @@ trees_65 =
     ∷ []
 
 built_65 : map shown_of rows_65 ≡ trees_65
-unfolding rows_65 trees_65 adjusted_attributes adjusted_name adjusted_tag_name cased foreign_attributes math_attribute_names svg_attribute_names svg_tag_names added_after adopted ended_by entry_of furthest_block inner_loop nth_open opened_inside opened_outside outer_loop replaced process run start step told_all begins_with begins_with_one html_4_01_beginnings limited_quirks_beginnings means_limited_quirks means_quirks quirks_beginnings quirks_public_ids quirks_system_ids added_before built changed has_one_like lacking row_of tree_from without_node foreign_end are_among cleared count_alike has_attribute_like has_entry last_named reopened still_listed to_reopen with_entry without_earliest without_entry item_met all_names breaks_out ends_scope ends_table_scope has_such is_among is_body_context is_formatting is_fostering is_implied is_implied_thoroughly is_listed is_row_context is_special kind_in kind_in_namespace kind_of may_stay_open namespace_of first_open foster_place_in has_in_scope has_open popped_to_first_in popped_until_in popped_while_in second_body without_open mode_of flushed_as_space flushed_fostered is_all_space mode_of_request reply_of value_of among attribute_lines comes_before indent shown shown_of sorted
+unfolding rows_65 trees_65 adjusted_attributes adjusted_name adjusted_tag_name cased foreign_attributes math_attribute_names svg_attribute_names svg_tag_names added_after adopted ended_by entry_of furthest_block inner_loop nth_open opened_inside opened_outside outer_loop replaced process run start step told_all begins_with begins_with_one html_4_01_beginnings limited_quirks_beginnings means_limited_quirks means_quirks quirks_beginnings quirks_public_ids quirks_system_ids added_before built changed has_one_like lacking row_of tree_from without_node foreign_end are_among cleared count_after_marker count_alike has_attribute_like has_entry last_named reopened still_listed to_reopen with_entry without_earliest without_entry without_oldest item_met all_names breaks_out ends_scope ends_table_scope has_such is_among is_body_context is_formatting is_fostering is_implied is_implied_thoroughly is_listed is_row_context is_special kind_in kind_in_namespace kind_of may_stay_open namespace_of first_open foster_place_in has_in_scope has_open popped_to_first_in popped_until_in popped_while_in second_body without_open mode_of flushed_as_space flushed_fostered is_all_space mode_of_request reply_of value_of among attribute_lines comes_before indent shown shown_of sorted
 built_65 = refl
 
 rows_66 : List Case
@@ -3233,7 +3233,7 @@ trees_66 =
     ∷ []
 
 built_66 : map shown_of rows_66 ≡ trees_66
-unfolding rows_66 trees_66 adjusted_attributes adjusted_name adjusted_tag_name cased foreign_attributes math_attribute_names svg_attribute_names svg_tag_names added_after adopted ended_by entry_of furthest_block inner_loop nth_open opened_inside opened_outside outer_loop replaced process run start step told_all begins_with begins_with_one html_4_01_beginnings limited_quirks_beginnings means_limited_quirks means_quirks quirks_beginnings quirks_public_ids quirks_system_ids added_before built changed has_one_like lacking row_of tree_from without_node foreign_end are_among cleared count_alike has_attribute_like has_entry last_named reopened still_listed to_reopen with_entry without_earliest without_entry item_met all_names breaks_out ends_scope ends_table_scope has_such is_among is_body_context is_formatting is_fostering is_implied is_implied_thoroughly is_listed is_row_context is_special kind_in kind_in_namespace kind_of may_stay_open namespace_of first_open foster_place_in has_in_scope has_open popped_to_first_in popped_until_in popped_while_in second_body without_open mode_of flushed_as_space flushed_fostered is_all_space mode_of_request reply_of value_of among attribute_lines comes_before indent shown shown_of sorted
+unfolding rows_66 trees_66 adjusted_attributes adjusted_name adjusted_tag_name cased foreign_attributes math_attribute_names svg_attribute_names svg_tag_names added_after adopted ended_by entry_of furthest_block inner_loop nth_open opened_inside opened_outside outer_loop replaced process run start step told_all begins_with begins_with_one html_4_01_beginnings limited_quirks_beginnings means_limited_quirks means_quirks quirks_beginnings quirks_public_ids quirks_system_ids added_before built changed has_one_like lacking row_of tree_from without_node foreign_end are_among cleared count_after_marker count_alike has_attribute_like has_entry last_named reopened still_listed to_reopen with_entry without_earliest without_entry without_oldest item_met all_names breaks_out ends_scope ends_table_scope has_such is_among is_body_context is_formatting is_fostering is_implied is_implied_thoroughly is_listed is_row_context is_special kind_in kind_in_namespace kind_of may_stay_open namespace_of first_open foster_place_in has_in_scope has_open popped_to_first_in popped_until_in popped_while_in second_body without_open mode_of flushed_as_space flushed_fostered is_all_space mode_of_request reply_of value_of among attribute_lines comes_before indent shown shown_of sorted
 built_66 = refl
 
 rows_67 : List Case
@@ -3281,7 +3281,7 @@ trees_67 =
     ∷ []
 
 built_67 : map shown_of rows_67 ≡ trees_67
-unfolding rows_67 trees_67 adjusted_attributes adjusted_name adjusted_tag_name cased foreign_attributes math_attribute_names svg_attribute_names svg_tag_names added_after adopted ended_by entry_of furthest_block inner_loop nth_open opened_inside opened_outside outer_loop replaced process run start step told_all begins_with begins_with_one html_4_01_beginnings limited_quirks_beginnings means_limited_quirks means_quirks quirks_beginnings quirks_public_ids quirks_system_ids added_before built changed has_one_like lacking row_of tree_from without_node foreign_end are_among cleared count_alike has_attribute_like has_entry last_named reopened still_listed to_reopen with_entry without_earliest without_entry item_met all_names breaks_out ends_scope ends_table_scope has_such is_among is_body_context is_formatting is_fostering is_implied is_implied_thoroughly is_listed is_row_context is_special kind_in kind_in_namespace kind_of may_stay_open namespace_of first_open foster_place_in has_in_scope has_open popped_to_first_in popped_until_in popped_while_in second_body without_open mode_of flushed_as_space flushed_fostered is_all_space mode_of_request reply_of value_of among attribute_lines comes_before indent shown shown_of sorted
+unfolding rows_67 trees_67 adjusted_attributes adjusted_name adjusted_tag_name cased foreign_attributes math_attribute_names svg_attribute_names svg_tag_names added_after adopted ended_by entry_of furthest_block inner_loop nth_open opened_inside opened_outside outer_loop replaced process run start step told_all begins_with begins_with_one html_4_01_beginnings limited_quirks_beginnings means_limited_quirks means_quirks quirks_beginnings quirks_public_ids quirks_system_ids added_before built changed has_one_like lacking row_of tree_from without_node foreign_end are_among cleared count_after_marker count_alike has_attribute_like has_entry last_named reopened still_listed to_reopen with_entry without_earliest without_entry without_oldest item_met all_names breaks_out ends_scope ends_table_scope has_such is_among is_body_context is_formatting is_fostering is_implied is_implied_thoroughly is_listed is_row_context is_special kind_in kind_in_namespace kind_of may_stay_open namespace_of first_open foster_place_in has_in_scope has_open popped_to_first_in popped_until_in popped_while_in second_body without_open mode_of flushed_as_space flushed_fostered is_all_space mode_of_request reply_of value_of among attribute_lines comes_before indent shown shown_of sorted
 built_67 = refl
 
 rows_68 : List Case
@@ -3329,7 +3329,7 @@ trees_68 =
     ∷ []
 
 built_68 : map shown_of rows_68 ≡ trees_68
-unfolding rows_68 trees_68 adjusted_attributes adjusted_name adjusted_tag_name cased foreign_attributes math_attribute_names svg_attribute_names svg_tag_names added_after adopted ended_by entry_of furthest_block inner_loop nth_open opened_inside opened_outside outer_loop replaced process run start step told_all begins_with begins_with_one html_4_01_beginnings limited_quirks_beginnings means_limited_quirks means_quirks quirks_beginnings quirks_public_ids quirks_system_ids added_before built changed has_one_like lacking row_of tree_from without_node foreign_end are_among cleared count_alike has_attribute_like has_entry last_named reopened still_listed to_reopen with_entry without_earliest without_entry item_met all_names breaks_out ends_scope ends_table_scope has_such is_among is_body_context is_formatting is_fostering is_implied is_implied_thoroughly is_listed is_row_context is_special kind_in kind_in_namespace kind_of may_stay_open namespace_of first_open foster_place_in has_in_scope has_open popped_to_first_in popped_until_in popped_while_in second_body without_open mode_of flushed_as_space flushed_fostered is_all_space mode_of_request reply_of value_of among attribute_lines comes_before indent shown shown_of sorted
+unfolding rows_68 trees_68 adjusted_attributes adjusted_name adjusted_tag_name cased foreign_attributes math_attribute_names svg_attribute_names svg_tag_names added_after adopted ended_by entry_of furthest_block inner_loop nth_open opened_inside opened_outside outer_loop replaced process run start step told_all begins_with begins_with_one html_4_01_beginnings limited_quirks_beginnings means_limited_quirks means_quirks quirks_beginnings quirks_public_ids quirks_system_ids added_before built changed has_one_like lacking row_of tree_from without_node foreign_end are_among cleared count_after_marker count_alike has_attribute_like has_entry last_named reopened still_listed to_reopen with_entry without_earliest without_entry without_oldest item_met all_names breaks_out ends_scope ends_table_scope has_such is_among is_body_context is_formatting is_fostering is_implied is_implied_thoroughly is_listed is_row_context is_special kind_in kind_in_namespace kind_of may_stay_open namespace_of first_open foster_place_in has_in_scope has_open popped_to_first_in popped_until_in popped_while_in second_body without_open mode_of flushed_as_space flushed_fostered is_all_space mode_of_request reply_of value_of among attribute_lines comes_before indent shown shown_of sorted
 built_68 = refl
 
 rows_69 : List Case
@@ -3377,7 +3377,7 @@ trees_69 =
     ∷ []
 
 built_69 : map shown_of rows_69 ≡ trees_69
-unfolding rows_69 trees_69 adjusted_attributes adjusted_name adjusted_tag_name cased foreign_attributes math_attribute_names svg_attribute_names svg_tag_names added_after adopted ended_by entry_of furthest_block inner_loop nth_open opened_inside opened_outside outer_loop replaced process run start step told_all begins_with begins_with_one html_4_01_beginnings limited_quirks_beginnings means_limited_quirks means_quirks quirks_beginnings quirks_public_ids quirks_system_ids added_before built changed has_one_like lacking row_of tree_from without_node foreign_end are_among cleared count_alike has_attribute_like has_entry last_named reopened still_listed to_reopen with_entry without_earliest without_entry item_met all_names breaks_out ends_scope ends_table_scope has_such is_among is_body_context is_formatting is_fostering is_implied is_implied_thoroughly is_listed is_row_context is_special kind_in kind_in_namespace kind_of may_stay_open namespace_of first_open foster_place_in has_in_scope has_open popped_to_first_in popped_until_in popped_while_in second_body without_open mode_of flushed_as_space flushed_fostered is_all_space mode_of_request reply_of value_of among attribute_lines comes_before indent shown shown_of sorted
+unfolding rows_69 trees_69 adjusted_attributes adjusted_name adjusted_tag_name cased foreign_attributes math_attribute_names svg_attribute_names svg_tag_names added_after adopted ended_by entry_of furthest_block inner_loop nth_open opened_inside opened_outside outer_loop replaced process run start step told_all begins_with begins_with_one html_4_01_beginnings limited_quirks_beginnings means_limited_quirks means_quirks quirks_beginnings quirks_public_ids quirks_system_ids added_before built changed has_one_like lacking row_of tree_from without_node foreign_end are_among cleared count_after_marker count_alike has_attribute_like has_entry last_named reopened still_listed to_reopen with_entry without_earliest without_entry without_oldest item_met all_names breaks_out ends_scope ends_table_scope has_such is_among is_body_context is_formatting is_fostering is_implied is_implied_thoroughly is_listed is_row_context is_special kind_in kind_in_namespace kind_of may_stay_open namespace_of first_open foster_place_in has_in_scope has_open popped_to_first_in popped_until_in popped_while_in second_body without_open mode_of flushed_as_space flushed_fostered is_all_space mode_of_request reply_of value_of among attribute_lines comes_before indent shown shown_of sorted
 built_69 = refl
 
 rows_70 : List Case
@@ -3425,7 +3425,7 @@ trees_70 =
     ∷ []
 
 built_70 : map shown_of rows_70 ≡ trees_70
-unfolding rows_70 trees_70 adjusted_attributes adjusted_name adjusted_tag_name cased foreign_attributes math_attribute_names svg_attribute_names svg_tag_names added_after adopted ended_by entry_of furthest_block inner_loop nth_open opened_inside opened_outside outer_loop replaced process run start step told_all begins_with begins_with_one html_4_01_beginnings limited_quirks_beginnings means_limited_quirks means_quirks quirks_beginnings quirks_public_ids quirks_system_ids added_before built changed has_one_like lacking row_of tree_from without_node foreign_end are_among cleared count_alike has_attribute_like has_entry last_named reopened still_listed to_reopen with_entry without_earliest without_entry item_met all_names breaks_out ends_scope ends_table_scope has_such is_among is_body_context is_formatting is_fostering is_implied is_implied_thoroughly is_listed is_row_context is_special kind_in kind_in_namespace kind_of may_stay_open namespace_of first_open foster_place_in has_in_scope has_open popped_to_first_in popped_until_in popped_while_in second_body without_open mode_of flushed_as_space flushed_fostered is_all_space mode_of_request reply_of value_of among attribute_lines comes_before indent shown shown_of sorted
+unfolding rows_70 trees_70 adjusted_attributes adjusted_name adjusted_tag_name cased foreign_attributes math_attribute_names svg_attribute_names svg_tag_names added_after adopted ended_by entry_of furthest_block inner_loop nth_open opened_inside opened_outside outer_loop replaced process run start step told_all begins_with begins_with_one html_4_01_beginnings limited_quirks_beginnings means_limited_quirks means_quirks quirks_beginnings quirks_public_ids quirks_system_ids added_before built changed has_one_like lacking row_of tree_from without_node foreign_end are_among cleared count_after_marker count_alike has_attribute_like has_entry last_named reopened still_listed to_reopen with_entry without_earliest without_entry without_oldest item_met all_names breaks_out ends_scope ends_table_scope has_such is_among is_body_context is_formatting is_fostering is_implied is_implied_thoroughly is_listed is_row_context is_special kind_in kind_in_namespace kind_of may_stay_open namespace_of first_open foster_place_in has_in_scope has_open popped_to_first_in popped_until_in popped_while_in second_body without_open mode_of flushed_as_space flushed_fostered is_all_space mode_of_request reply_of value_of among attribute_lines comes_before indent shown shown_of sorted
 built_70 = refl
 
 rows_71 : List Case
@@ -3473,7 +3473,7 @@ trees_71 =
     ∷ []
 
 built_71 : map shown_of rows_71 ≡ trees_71
-unfolding rows_71 trees_71 adjusted_attributes adjusted_name adjusted_tag_name cased foreign_attributes math_attribute_names svg_attribute_names svg_tag_names added_after adopted ended_by entry_of furthest_block inner_loop nth_open opened_inside opened_outside outer_loop replaced process run start step told_all begins_with begins_with_one html_4_01_beginnings limited_quirks_beginnings means_limited_quirks means_quirks quirks_beginnings quirks_public_ids quirks_system_ids added_before built changed has_one_like lacking row_of tree_from without_node foreign_end are_among cleared count_alike has_attribute_like has_entry last_named reopened still_listed to_reopen with_entry without_earliest without_entry item_met all_names breaks_out ends_scope ends_table_scope has_such is_among is_body_context is_formatting is_fostering is_implied is_implied_thoroughly is_listed is_row_context is_special kind_in kind_in_namespace kind_of may_stay_open namespace_of first_open foster_place_in has_in_scope has_open popped_to_first_in popped_until_in popped_while_in second_body without_open mode_of flushed_as_space flushed_fostered is_all_space mode_of_request reply_of value_of among attribute_lines comes_before indent shown shown_of sorted
+unfolding rows_71 trees_71 adjusted_attributes adjusted_name adjusted_tag_name cased foreign_attributes math_attribute_names svg_attribute_names svg_tag_names added_after adopted ended_by entry_of furthest_block inner_loop nth_open opened_inside opened_outside outer_loop replaced process run start step told_all begins_with begins_with_one html_4_01_beginnings limited_quirks_beginnings means_limited_quirks means_quirks quirks_beginnings quirks_public_ids quirks_system_ids added_before built changed has_one_like lacking row_of tree_from without_node foreign_end are_among cleared count_after_marker count_alike has_attribute_like has_entry last_named reopened still_listed to_reopen with_entry without_earliest without_entry without_oldest item_met all_names breaks_out ends_scope ends_table_scope has_such is_among is_body_context is_formatting is_fostering is_implied is_implied_thoroughly is_listed is_row_context is_special kind_in kind_in_namespace kind_of may_stay_open namespace_of first_open foster_place_in has_in_scope has_open popped_to_first_in popped_until_in popped_while_in second_body without_open mode_of flushed_as_space flushed_fostered is_all_space mode_of_request reply_of value_of among attribute_lines comes_before indent shown shown_of sorted
 built_71 = refl
 
 rows_72 : List Case
@@ -3521,7 +3521,7 @@ trees_72 =
     ∷ []
 
 built_72 : map shown_of rows_72 ≡ trees_72
-unfolding rows_72 trees_72 adjusted_attributes adjusted_name adjusted_tag_name cased foreign_attributes math_attribute_names svg_attribute_names svg_tag_names added_after adopted ended_by entry_of furthest_block inner_loop nth_open opened_inside opened_outside outer_loop replaced process run start step told_all begins_with begins_with_one html_4_01_beginnings limited_quirks_beginnings means_limited_quirks means_quirks quirks_beginnings quirks_public_ids quirks_system_ids added_before built changed has_one_like lacking row_of tree_from without_node foreign_end are_among cleared count_alike has_attribute_like has_entry last_named reopened still_listed to_reopen with_entry without_earliest without_entry item_met all_names breaks_out ends_scope ends_table_scope has_such is_among is_body_context is_formatting is_fostering is_implied is_implied_thoroughly is_listed is_row_context is_special kind_in kind_in_namespace kind_of may_stay_open namespace_of first_open foster_place_in has_in_scope has_open popped_to_first_in popped_until_in popped_while_in second_body without_open mode_of flushed_as_space flushed_fostered is_all_space mode_of_request reply_of value_of among attribute_lines comes_before indent shown shown_of sorted
+unfolding rows_72 trees_72 adjusted_attributes adjusted_name adjusted_tag_name cased foreign_attributes math_attribute_names svg_attribute_names svg_tag_names added_after adopted ended_by entry_of furthest_block inner_loop nth_open opened_inside opened_outside outer_loop replaced process run start step told_all begins_with begins_with_one html_4_01_beginnings limited_quirks_beginnings means_limited_quirks means_quirks quirks_beginnings quirks_public_ids quirks_system_ids added_before built changed has_one_like lacking row_of tree_from without_node foreign_end are_among cleared count_after_marker count_alike has_attribute_like has_entry last_named reopened still_listed to_reopen with_entry without_earliest without_entry without_oldest item_met all_names breaks_out ends_scope ends_table_scope has_such is_among is_body_context is_formatting is_fostering is_implied is_implied_thoroughly is_listed is_row_context is_special kind_in kind_in_namespace kind_of may_stay_open namespace_of first_open foster_place_in has_in_scope has_open popped_to_first_in popped_until_in popped_while_in second_body without_open mode_of flushed_as_space flushed_fostered is_all_space mode_of_request reply_of value_of among attribute_lines comes_before indent shown shown_of sorted
 built_72 = refl
 
 rows_73 : List Case
@@ -3569,7 +3569,7 @@ trees_73 =
     ∷ []
 
 built_73 : map shown_of rows_73 ≡ trees_73
-unfolding rows_73 trees_73 adjusted_attributes adjusted_name adjusted_tag_name cased foreign_attributes math_attribute_names svg_attribute_names svg_tag_names added_after adopted ended_by entry_of furthest_block inner_loop nth_open opened_inside opened_outside outer_loop replaced process run start step told_all begins_with begins_with_one html_4_01_beginnings limited_quirks_beginnings means_limited_quirks means_quirks quirks_beginnings quirks_public_ids quirks_system_ids added_before built changed has_one_like lacking row_of tree_from without_node foreign_end are_among cleared count_alike has_attribute_like has_entry last_named reopened still_listed to_reopen with_entry without_earliest without_entry item_met all_names breaks_out ends_scope ends_table_scope has_such is_among is_body_context is_formatting is_fostering is_implied is_implied_thoroughly is_listed is_row_context is_special kind_in kind_in_namespace kind_of may_stay_open namespace_of first_open foster_place_in has_in_scope has_open popped_to_first_in popped_until_in popped_while_in second_body without_open mode_of flushed_as_space flushed_fostered is_all_space mode_of_request reply_of value_of among attribute_lines comes_before indent shown shown_of sorted
+unfolding rows_73 trees_73 adjusted_attributes adjusted_name adjusted_tag_name cased foreign_attributes math_attribute_names svg_attribute_names svg_tag_names added_after adopted ended_by entry_of furthest_block inner_loop nth_open opened_inside opened_outside outer_loop replaced process run start step told_all begins_with begins_with_one html_4_01_beginnings limited_quirks_beginnings means_limited_quirks means_quirks quirks_beginnings quirks_public_ids quirks_system_ids added_before built changed has_one_like lacking row_of tree_from without_node foreign_end are_among cleared count_after_marker count_alike has_attribute_like has_entry last_named reopened still_listed to_reopen with_entry without_earliest without_entry without_oldest item_met all_names breaks_out ends_scope ends_table_scope has_such is_among is_body_context is_formatting is_fostering is_implied is_implied_thoroughly is_listed is_row_context is_special kind_in kind_in_namespace kind_of may_stay_open namespace_of first_open foster_place_in has_in_scope has_open popped_to_first_in popped_until_in popped_while_in second_body without_open mode_of flushed_as_space flushed_fostered is_all_space mode_of_request reply_of value_of among attribute_lines comes_before indent shown shown_of sorted
 built_73 = refl
 
 rows_74 : List Case
@@ -3617,7 +3617,7 @@ trees_74 =
     ∷ []
 
 built_74 : map shown_of rows_74 ≡ trees_74
-unfolding rows_74 trees_74 adjusted_attributes adjusted_name adjusted_tag_name cased foreign_attributes math_attribute_names svg_attribute_names svg_tag_names added_after adopted ended_by entry_of furthest_block inner_loop nth_open opened_inside opened_outside outer_loop replaced process run start step told_all begins_with begins_with_one html_4_01_beginnings limited_quirks_beginnings means_limited_quirks means_quirks quirks_beginnings quirks_public_ids quirks_system_ids added_before built changed has_one_like lacking row_of tree_from without_node foreign_end are_among cleared count_alike has_attribute_like has_entry last_named reopened still_listed to_reopen with_entry without_earliest without_entry item_met all_names breaks_out ends_scope ends_table_scope has_such is_among is_body_context is_formatting is_fostering is_implied is_implied_thoroughly is_listed is_row_context is_special kind_in kind_in_namespace kind_of may_stay_open namespace_of first_open foster_place_in has_in_scope has_open popped_to_first_in popped_until_in popped_while_in second_body without_open mode_of flushed_as_space flushed_fostered is_all_space mode_of_request reply_of value_of among attribute_lines comes_before indent shown shown_of sorted
+unfolding rows_74 trees_74 adjusted_attributes adjusted_name adjusted_tag_name cased foreign_attributes math_attribute_names svg_attribute_names svg_tag_names added_after adopted ended_by entry_of furthest_block inner_loop nth_open opened_inside opened_outside outer_loop replaced process run start step told_all begins_with begins_with_one html_4_01_beginnings limited_quirks_beginnings means_limited_quirks means_quirks quirks_beginnings quirks_public_ids quirks_system_ids added_before built changed has_one_like lacking row_of tree_from without_node foreign_end are_among cleared count_after_marker count_alike has_attribute_like has_entry last_named reopened still_listed to_reopen with_entry without_earliest without_entry without_oldest item_met all_names breaks_out ends_scope ends_table_scope has_such is_among is_body_context is_formatting is_fostering is_implied is_implied_thoroughly is_listed is_row_context is_special kind_in kind_in_namespace kind_of may_stay_open namespace_of first_open foster_place_in has_in_scope has_open popped_to_first_in popped_until_in popped_while_in second_body without_open mode_of flushed_as_space flushed_fostered is_all_space mode_of_request reply_of value_of among attribute_lines comes_before indent shown shown_of sorted
 built_74 = refl
 
 rows_75 : List Case
@@ -3665,7 +3665,7 @@ trees_75 =
     ∷ []
 
 built_75 : map shown_of rows_75 ≡ trees_75
-unfolding rows_75 trees_75 adjusted_attributes adjusted_name adjusted_tag_name cased foreign_attributes math_attribute_names svg_attribute_names svg_tag_names added_after adopted ended_by entry_of furthest_block inner_loop nth_open opened_inside opened_outside outer_loop replaced process run start step told_all begins_with begins_with_one html_4_01_beginnings limited_quirks_beginnings means_limited_quirks means_quirks quirks_beginnings quirks_public_ids quirks_system_ids added_before built changed has_one_like lacking row_of tree_from without_node foreign_end are_among cleared count_alike has_attribute_like has_entry last_named reopened still_listed to_reopen with_entry without_earliest without_entry item_met all_names breaks_out ends_scope ends_table_scope has_such is_among is_body_context is_formatting is_fostering is_implied is_implied_thoroughly is_listed is_row_context is_special kind_in kind_in_namespace kind_of may_stay_open namespace_of first_open foster_place_in has_in_scope has_open popped_to_first_in popped_until_in popped_while_in second_body without_open mode_of flushed_as_space flushed_fostered is_all_space mode_of_request reply_of value_of among attribute_lines comes_before indent shown shown_of sorted
+unfolding rows_75 trees_75 adjusted_attributes adjusted_name adjusted_tag_name cased foreign_attributes math_attribute_names svg_attribute_names svg_tag_names added_after adopted ended_by entry_of furthest_block inner_loop nth_open opened_inside opened_outside outer_loop replaced process run start step told_all begins_with begins_with_one html_4_01_beginnings limited_quirks_beginnings means_limited_quirks means_quirks quirks_beginnings quirks_public_ids quirks_system_ids added_before built changed has_one_like lacking row_of tree_from without_node foreign_end are_among cleared count_after_marker count_alike has_attribute_like has_entry last_named reopened still_listed to_reopen with_entry without_earliest without_entry without_oldest item_met all_names breaks_out ends_scope ends_table_scope has_such is_among is_body_context is_formatting is_fostering is_implied is_implied_thoroughly is_listed is_row_context is_special kind_in kind_in_namespace kind_of may_stay_open namespace_of first_open foster_place_in has_in_scope has_open popped_to_first_in popped_until_in popped_while_in second_body without_open mode_of flushed_as_space flushed_fostered is_all_space mode_of_request reply_of value_of among attribute_lines comes_before indent shown shown_of sorted
 built_75 = refl
 
 rows_76 : List Case
@@ -3713,7 +3713,7 @@ trees_76 =
     ∷ []
 
 built_76 : map shown_of rows_76 ≡ trees_76
-unfolding rows_76 trees_76 adjusted_attributes adjusted_name adjusted_tag_name cased foreign_attributes math_attribute_names svg_attribute_names svg_tag_names added_after adopted ended_by entry_of furthest_block inner_loop nth_open opened_inside opened_outside outer_loop replaced process run start step told_all begins_with begins_with_one html_4_01_beginnings limited_quirks_beginnings means_limited_quirks means_quirks quirks_beginnings quirks_public_ids quirks_system_ids added_before built changed has_one_like lacking row_of tree_from without_node foreign_end are_among cleared count_alike has_attribute_like has_entry last_named reopened still_listed to_reopen with_entry without_earliest without_entry item_met all_names breaks_out ends_scope ends_table_scope has_such is_among is_body_context is_formatting is_fostering is_implied is_implied_thoroughly is_listed is_row_context is_special kind_in kind_in_namespace kind_of may_stay_open namespace_of first_open foster_place_in has_in_scope has_open popped_to_first_in popped_until_in popped_while_in second_body without_open mode_of flushed_as_space flushed_fostered is_all_space mode_of_request reply_of value_of among attribute_lines comes_before indent shown shown_of sorted
+unfolding rows_76 trees_76 adjusted_attributes adjusted_name adjusted_tag_name cased foreign_attributes math_attribute_names svg_attribute_names svg_tag_names added_after adopted ended_by entry_of furthest_block inner_loop nth_open opened_inside opened_outside outer_loop replaced process run start step told_all begins_with begins_with_one html_4_01_beginnings limited_quirks_beginnings means_limited_quirks means_quirks quirks_beginnings quirks_public_ids quirks_system_ids added_before built changed has_one_like lacking row_of tree_from without_node foreign_end are_among cleared count_after_marker count_alike has_attribute_like has_entry last_named reopened still_listed to_reopen with_entry without_earliest without_entry without_oldest item_met all_names breaks_out ends_scope ends_table_scope has_such is_among is_body_context is_formatting is_fostering is_implied is_implied_thoroughly is_listed is_row_context is_special kind_in kind_in_namespace kind_of may_stay_open namespace_of first_open foster_place_in has_in_scope has_open popped_to_first_in popped_until_in popped_while_in second_body without_open mode_of flushed_as_space flushed_fostered is_all_space mode_of_request reply_of value_of among attribute_lines comes_before indent shown shown_of sorted
 built_76 = refl
 
 rows_77 : List Case
@@ -3761,7 +3761,7 @@ trees_77 =
     ∷ []
 
 built_77 : map shown_of rows_77 ≡ trees_77
-unfolding rows_77 trees_77 adjusted_attributes adjusted_name adjusted_tag_name cased foreign_attributes math_attribute_names svg_attribute_names svg_tag_names added_after adopted ended_by entry_of furthest_block inner_loop nth_open opened_inside opened_outside outer_loop replaced process run start step told_all begins_with begins_with_one html_4_01_beginnings limited_quirks_beginnings means_limited_quirks means_quirks quirks_beginnings quirks_public_ids quirks_system_ids added_before built changed has_one_like lacking row_of tree_from without_node foreign_end are_among cleared count_alike has_attribute_like has_entry last_named reopened still_listed to_reopen with_entry without_earliest without_entry item_met all_names breaks_out ends_scope ends_table_scope has_such is_among is_body_context is_formatting is_fostering is_implied is_implied_thoroughly is_listed is_row_context is_special kind_in kind_in_namespace kind_of may_stay_open namespace_of first_open foster_place_in has_in_scope has_open popped_to_first_in popped_until_in popped_while_in second_body without_open mode_of flushed_as_space flushed_fostered is_all_space mode_of_request reply_of value_of among attribute_lines comes_before indent shown shown_of sorted
+unfolding rows_77 trees_77 adjusted_attributes adjusted_name adjusted_tag_name cased foreign_attributes math_attribute_names svg_attribute_names svg_tag_names added_after adopted ended_by entry_of furthest_block inner_loop nth_open opened_inside opened_outside outer_loop replaced process run start step told_all begins_with begins_with_one html_4_01_beginnings limited_quirks_beginnings means_limited_quirks means_quirks quirks_beginnings quirks_public_ids quirks_system_ids added_before built changed has_one_like lacking row_of tree_from without_node foreign_end are_among cleared count_after_marker count_alike has_attribute_like has_entry last_named reopened still_listed to_reopen with_entry without_earliest without_entry without_oldest item_met all_names breaks_out ends_scope ends_table_scope has_such is_among is_body_context is_formatting is_fostering is_implied is_implied_thoroughly is_listed is_row_context is_special kind_in kind_in_namespace kind_of may_stay_open namespace_of first_open foster_place_in has_in_scope has_open popped_to_first_in popped_until_in popped_while_in second_body without_open mode_of flushed_as_space flushed_fostered is_all_space mode_of_request reply_of value_of among attribute_lines comes_before indent shown shown_of sorted
 built_77 = refl
 
 rows_78 : List Case
@@ -3809,7 +3809,7 @@ trees_78 =
     ∷ []
 
 built_78 : map shown_of rows_78 ≡ trees_78
-unfolding rows_78 trees_78 adjusted_attributes adjusted_name adjusted_tag_name cased foreign_attributes math_attribute_names svg_attribute_names svg_tag_names added_after adopted ended_by entry_of furthest_block inner_loop nth_open opened_inside opened_outside outer_loop replaced process run start step told_all begins_with begins_with_one html_4_01_beginnings limited_quirks_beginnings means_limited_quirks means_quirks quirks_beginnings quirks_public_ids quirks_system_ids added_before built changed has_one_like lacking row_of tree_from without_node foreign_end are_among cleared count_alike has_attribute_like has_entry last_named reopened still_listed to_reopen with_entry without_earliest without_entry item_met all_names breaks_out ends_scope ends_table_scope has_such is_among is_body_context is_formatting is_fostering is_implied is_implied_thoroughly is_listed is_row_context is_special kind_in kind_in_namespace kind_of may_stay_open namespace_of first_open foster_place_in has_in_scope has_open popped_to_first_in popped_until_in popped_while_in second_body without_open mode_of flushed_as_space flushed_fostered is_all_space mode_of_request reply_of value_of among attribute_lines comes_before indent shown shown_of sorted
+unfolding rows_78 trees_78 adjusted_attributes adjusted_name adjusted_tag_name cased foreign_attributes math_attribute_names svg_attribute_names svg_tag_names added_after adopted ended_by entry_of furthest_block inner_loop nth_open opened_inside opened_outside outer_loop replaced process run start step told_all begins_with begins_with_one html_4_01_beginnings limited_quirks_beginnings means_limited_quirks means_quirks quirks_beginnings quirks_public_ids quirks_system_ids added_before built changed has_one_like lacking row_of tree_from without_node foreign_end are_among cleared count_after_marker count_alike has_attribute_like has_entry last_named reopened still_listed to_reopen with_entry without_earliest without_entry without_oldest item_met all_names breaks_out ends_scope ends_table_scope has_such is_among is_body_context is_formatting is_fostering is_implied is_implied_thoroughly is_listed is_row_context is_special kind_in kind_in_namespace kind_of may_stay_open namespace_of first_open foster_place_in has_in_scope has_open popped_to_first_in popped_until_in popped_while_in second_body without_open mode_of flushed_as_space flushed_fostered is_all_space mode_of_request reply_of value_of among attribute_lines comes_before indent shown shown_of sorted
 built_78 = refl
 
 rows_79 : List Case
@@ -3820,6 +3820,14 @@ rows_79 =
     ∷ (document false (start_tag (codes "table") [] ∷ start_tag (codes "input") (attribute (codes "type") (codes "Hidden") ∷ []) ∷ start_tag (codes "tr") [] ∷ start_tag (codes "input") (attribute (codes "type") (codes "text") ∷ []) ∷ End ∷ []))
     -- a second form is ignored: "<form id=a><p><form id=b>x</form>y"
     ∷ (document false (start_tag (codes "form") (attribute (codes "id") (codes "a") ∷ []) ∷ start_tag (codes "p") [] ∷ start_tag (codes "form") (attribute (codes "id") (codes "b") ∷ []) ∷ Text (codes "x") ∷ end_tag (codes "form") ∷ Text (codes "y") ∷ Text [] ∷ End ∷ []))
+    -- a limit of the depth: "<div><p>x<b>y<i>z</i></b></div>w"
+    ∷ (limited (Some 4) None (start_tag (codes "div") [] ∷ start_tag (codes "p") [] ∷ Text (codes "x") ∷ start_tag (codes "b") [] ∷ Text (codes "y") ∷ start_tag (codes "i") [] ∷ Text (codes "z") ∷ end_tag (codes "i") ∷ end_tag (codes "b") ∷ end_tag (codes "div") ∷ Text (codes "w") ∷ Text [] ∷ End ∷ []))
+    -- a limit of the depth, with void elements and comments: "<div><div><div>x<br><!--c--><hr><p>y"
+    ∷ (limited (Some 4) None (start_tag (codes "div") [] ∷ start_tag (codes "div") [] ∷ start_tag (codes "div") [] ∷ Text (codes "x") ∷ start_tag (codes "br") [] ∷ Comment (codes "c") ∷ start_tag (codes "hr") [] ∷ start_tag (codes "p") [] ∷ Text (codes "y") ∷ Text [] ∷ End ∷ []))
+    -- a limit of formatting elements: "<p><b><i><u>x<p>y"
+    ∷ (limited None (Some 2) (start_tag (codes "p") [] ∷ start_tag (codes "b") [] ∷ start_tag (codes "i") [] ∷ start_tag (codes "u") [] ∷ Text (codes "x") ∷ start_tag (codes "p") [] ∷ Text (codes "y") ∷ Text [] ∷ End ∷ []))
+    -- a limit of formatting elements counts from the last marker: "<p><b><object><i><u>x</object><p>y"
+    ∷ (limited None (Some 2) (start_tag (codes "p") [] ∷ start_tag (codes "b") [] ∷ start_tag (codes "object") [] ∷ start_tag (codes "i") [] ∷ start_tag (codes "u") [] ∷ Text (codes "x") ∷ end_tag (codes "object") ∷ start_tag (codes "p") [] ∷ Text (codes "y") ∷ Text [] ∷ End ∷ []))
     ∷ []
 
 trees_79 : List (List ℕ)
@@ -3827,8 +3835,12 @@ trees_79 =
     (codes "| <html>\n|   <head>\n|     <template>\n|       content\n|         <template>\n|           content\n|         <td>\n|           \"x\"\n|   <body>\n")
     ∷ (codes "| <html>\n|   <head>\n|   <body>\n|     <input>\n|       type=\"text\"\n|     <table>\n|       <input>\n|         type=\"Hidden\"\n|       <tbody>\n|         <tr>\n")
     ∷ (codes "| <html>\n|   <head>\n|   <body>\n|     <form>\n|       id=\"a\"\n|       <p>\n|         \"x\"\n|     \"y\"\n")
+    ∷ (codes "| <html>\n|   <head>\n|   <body>\n|     <div>\n|       <p>\n|         \"x\"\n|         <b>\n|           \"y\"\n|         <i>\n|           \"z\"\n|     \"w\"\n")
+    ∷ (codes "| <html>\n|   <head>\n|   <body>\n|     <div>\n|       <div>\n|         <div>\n|           \"x\"\n|           <br>\n|           <!-- c -->\n|           <hr>\n|         <p>\n|           \"y\"\n")
+    ∷ (codes "| <html>\n|   <head>\n|   <body>\n|     <p>\n|       <b>\n|         <i>\n|           <u>\n|             \"x\"\n|     <p>\n|       <i>\n|         <u>\n|           \"y\"\n")
+    ∷ (codes "| <html>\n|   <head>\n|   <body>\n|     <p>\n|       <b>\n|         <object>\n|           <i>\n|             <u>\n|               \"x\"\n|     <p>\n|       <b>\n|         \"y\"\n")
     ∷ []
 
 built_79 : map shown_of rows_79 ≡ trees_79
-unfolding rows_79 trees_79 adjusted_attributes adjusted_name adjusted_tag_name cased foreign_attributes math_attribute_names svg_attribute_names svg_tag_names added_after adopted ended_by entry_of furthest_block inner_loop nth_open opened_inside opened_outside outer_loop replaced process run start step told_all begins_with begins_with_one html_4_01_beginnings limited_quirks_beginnings means_limited_quirks means_quirks quirks_beginnings quirks_public_ids quirks_system_ids added_before built changed has_one_like lacking row_of tree_from without_node foreign_end are_among cleared count_alike has_attribute_like has_entry last_named reopened still_listed to_reopen with_entry without_earliest without_entry item_met all_names breaks_out ends_scope ends_table_scope has_such is_among is_body_context is_formatting is_fostering is_implied is_implied_thoroughly is_listed is_row_context is_special kind_in kind_in_namespace kind_of may_stay_open namespace_of first_open foster_place_in has_in_scope has_open popped_to_first_in popped_until_in popped_while_in second_body without_open mode_of flushed_as_space flushed_fostered is_all_space mode_of_request reply_of value_of among attribute_lines comes_before indent shown shown_of sorted
+unfolding rows_79 trees_79 adjusted_attributes adjusted_name adjusted_tag_name cased foreign_attributes math_attribute_names svg_attribute_names svg_tag_names added_after adopted ended_by entry_of furthest_block inner_loop nth_open opened_inside opened_outside outer_loop replaced process run start step told_all begins_with begins_with_one html_4_01_beginnings limited_quirks_beginnings means_limited_quirks means_quirks quirks_beginnings quirks_public_ids quirks_system_ids added_before built changed has_one_like lacking row_of tree_from without_node foreign_end are_among cleared count_after_marker count_alike has_attribute_like has_entry last_named reopened still_listed to_reopen with_entry without_earliest without_entry without_oldest item_met all_names breaks_out ends_scope ends_table_scope has_such is_among is_body_context is_formatting is_fostering is_implied is_implied_thoroughly is_listed is_row_context is_special kind_in kind_in_namespace kind_of may_stay_open namespace_of first_open foster_place_in has_in_scope has_open popped_to_first_in popped_until_in popped_while_in second_body without_open mode_of flushed_as_space flushed_fostered is_all_space mode_of_request reply_of value_of among attribute_lines comes_before indent shown shown_of sorted
 built_79 = refl

@@ -94,19 +94,39 @@ shown depth (DoctypeNode before name public_id system_id) =
 pub record Case : Type 0 where
   pub scripting : Bool
   pub context : Option Context
+  pub depth_limit : Option ℕ
+  pub formatting_limit : Option ℕ
   pub messages : List Told
 
 abbrev pub document : Bool → List Told → Case
-document scripting messages = record { scripting = scripting; context = None; messages = messages }
+document scripting messages =
+    record { scripting = scripting; context = None; depth_limit = None; formatting_limit = None; messages = messages }
+
+-- with limits of the depth and of formatting elements
+abbrev pub limited : Option ℕ → Option ℕ → List Told → Case
+limited depth formatting messages =
+    record { scripting = false; context = None; depth_limit = depth; formatting_limit = formatting; messages = messages }
 
 -- a fragment, by its context element
 abbrev pub fragment : Bool → Namespace → List ℕ → List AttributeOf → List Told → Case
 fragment scripting namespace name attributes messages =
     let kind : Kind = kind_in_namespace namespace name attributes in
-    record { scripting = scripting; context = Some (record { kind = kind; in_form = is_form kind; quirks_mode = NoQuirks }); messages = messages }
+    record {
+      scripting = scripting;
+      context = Some (record { kind = kind; in_form = is_form kind; quirks_mode = NoQuirks });
+      depth_limit = None;
+      formatting_limit = None;
+      messages = messages;
+    }
 
 abbrev pub options_of : Case → Options
-options_of c = record { scripting = c.scripting; iframe_srcdoc = false; context = c.context; depth_limit = None }
+options_of c = record {
+  scripting = c.scripting;
+  iframe_srcdoc = false;
+  context = c.context;
+  depth_limit = c.depth_limit;
+  formatting_limit = c.formatting_limit;
+}
 
 -- the tree of a case, as text
 unfoldable pub shown_of : Case → List ℕ

@@ -1,5 +1,5 @@
 -- "The list of active formatting elements".
-use Rattle.std.specs.Prelude.{ℕ, suc, Bool, true, false, List, [], ◌∷◌, ◌&&◌, ◌==◌, length, Option, Some, None, nat_le, if◌then◌else◌}
+use Rattle.std.specs.Prelude.{ℕ, suc, Bool, true, false, List, [], ◌∷◌, ◌&&◌, ◌==◌, length, Option, Some, None, nat_le, nat_lt, if◌then◌else◌}
 use Rattle.std.specs.Str.{bytes_eq}
 use Rattle.markup5ever.specs.Names.{AttributeOf}
 use Rattle.tree_construction.specs.declared.kinds.Kind.{Kind}
@@ -72,10 +72,33 @@ with_entry n kind name attributes list =
     Active n kind name attributes
     ∷ (if nat_le 3 (count_alike name attributes list) then without_earliest name attributes list else list)
 
+-- the limit: how many elements stand after the last marker, and the list without the earliest of them
+unfoldable pub count_after_marker : List Entry → ℕ
+count_after_marker [] = 0
+count_after_marker (Marker ∷ list) = 0
+count_after_marker (Active n kind name attributes ∷ list) = suc (count_after_marker list)
+
+abbrev pub is_after_marker : List Entry → Bool
+is_after_marker [] = true
+is_after_marker (Marker ∷ list) = true
+is_after_marker (Active n kind name attributes ∷ list) = false
+
+unfoldable pub without_oldest : List Entry → List Entry
+without_oldest [] = []
+without_oldest (Marker ∷ list) = Marker ∷ list
+without_oldest (Active n kind name attributes ∷ list) =
+    if is_after_marker list then list else Active n kind name attributes ∷ without_oldest list
+
+abbrev pub within_limit : Option ℕ → List Entry → List Entry
+within_limit None list = list
+within_limit (Some limit) list = if nat_lt limit (count_after_marker list) then without_oldest list else list
+
 -- "Insert an HTML element for the token, and push onto the list of active formatting elements that element"
 abbrev pub insert_formatting : Kind → StartTagOf → Parser → Parser
 insert_formatting kind tag p =
-    record (inserted kind tag.name tag.attributes p) { formatting = with_entry p.page.next kind tag.name tag.attributes p.formatting }
+    record (inserted kind tag.name tag.attributes p) {
+      formatting = within_limit p.options.formatting_limit (with_entry p.page.next kind tag.name tag.attributes p.formatting);
+    }
 
 -- ---- markers
 

@@ -29,8 +29,10 @@ pub record Options : Type 0 where
   pub iframe_srcdoc : Bool
   -- in the fragment case
   pub context : Option Context
-  -- Deeper elements become siblings, as browsers have it. The standard has no limit.
+  -- Two limits that the standard doesn't have. With so many open elements deeper ones become siblings, as in browsers. With so many elements
+  -- in the list of active formatting elements after the last marker the earliest leaves it: else a tree can be quadratic in its text.
   pub depth_limit : Option ℕ
+  pub formatting_limit : Option ℕ
 
 -- an entry of "the list of active formatting elements": an element has the attributes of the token for which it was created
 pub data Entry : Type 0 where

@@ -1,10 +1,10 @@
 -- Edits name nodes that were made: the list of active formatting elements.
 use Rattle.std.proofs.Common.{◌≡◌, ℕ, ◌<◌, Bool, true, false, List, [], ◌∷◌, refl}
-use Rattle.std.specs.Prelude.{◌==◌, ◌&&◌, nat_le, if◌then◌else◌}
+use Rattle.std.specs.Prelude.{◌==◌, ◌&&◌, Option, Some, None, nat_le, nat_lt, if◌then◌else◌}
 use Rattle.markup5ever.specs.Names.{AttributeOf}
 use Rattle.tree_construction.specs.declared.kinds.Kind.{Kind}
 use Rattle.tree_construction.specs.declared.kinds.Kind.TheVariants.{Font, Formatting}
-use Rattle.tree_construction.specs.Formatting.{Listed, cleared, cleared_to_marker, count_alike, insert_formatting, is_alike, reconstructed, reopened, reopened_one, still_listed, to_reopen, with_entry, with_marker, without_earliest, without_entry}
+use Rattle.tree_construction.specs.Formatting.{Listed, cleared, cleared_to_marker, count_after_marker, count_alike, insert_formatting, is_after_marker, is_alike, reconstructed, reopened, reopened_one, still_listed, to_reopen, with_entry, with_marker, within_limit, without_earliest, without_entry, without_oldest}
 use Rattle.tree_construction.specs.InBody.{start_font, start_formatting}
 use Rattle.tree_construction.specs.Names.{is_template}
 use Rattle.tree_construction.specs.Page.{Open, has_number, has_open, made}
@@ -53,13 +53,34 @@ below-with_entry n m kind name attributes list less plain below = (less, plain, 
     by_test true = below-without_earliest n name attributes list below
     by_test false = below
 
+below-without_oldest : (n : ℕ) (list : List Entry) → AreListedBelow n list → AreListedBelow n (without_oldest list)
+unfolding AreListedBelow without_oldest
+below-without_oldest n [] below = tt
+below-without_oldest n (Marker ∷ list) below = below
+below-without_oldest n (Active i kind name attributes ∷ list) below = by_test (below-without_oldest n list below.2) (is_after_marker list)
+  where
+    by_test : AreListedBelow n (without_oldest list) → (test : Bool)
+        → AreListedBelow n (if test then list else Active i kind name attributes ∷ without_oldest list)
+    by_test rest true = below.2
+    by_test rest false = (below.0, below.1, rest)
+
+below-within_limit : (n : ℕ) (limit : Option ℕ) (list : List Entry) → AreListedBelow n list → AreListedBelow n (within_limit limit list)
+below-within_limit n None list below = below
+below-within_limit n (Some limit) list below = by_test (nat_lt limit (count_after_marker list))
+  where
+    by_test : (test : Bool) → AreListedBelow n (if test then without_oldest list else list)
+    by_test true = below-without_oldest n list below
+    by_test false = below
+
 pub insert-formatting : (k : ℕ) (kind : Kind) (tag : StartTagOf) (p : Parser) → is_template kind ≡ false → Numbers k p
     → Numbers k (insert_formatting kind tag p)
 insert-formatting k kind tag p plain h =
     let later : Parser = inserted kind tag.name tag.attributes p in
     let less : p.page.next < later.page.next = inserted-next (place_of 0 p) kind tag.name tag.attributes p in
     let kept : Numbers k later = numbers-inserted k kind tag.name tag.attributes p h in
-    with-list k later _ (below-with_entry later.page.next p.page.next kind tag.name tag.attributes p.formatting less plain kept.of_list) kept
+    with-list k later _
+    (below-within_limit later.page.next p.options.formatting_limit (with_entry p.page.next kind tag.name tag.attributes p.formatting)
+    (below-with_entry later.page.next p.page.next kind tag.name tag.attributes p.formatting less plain kept.of_list)) kept
 
 pub numbers-with_marker : (k : ℕ) (p : Parser) → Numbers k p → Numbers k (with_marker p)
 unfolding AreListedBelow
