@@ -32,6 +32,8 @@ LAWS = [
         "Each step of tree construction only adds edits."),
     Law("Numbers", "numbers", "PageNumbers k {}", "Numbers k {}", {"page", "formatting", "head", "form"}, "k", "ℕ", {}, set(),
         "Each step of tree construction makes numbers in their order, and names those that were made."),
+    Law("Nested", "nested", "PageTree k {}", "TreeOf k {}", {"page", "formatting", "head", "form"}, "k", "ℕ", {}, set(),
+        "Each step of tree construction keeps a tree, and no open element in one that is further in."),
     Law("Calm", "calm", None, "IsCalm {}", {"request", "options"}, "", "",
         {"Kind": "asks_text {} ≡ false", "StartTagOf": "asks_text (kind_of {}.name) ≡ false", "Token": "asks_text_by {} ≡ false"},
         {"Title", "Textarea", "Style", "Noframes", "Xmp", "Iframe", "Noembed", "Script", "Plaintext"},
@@ -439,6 +441,17 @@ use Rattle.tree_laws.specs.Laws.{Extends}
 """
 
 
+def common_for(text):
+    """The lines of COMMON, with the names that a text has: an operator's parts stand apart."""
+    words = set(re.split(r"[\s(){}.,;]+", text))
+    found = []
+    for line in COMMON.splitlines():
+        source, names = re.fullmatch(r"(.*)\{(.*)\}", line).groups()
+        used = [it for it in names.split(", ") if all(part in words for part in it.split("◌") if part)]
+        found += [f"{source}{{{', '.join(used)}}}\n"] if used else []
+    return "".join(found)
+
+
 def names_by_hand(law):
     """What the files of a law by hand declare that others may name, with the file of each."""
     found = {}
@@ -463,7 +476,7 @@ def written(law):
         raise Unprovable(f"{law.file}: {prover.unproved}")
     body = "\n".join(lines) + "\n"
     head = f"-- {law.says} By `python3 tools/gen/parser_laws.py`, and not by hand; the steps that it rests on are in {law.file}.\n"
-    return head + COMMON + imports_for(body, law, by_hand) + body
+    return head + common_for(body) + imports_for(body, law, by_hand) + body
 
 
 def main():

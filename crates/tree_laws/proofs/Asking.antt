@@ -1,12 +1,12 @@
 -- Whoever asks as the parser does is told the same reading.
 use Rattle.std.proofs.Common.{◌≡◌, ℕ, Bool, List, [], ◌∷◌, ◌++◌, length, refl, ap, ◌∙◌}
 use Rattle.html5ever_interface.specs.Sink.{Message, on_line, stepped}
-use Rattle.html5ever_interface.specs.Token.{Reply, TagOf, Told}
+use Rattle.html5ever_interface.specs.Token.{Reply, Told}
 use Rattle.html5ever_interface.specs.Token.Told.{Tag}
 use Rattle.html5reading.specs.Cutting.{rest_of}
 use Rattle.html5reading.specs.ErrorText.{bad_character_error}
 use Rattle.html5reading.specs.NormalisedText.{line_after, normalised}
-use Rattle.html5reading.specs.Reading.{Brought, Here, Read, TextPlace, brought, end_events, events_at, last_after, late_events, open_after_reply, read, read_from, read_here, reading, with_events}
+use Rattle.html5reading.specs.Reading.{Brought, Here, Read, brought, end_events, events_at, last_after, late_events, open_after_reply, read, read_from, read_here, reading, with_events}
 use Rattle.html5reading.specs.Reading.Here.{Tells, TellsTag}
 use Rattle.html5reading.specs.Reading.TextPlace.{Character}
 use Rattle.html5reading.specs.Slice.{Slice, cut_off, tokens_of_late}

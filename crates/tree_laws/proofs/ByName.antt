@@ -1,6 +1,6 @@
 -- In the body of a page, outside svg and math, the parser asks for what the standard's elements ask for by their names.
-use Rattle.std.proofs.Common.{◌≡◌, ℕ, Bool, true, false, List, [], ◌∷◌, refl, ap, sym, ◌∙◌, subst, arith}
-use Rattle.std.specs.Prelude.{suc, ◌+◌, ◌&&◌, ◌||◌, not, codes, length, if◌then◌else◌}
+use Rattle.std.proofs.Common.{◌≡◌, ℕ, Bool, true, false, List, refl, ap, sym, ◌∙◌, arith}
+use Rattle.std.specs.Prelude.{suc, ◌+◌, ◌&&◌, not, codes, length, if◌then◌else◌}
 use Rattle.std.specs.Str.{bytes_eq}
 use Rattle.std.proofs.lemmas.Bool.{false≢true}
 use Rattle.markup5ever.proofs.NameOrder.{bytes_eq-same}
@@ -10,7 +10,6 @@ use Rattle.html5ever_interface.specs.Token.Reply.{KeepOn, ReadPlainText, ReadRaw
 use Rattle.html5ever_interface.specs.declared.interface.token.TagKind.{TagKind}
 use Rattle.html5ever_interface.specs.declared.interface.token.TagKind.TheVariants.{EndTag as IsEnd, StartTag as IsStart}
 use Rattle.html5reading.specs.Reading.{open_after_reply}
-use Rattle.html5reading.specs.Start.{Open}
 use Rattle.html5reading.specs.Start.Mode.{Data}
 use Rattle.html5reading.specs.Start.Open.{Between}
 use Rattle.html5sinks.specs.Replies.{raw_text_in, reply_by_kind, standard_reply, standard_reply_to_start}
@@ -23,13 +22,13 @@ use Rattle.tree_construction.specs.declared.modes.Mode.TheVariants.{InBody, InCa
 use Rattle.tree_construction.specs.Construction.{dispatched, enough, in_current_mode, in_html_content, is_ignored_newline, process, run, step, takes_as_html}
 use Rattle.tree_construction.specs.ForeignContent.{in_foreign_content}
 use Rattle.tree_construction.specs.InBody.{in_body, start_in_body}
-use Rattle.tree_construction.specs.Names.{all_names, is_among, is_annotation, is_html, is_html_point, is_math_text_point, kind_in, kind_of}
+use Rattle.tree_construction.specs.Names.{all_names, is_among, is_html, kind_in, kind_of}
 use Rattle.tree_construction.specs.Parser.{Again, Parser, Request, adjusted_kind, mistaken, unexpected}
 use Rattle.tree_construction.specs.Parser.Request.{GoOn, ReadPlain, ReadRaw}
-use Rattle.tree_construction.specs.Tables.{in_caption, in_cell, in_row, in_table, in_table_body, is_part, row_start, table_body_start, table_start}
+use Rattle.tree_construction.specs.Tables.{is_part, row_start, table_body_start, table_start}
 use Rattle.tree_construction.specs.Text.{replied_by, reply_of}
-use Rattle.tree_construction.specs.Tokens.{StartTagOf, Token}
-use Rattle.tree_construction.specs.Tokens.Token.{EndTag, StartTag}
+use Rattle.tree_construction.specs.Tokens.{StartTagOf}
+use Rattle.tree_construction.specs.Tokens.Token.{StartTag}
 use Rattle.tree_laws.specs.Laws.{IsInBody, is_body_mode}
 use Rattle.tree_laws.proofs.Calm.{asks_text}
 use Rattle.tree_laws.proofs.Following.{AllOf, among-all, calm-step, follows, is_row_of_texts, text-name, text_names}

@@ -1,6 +1,6 @@
 -- After a tag of a name that asks for no text, the tokenizer goes on: the steps that set a request. CalmSteps goes on with all others.
 use Rattle.std.proofs.Common.{◌≡◌, ℕ, Bool, true, false, List, [], ◌∷◌, refl, subst, sym}
-use Rattle.std.specs.Prelude.{◌&&◌, codes, Option, Some, None, if◌then◌else◌}
+use Rattle.std.specs.Prelude.{codes, Option, Some, None, if◌then◌else◌}
 use Rattle.markup5ever.specs.Names.{AttributeOf}
 use Rattle.html5ever_interface.specs.Token.{keeps_state}
 use Rattle.html5ever_interface.specs.declared.states.RawKind.TheVariants.{Rawtext}

@@ -1,8 +1,7 @@
 -- After a tag of a name that asks for no text, tree construction lets the tokenizer go on. By `python3 tools/gen/parser_laws.py`, and not by hand; the steps that it rests on are in Calm.
 use Rattle.std.proofs.Common.{◌≡◌, ℕ, Bool, true, false, List, [], ◌∷◌, ◌++◌, refl, sym}
 use Rattle.std.proofs.lemmas.Bool.{false≢true}
-use Rattle.std.specs.Prelude.{suc, zero, ◌+◌, ◌==◌, ◌&&◌, ◌||◌, not, length, map, take, drop, Option, Some, None, codes, if◌then◌else◌}
-use Rattle.tree_laws.specs.Laws.{Extends}
+use Rattle.std.specs.Prelude.{suc, zero, ◌+◌, ◌&&◌, not, take, drop, Option, Some, None, codes, if◌then◌else◌}
 use Rattle.html5ever_interface.specs.Token.{DoctypeOf}
 use Rattle.markup5ever.specs.Names.{AttributeOf}
 use Rattle.tree_construction.specs.Adjusting.{adjusted_tag_name}

@@ -17,7 +17,7 @@ use Rattle.tree_construction.specs.Names.{NamesOf, all_names, is_among, kind_in,
 use Rattle.tree_construction.specs.Parser.{Parser, mistaken}
 use Rattle.tree_construction.specs.Parser.Request.{GoOn}
 use Rattle.tree_construction.specs.Text.{replied_by, reply_of}
-use Rattle.tree_construction.specs.Tokens.{StartTagOf, Token}
+use Rattle.tree_construction.specs.Tokens.{Token}
 use Rattle.tree_construction.specs.Tokens.Token.{EndTag, StartTag}
 use Rattle.tree_laws.proofs.Calm.{IsCalm, asks_text, asks_text_by, calm-if-parser}
 use Rattle.tree_laws.proofs.CalmSteps.{calm-process}

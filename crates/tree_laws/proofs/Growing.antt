@@ -1,10 +1,10 @@
 -- Edits are only added: the steps that add some. GrowingSteps goes on with all others.
-use Rattle.std.proofs.Common.{◌≡◌, ℕ, Bool, true, false, List, [], ◌∷◌, ◌++◌, drop, take, refl, ap, ◌∙◌}
+use Rattle.std.proofs.Common.{ℕ, Bool, true, false, List, [], ◌∷◌, drop, take, refl, ap}
 use Rattle.std.specs.Prelude.{suc, ◌+◌, Option, Some, None, if◌then◌else◌}
 use Rattle.markup5ever.specs.Names.{AttributeOf}
 use Rattle.tree_construction.specs.declared.kinds.Kind.{Kind}
 use Rattle.tree_construction.specs.Adjusting.{adjusted_attributes}
-use Rattle.tree_construction.specs.Adoption.{Inner, adopted, adopted_after, cloned, entry_of, inner_loop, inner_start, list_at, nth_open, opened_inside, opened_outside, remake, with_clone}
+use Rattle.tree_construction.specs.Adoption.{Inner, adopted, adopted_after, cloned, entry_of, inner_loop, inner_start, list_at, nth_open, opened_inside, opened_outside, remake}
 use Rattle.tree_construction.specs.Formatting.{Listed}
 use Rattle.tree_laws.specs.Laws.{Extends}
 use Rattle.tree_construction.specs.Names.{is_template, namespace_of}

@@ -1,7 +1,6 @@
 -- Each step of tree construction only adds edits. By `python3 tools/gen/parser_laws.py`, and not by hand; the steps that it rests on are in Growing.
-use Rattle.std.proofs.Common.{◌≡◌, ℕ, Bool, true, false, List, [], ◌∷◌, ◌++◌, refl, sym}
-use Rattle.std.proofs.lemmas.Bool.{false≢true}
-use Rattle.std.specs.Prelude.{suc, zero, ◌+◌, ◌==◌, ◌&&◌, ◌||◌, not, length, map, take, drop, Option, Some, None, codes, if◌then◌else◌}
+use Rattle.std.proofs.Common.{ℕ, Bool, true, false, List, [], ◌∷◌, ◌++◌}
+use Rattle.std.specs.Prelude.{suc, zero, ◌&&◌, not, Option, Some, None, codes, if◌then◌else◌}
 use Rattle.tree_laws.specs.Laws.{Extends}
 use Rattle.html5ever_interface.specs.Token.{DoctypeOf, Told}
 use Rattle.html5ever_interface.specs.declared.states.RawKind.{RawKind}

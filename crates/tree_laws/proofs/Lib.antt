@@ -1,3 +1,4 @@
+pub mod Trees
 pub mod Growing
 pub mod GrowingSteps
 pub mod TextLaws
@@ -7,6 +8,14 @@ pub mod NumbersOfLists
 pub mod NumbersOfAdoption
 pub mod NumbersOfPointers
 pub mod NumbersSteps
+pub mod NoLoops
+pub mod Nested
+pub mod NestedOfElements
+pub mod NestedOfLists
+pub mod NestedOfPointers
+pub mod NestedOfAdoption
+pub mod NestedOfTurns
+pub mod NestedSteps
 pub mod Asking
 pub mod Calm
 pub mod CalmSteps

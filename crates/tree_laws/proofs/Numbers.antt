@@ -1,10 +1,10 @@
 -- Edits name nodes that were made: what is kept, and the steps of pages, places, texts and comments. NumbersSteps goes on with all others.
 use Rattle.std.proofs.Common.{◌≡◌, ℕ, ◌<◌, ◌≤◌, Bool, true, false, List, [], ◌∷◌, refl, sym, ◌∙◌, subst, arith}
-use Rattle.std.specs.Prelude.{suc, ◌==◌, not, Option, Some, None, if◌then◌else◌}
+use Rattle.std.specs.Prelude.{suc, ◌==◌, Option, Some, None, if◌then◌else◌}
 use Rattle.tree_construction.specs.declared.mistakes.Mistake.{Mistake}
 use Rattle.tree_laws.specs.Laws.{AreOrderly, IsMade, IsOrderlyEdit, IsPlaceMade, next_number}
 use Rattle.tree_construction.specs.Names.{is_table, is_template}
-use Rattle.tree_construction.specs.Page.{Edit, Open, Page, Place, comment_put, edited, first_open, foster_place_in, inside, inside_first, left, made, popped, popped_of, popped_to_first, popped_to_first_in, popped_until, popped_until_in, popped_while, popped_while_in, removed_from_stack, without_open}
+use Rattle.tree_construction.specs.Page.{Edit, Open, Page, Place, comment_put, edited, first_open, foster_place_in, inside, inside_first, left, popped, popped_of, popped_to_first, popped_to_first_in, popped_until, popped_until_in, popped_while, popped_while_in, removed_from_stack, without_open}
 use Rattle.tree_construction.specs.Page.Edit.{MakeComment, ParseError, PutText}
 use Rattle.tree_construction.specs.Page.Place.{BeforeTable, BesideNode, LastChild}
 use Rattle.tree_construction.specs.Parser.{Entry, Parser, insert_comment, insert_comment_in_document, insert_comment_in_root, insert_text, is_fostered, is_too_deep, last_child_of, mistaken, on_page, place_in, place_of, within_depth}

@@ -11,7 +11,7 @@ use Rattle.tree_construction.specs.Formatting.{Listed, last_named, reconstructed
 use Rattle.tree_construction.specs.InBody.{removed_if_open, start_anchor, start_no_break, without_anchor, without_no_break}
 use Rattle.tree_laws.specs.Laws.{AreOrderly, IsMade, IsPlaceMade, next_number}
 use Rattle.tree_construction.specs.Names.{ends_scope, is_implied, is_no_break, is_template}
-use Rattle.tree_construction.specs.Page.{Open, Place, current_passes, has_in_scope, has_kind, has_name, has_number, has_open, inside, made, popped, popped_until, popped_while, removed_from_stack}
+use Rattle.tree_construction.specs.Page.{Open, Place, current_passes, has_in_scope, has_kind, has_name, has_number, has_open, inside, popped, popped_until, popped_while, removed_from_stack}
 use Rattle.tree_construction.specs.Parser.{Entry, Parser, expects_current, mistaken, on_page, place_in}
 use Rattle.tree_construction.specs.Parser.Entry.{Active, Marker}
 use Rattle.tree_construction.specs.Tokens.{StartTagOf}
@@ -20,7 +20,7 @@ use Rattle.tree_laws.proofs.NumbersOfLists.{below-without_entry, insert-formatti
 
 -- ---- the adoption agency
 
-record InnerNumbers (k : ℕ) (inner : Inner) : Type 0 where
+pub record InnerNumbers (k : ℕ) (inner : Inner) : Type 0 where
   pub rises : k ≤ inner.next
   pub begun : 3 ≤ inner.next
   pub made : inner.next ≡ next_number inner.edits
@@ -30,7 +30,7 @@ record InnerNumbers (k : ℕ) (inner : Inner) : Type 0 where
   pub cloned : AreOpenBelow inner.next inner.clones
 
 -- an element that was found in the list
-abbrev IsFoundBelow : ℕ → Option Listed → Type 0
+abbrev pub IsFoundBelow : ℕ → Option Listed → Type 0
 IsFoundBelow n None = Unit {0}
 IsFoundBelow n (Some e) = (e.node < n) × (is_template e.kind ≡ false)
 
@@ -38,7 +38,7 @@ raised-found : (m n : ℕ) (found : Option Listed) → m ≤ n → IsFoundBelow 
 raised-found m n None le below = tt
 raised-found m n (Some e) le below = (omega (arith, le, below.0), below.1)
 
-below-entry_of : (n m : ℕ) (list : List Entry) → AreListedBelow n list → IsFoundBelow n (entry_of m list)
+pub below-entry_of : (n m : ℕ) (list : List Entry) → AreListedBelow n list → IsFoundBelow n (entry_of m list)
 unfolding AreListedBelow entry_of
 below-entry_of n m [] below = tt
 below-entry_of n m (Marker ∷ list) below = below-entry_of n m list below
@@ -49,7 +49,7 @@ below-entry_of n m (Active i kind name attributes ∷ list) below = by_test (bel
     by_test rest true = (below.0, below.1)
     by_test rest false = rest
 
-below-last_named : (n : ℕ) (name : List ℕ) (list : List Entry) → AreListedBelow n list → IsFoundBelow n (last_named name list)
+pub below-last_named : (n : ℕ) (name : List ℕ) (list : List Entry) → AreListedBelow n list → IsFoundBelow n (last_named name list)
 unfolding AreListedBelow last_named
 below-last_named n name [] below = tt
 below-last_named n name (Marker ∷ list) below = tt
@@ -85,16 +85,16 @@ below-added_after n m i e (Active j kind name attributes ∷ list) less plain be
     by_test rest true = (less, plain, below)
     by_test rest false = (below.0, below.1, rest)
 
-below-appended : (n : ℕ) (es : List Open) (fs : List Open) → AreOpenBelow n es → AreOpenBelow n fs → AreOpenBelow n (es ++ fs)
+pub below-appended : (n : ℕ) (es : List Open) (fs : List Open) → AreOpenBelow n es → AreOpenBelow n fs → AreOpenBelow n (es ++ fs)
 unfolding AreOpenBelow
 below-appended n [] fs below others = others
 below-appended n (e ∷ es) fs below others = (below.0, below-appended n es fs below.1 others)
 
 -- an element that is made again has no contents
-remade-below : (n : ℕ) (e : Listed) → is_template e.kind ≡ false → inside (remade_open n e) < suc n
+pub remade-below : (n : ℕ) (e : Listed) → is_template e.kind ≡ false → inside (remade_open n e) < suc n
 remade-below n e plain = subst (λ test. (if test then suc n else n) < suc n) (sym plain) (omega arith)
 
-numbers-cloned : (k block m : ℕ) (found : Option Listed) (list : List Entry) (inner : Inner) → m < inner.next → IsFoundBelow inner.next found
+pub numbers-cloned : (k block m : ℕ) (found : Option Listed) (list : List Entry) (inner : Inner) → m < inner.next → IsFoundBelow inner.next found
     → AreListedBelow inner.next list → InnerNumbers k inner → InnerNumbers k (cloned block m found list inner)
 unfolding AreOrderly AreOpenBelow next_number
 numbers-cloned k block m None list inner less found below h = record {
@@ -119,18 +119,18 @@ numbers-cloned k block m (Some e) list inner less found below h =
       cloned = below-appended (suc n) inner.clones (remade_open n e ∷ []) (raised-opened n (suc n) inner.clones up h.cloned) (remade-below n e found.1, tt);
     }
 
-below-list_at : (n counter m : ℕ) (list : List Entry) → AreListedBelow n list → AreListedBelow n (list_at counter m list)
+pub below-list_at : (n counter m : ℕ) (list : List Entry) → AreListedBelow n list → AreListedBelow n (list_at counter m list)
 below-list_at n counter m list below = by_test (nat_lt 3 counter)
   where
     by_test : (test : Bool) → AreListedBelow n (if test then without_entry m list else list)
     by_test true = below-without_entry n m list below
     by_test false = below
 
-cloned-next : (block m : ℕ) (found : Option Listed) (list : List Entry) (inner : Inner) → inner.next ≤ (cloned block m found list inner).next
+pub cloned-next : (block m : ℕ) (found : Option Listed) (list : List Entry) (inner : Inner) → inner.next ≤ (cloned block m found list inner).next
 cloned-next block m None list inner = omega arith
 cloned-next block m (Some e) list inner = omega arith
 
-numbers-inner_loop : (k block counter : ℕ) (es : List Open) (inner : Inner) → AreOpenBelow inner.next es → InnerNumbers k inner
+pub numbers-inner_loop : (k block counter : ℕ) (es : List Open) (inner : Inner) → AreOpenBelow inner.next es → InnerNumbers k inner
     → InnerNumbers k (inner_loop block counter es inner)
 unfolding AreOpenBelow inner_loop
 numbers-inner_loop k block counter [] inner below h = h
@@ -142,25 +142,25 @@ numbers-inner_loop k block counter (e ∷ es) inner below h =
     numbers-inner_loop k block (suc counter) es next (raised-opened inner.next next.next es le below.1)
     (numbers-cloned k block e.node (entry_of e.node list) list inner (node-below e inner.next below.0) (below-entry_of inner.next e.node list listed) listed h)
 
-nth-below : (n d : ℕ) (es : List Open) → 0 < n → AreOpenBelow n es → inside (nth_open d es) < n
+pub nth-below : (n d : ℕ) (es : List Open) → 0 < n → AreOpenBelow n es → inside (nth_open d es) < n
 unfolding AreOpenBelow nth_open
 nth-below n d [] some below = some
 nth-below n zero (e ∷ es) some below = below.0
 nth-below n (suc d) (e ∷ es) some below = nth-below n d es some below.1
 
-below-drop : (n d : ℕ) (es : List Open) → AreOpenBelow n es → AreOpenBelow n (drop d es)
+pub below-drop : (n d : ℕ) (es : List Open) → AreOpenBelow n es → AreOpenBelow n (drop d es)
 unfolding AreOpenBelow
 below-drop n zero es below = below
 below-drop n (suc d) [] below = tt
 below-drop n (suc d) (e ∷ es) below = below-drop n d es below.1
 
-below-take : (n d : ℕ) (es : List Open) → AreOpenBelow n es → AreOpenBelow n (take d es)
+pub below-take : (n d : ℕ) (es : List Open) → AreOpenBelow n es → AreOpenBelow n (take d es)
 unfolding AreOpenBelow
 below-take n zero es below = tt
 below-take n (suc d) [] below = tt
 below-take n (suc d) (e ∷ es) below = (below.0, below-take n d es below.1)
 
-below-opened_inside : (n m : ℕ) (es : List Open) → AreOpenBelow n es → AreOpenBelow n (opened_inside m es)
+pub below-opened_inside : (n m : ℕ) (es : List Open) → AreOpenBelow n es → AreOpenBelow n (opened_inside m es)
 unfolding AreOpenBelow opened_inside
 below-opened_inside n m [] below = tt
 below-opened_inside n m (e ∷ es) below = by_test (below-opened_inside n m es below.1) (e.node == m)
@@ -169,7 +169,7 @@ below-opened_inside n m (e ∷ es) below = by_test (below-opened_inside n m es b
     by_test rest true = tt
     by_test rest false = (below.0, rest)
 
-below-opened_outside : (n m : ℕ) (es : List Open) → AreOpenBelow n es → AreOpenBelow n (opened_outside m es)
+pub below-opened_outside : (n m : ℕ) (es : List Open) → AreOpenBelow n es → AreOpenBelow n (opened_outside m es)
 unfolding AreOpenBelow opened_outside
 below-opened_outside n m [] below = tt
 below-opened_outside n m (e ∷ es) below = by_test (below-opened_outside n m es below.1) (e.node == m)
@@ -225,10 +225,10 @@ numbers-adopted_after k p f block within outer inner less plain in_block below_w
       of_form = raised-pointer m (suc n) p.form le h.of_form;
     }
 
-numbers-adopted : (k : ℕ) (p : Parser) (f : Listed) (d : ℕ) → f.node < p.page.next → is_template f.kind ≡ false → Numbers k p
+pub adopted-numbers : (k : ℕ) (p : Parser) (f : Listed) (d : ℕ) → f.node < p.page.next → is_template f.kind ≡ false → Numbers k p
     → Numbers k (adopted p f d)
 unfolding AreOpenBelow adopted
-numbers-adopted k p f d less plain h =
+adopted-numbers k p f d less plain h =
     let m : ℕ = p.page.next in
     let block : Open = nth_open d p.page.opened in
     let around : List Open = drop (d + 1) p.page.opened in
@@ -248,7 +248,7 @@ numbers-adopted k p f d less plain h =
     (below-take m d p.page.opened h.of_page.opened) (below-opened_outside m f.node around below_around) h
     (numbers-inner_loop m block.node 1 (opened_inside f.node around) (inner_start p block.node) (below-opened_inside m f.node around below_around) first)
 
-numbers-unformatted : (k : ℕ) (f : Listed) (p : Parser) → Numbers k p → Numbers k (unformatted f p)
+pub numbers-unformatted : (k : ℕ) (f : Listed) (p : Parser) → Numbers k p → Numbers k (unformatted f p)
 numbers-unformatted k f p h =
     let later : Parser = on_page (popped_until (has_number f.node)) p in
     let kept : Numbers k later = numbers-on_page k (popped_until (has_number f.node)) (λ k. numbers-popped_until k (has_number f.node)) p h in
@@ -257,7 +257,7 @@ numbers-unformatted k f p h =
 numbers-adopted_by : (k : ℕ) (again : Parser → Parser) → ((k : ℕ) (q : Parser) → Numbers k q → Numbers k (again q)) → (f : Listed)
     → (depth : Option ℕ) → (p : Parser) → f.node < p.page.next → is_template f.kind ≡ false → Numbers k p → Numbers k (adopted_by again f depth p)
 numbers-adopted_by k again keeps f None p less plain h = numbers-unformatted k f p h
-numbers-adopted_by k again keeps f (Some d) p less plain h = keeps k (adopted p f d) (numbers-adopted k p f d less plain h)
+numbers-adopted_by k again keeps f (Some d) p less plain h = keeps k (adopted p f d) (adopted-numbers k p f d less plain h)
 
 -- a formatting element that is no longer the current one is noted, which changes no number
 pub noted-next : (test : Bool) (mistake : Mistake) (p : Parser) → (if test then p else mistaken mistake p).page.next ≡ p.page.next
@@ -307,7 +307,7 @@ numbers-outer_loop k (suc turns) name p h =
 
 -- ---- elements that leave the stack by their number
 
-open-below : (n m : ℕ) (es : List Open) → AreOpenBelow n es → has_open (has_number m) es ≡ true → m < n
+pub open-below : (n m : ℕ) (es : List Open) → AreOpenBelow n es → has_open (has_number m) es ≡ true → m < n
 unfolding AreOpenBelow has_open
 open-below n m [] below is = absurd (false≢true is)
 open-below n m (e ∷ es) below is = by_test (open-below n m es below.1) (e.node == m) refl is

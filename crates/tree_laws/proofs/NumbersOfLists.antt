@@ -7,7 +7,7 @@ use Rattle.tree_construction.specs.declared.kinds.Kind.TheVariants.{Font, Format
 use Rattle.tree_construction.specs.Formatting.{Listed, cleared, cleared_to_marker, count_after_marker, count_alike, insert_formatting, is_after_marker, is_alike, reconstructed, reopened, reopened_one, still_listed, to_reopen, with_entry, with_marker, within_limit, without_earliest, without_entry, without_oldest}
 use Rattle.tree_construction.specs.InBody.{start_font, start_formatting}
 use Rattle.tree_construction.specs.Names.{is_template}
-use Rattle.tree_construction.specs.Page.{Open, has_number, has_open, made}
+use Rattle.tree_construction.specs.Page.{Open, has_number, has_open}
 use Rattle.tree_construction.specs.Parser.{Entry, Parser, inserted, place_of}
 use Rattle.tree_construction.specs.Parser.Entry.{Active, Marker}
 use Rattle.tree_construction.specs.Tokens.{StartTagOf}
@@ -95,7 +95,7 @@ below-cleared n (Active i kind name attributes ∷ list) below = below-cleared n
 pub numbers-cleared_to_marker : (k : ℕ) (p : Parser) → Numbers k p → Numbers k (cleared_to_marker p)
 numbers-cleared_to_marker k p h = with-list k p (cleared p.formatting) (below-cleared p.page.next p.formatting h.of_list) h
 
-below-still_listed : (n : ℕ) (opened : List Open) (list : List Entry) → AreListedBelow n list → AreListedBelow n (still_listed opened list)
+pub below-still_listed : (n : ℕ) (opened : List Open) (list : List Entry) → AreListedBelow n list → AreListedBelow n (still_listed opened list)
 unfolding AreListedBelow still_listed
 below-still_listed n opened [] below = tt
 below-still_listed n opened (Marker ∷ list) below = below
@@ -108,11 +108,11 @@ below-still_listed n opened (Active i kind name attributes ∷ list) below =
     by_test rest false = rest
 
 -- elements of the list that are made again
-unfoldable AreListed : ℕ → List Listed → Type 0
+unfoldable pub AreListed : ℕ → List Listed → Type 0
 AreListed n [] = Unit {0}
 AreListed n (e ∷ es) = (e.node < n) × (is_template e.kind ≡ false) × AreListed n es
 
-below-to_reopen : (n : ℕ) (opened : List Open) (list : List Entry) → AreListedBelow n list → AreListed n (to_reopen opened list)
+pub below-to_reopen : (n : ℕ) (opened : List Open) (list : List Entry) → AreListedBelow n list → AreListed n (to_reopen opened list)
 unfolding AreListedBelow AreListed to_reopen
 below-to_reopen n opened [] below = tt
 below-to_reopen n opened (Marker ∷ list) below = tt
@@ -124,7 +124,7 @@ below-to_reopen n opened (Active i kind name attributes ∷ list) below =
     by_test rest true = tt
     by_test rest false = (below.0, below.1, rest)
 
-reopened-one : (k : ℕ) (e : Listed) (p : Parser) → is_template e.kind ≡ false → Numbers k p → Numbers k (reopened_one e p)
+pub reopened-one : (k : ℕ) (e : Listed) (p : Parser) → is_template e.kind ≡ false → Numbers k p → Numbers k (reopened_one e p)
 unfolding AreListedBelow
 reopened-one k e p plain h =
     let later : Parser = inserted e.kind e.name e.attributes p in

@@ -68,7 +68,7 @@ numbers-end_block k test p h =
     (numbers-mistaken k UnexpectedToken p h)
 
 -- the form leaves the stack: its number stays below, since implied end tags make no node
-implied-next : (test : Open → Bool) (es : List Open) (page : Page) → (popped_while_in test es page).next ≡ page.next
+pub implied-next : (test : Open → Bool) (es : List Open) (page : Page) → (popped_while_in test es page).next ≡ page.next
 unfolding popped_while_in
 implied-next test [] page = refl
 implied-next test (e ∷ es) page = by_test (implied-next test es (left e es page)) (test e)
@@ -100,11 +100,11 @@ numbers-end_form k p h =
     (numbers-end_form_of k p.form p h.of_form h)
 
 -- "after head": the head is on the stack for one token
-head-pushed : (k n : ℕ) (page : Page) → n < page.next → PageNumbers k page → PageNumbers k (pushed Head (codes "head") n page)
+pub head-pushed : (k n : ℕ) (page : Page) → n < page.next → PageNumbers k page → PageNumbers k (pushed Head (codes "head") n page)
 unfolding AreOpenBelow
 head-pushed k n page less h = record { rises = h.rises; begun = h.begun; next = h.next; orderly = h.orderly; opened = (less, h.opened) }
 
-lowered : (j k : ℕ) (p : Parser) → j ≤ k → Numbers k p → Numbers j p
+pub lowered : (j k : ℕ) (p : Parser) → j ≤ k → Numbers k p → Numbers j p
 lowered j k p le h = record {
   of_page = record {
     rises = omega (arith, le, h.of_page.rises);
@@ -118,7 +118,7 @@ lowered j k p le h = record {
   of_form = h.of_form;
 }
 
-raised : (k : ℕ) (p : Parser) → Numbers k p → Numbers p.page.next p
+pub raised : (k : ℕ) (p : Parser) → Numbers k p → Numbers p.page.next p
 raised k p h = record { of_page = own k p h; of_list = h.of_list; of_head = h.of_head; of_form = h.of_form }
 
 numbers-within_head_of : (k : ℕ) (head : Option ℕ) (change : Parser → Parser) → ((k : ℕ) (q : Parser) → Numbers k q → Numbers k (change q)) → (p : Parser)
@@ -153,25 +153,26 @@ numbers-put_doctype k doctype p h =
 
 -- ---- the start
 
+pub numbers-empty : (options : Options) → Numbers 3 (empty_parser options)
+unfolding AreOpenBelow AreListedBelow AreOrderly next_number
+numbers-empty options = record {
+  of_page = record { rises = omega arith; begun = omega arith; next = refl; orderly = tt; opened = tt };
+  of_list = tt;
+  of_head = tt;
+  of_form = tt;
+}
+
+form-below : (n : ℕ) (has : Bool) → 3 ≤ n → IsPointerBelow n (fragment_form has)
+form-below n true begun = omega (arith, begun)
+form-below n false begun = tt
+
+pub numbers-start_by : (options : Options) (context : Option Context) → Numbers 3 (start_by context (empty_parser options))
+numbers-start_by options None = numbers-empty options
+numbers-start_by options (Some context) =
+    let rooted : Parser = with_root [] (empty_parser options) in
+    let kept : Numbers 3 rooted = numbers-with_root 3 [] (empty_parser options) (numbers-empty options) in
+    with-form 3 rooted (fragment_form context.in_form) (form-below rooted.page.next context.in_form kept.of_page.begun) kept
+
 pub numbers-start : (options : Options) → Numbers 3 (start options)
-unfolding AreOpenBelow AreListedBelow AreOrderly next_number start
-numbers-start options = started options.context
-  where
-    empty : Numbers 3 (empty_parser options)
-    empty = record {
-      of_page = record { rises = omega arith; begun = omega arith; next = refl; orderly = tt; opened = tt };
-      of_list = tt;
-      of_head = tt;
-      of_form = tt;
-    }
-
-    form-below : (n : ℕ) (has : Bool) → 3 ≤ n → IsPointerBelow n (fragment_form has)
-    form-below n true begun = omega (arith, begun)
-    form-below n false begun = tt
-
-    started : (context : Option Context) → Numbers 3 (start_by context (empty_parser options))
-    started None = empty
-    started (Some context) =
-        let rooted : Parser = with_root [] (empty_parser options) in
-        let kept : Numbers 3 rooted = numbers-with_root 3 [] (empty_parser options) empty in
-        with-form 3 rooted (fragment_form context.in_form) (form-below rooted.page.next context.in_form kept.of_page.begun) kept
+unfolding start
+numbers-start options = numbers-start_by options options.context

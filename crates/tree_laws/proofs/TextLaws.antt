@@ -11,8 +11,9 @@ use Rattle.html5reading.specs.NormalisedText.{normalised}
 use Rattle.html5reading.specs.Reading.{Event, is_among, messages, reading}
 use Rattle.html5reading.specs.Start.{Rules, Start}
 use Rattle.html5reading.proofs.Splitting.{told-within}
-use Rattle.tree_construction.specs.Construction.{is_foreign, run, start, told, told_all}
+use Rattle.tree_construction.specs.Construction.{is_foreign, run, start, told_all}
 use Rattle.tree_laws.specs.Laws.{AreOrderly, Extends}
+use Rattle.tree_laws.specs.Trees.{KeepTree}
 use Rattle.tree_construction.specs.Page.{Edit}
 use Rattle.tree_construction.specs.Parser.{Options, Parser}
 use Rattle.tree_construction.specs.Tokens.{Token}
@@ -23,6 +24,9 @@ use Rattle.tree_laws.proofs.GrowingSteps.{grows-told}
 use Rattle.tree_laws.proofs.Numbers.{Numbers}
 use Rattle.tree_laws.proofs.NumbersOfPointers.{numbers-start}
 use Rattle.tree_laws.proofs.NumbersSteps.{numbers-told, numbers-told_all}
+use Rattle.tree_laws.proofs.Nested.{TreeOf}
+use Rattle.tree_laws.proofs.NestedOfPointers.{nested-start}
+use Rattle.tree_laws.proofs.NestedSteps.{nested-told, nested-told_all}
 
 -- ---- a sink
 
@@ -58,6 +62,19 @@ messages-are-orderly options messages = (numbers-told_all 3 messages (start opti
 
 pub text-is-orderly : (options : Options) (rules : Rules) (text : List ℕ) → AreOrderly (parser_of_text options rules text).page.edits
 text-is-orderly options rules text = (numbers-stepped (messages_of_text options rules text) (start options) (numbers-start options)).of_page.orderly
+
+-- ---- trees
+
+nested-stepped : (ms : List Message) (p : Parser) → TreeOf 3 p → TreeOf 3 (stepped taken_by p ms)
+unfolding stepped
+nested-stepped [] p h = h
+nested-stepped (m ∷ ms) p h = nested-stepped ms (taken_by p m.token m.line) (nested-told 3 m.token p h)
+
+pub messages-keep-tree : (options : Options) (messages : List Told) → KeepTree (told_all messages (start options)).page.edits
+messages-keep-tree options messages = (nested-told_all 3 messages (start options) (nested-start options)).tree
+
+pub text-keeps-tree : (options : Options) (rules : Rules) (text : List ℕ) → KeepTree (parser_of_text options rules text).page.edits
+text-keeps-tree options rules text = (nested-stepped (messages_of_text options rules text) (start options) (nested-start options)).tree
 
 -- ---- a text that goes on
 

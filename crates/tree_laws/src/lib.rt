@@ -1,7 +1,7 @@
 //! What is proved of tree construction: laws of the definitions in tree_construction. There is no code that runs.
 #![tactic(auto)]
 
-ghost use Rattle.std.specs.Prelude.{◌≡◌, ℕ, List, [], ◌++◌, false, true};
+ghost use Rattle.std.specs.Prelude.{◌≡◌, ℕ, List, [], ◌++◌, Option, Some, false, true};
 ghost use Rattle.html5ever_interface.specs.Token.{TagOf, Told, is_tag, keeps_state};
 ghost use Rattle.html5ever_interface.specs.Token.Told.{Tag, Text};
 ghost use Rattle.html5ever_interface.specs.Token.Reply.{KeepOn};
@@ -10,6 +10,8 @@ ghost use Rattle.html5reading.specs.Start.{Rules, Start};
 ghost use Rattle.html5sinks.specs.Replies.{standard_reply};
 ghost use Rattle.tree_construction.specs.Construction.{is_foreign, start, told_all};
 ghost use Rattle.tree_laws.specs.Laws.{AreOrderly, AsksAsParser, Extends, IsInBody};
+ghost use Rattle.tree_laws.specs.Trees.{IsOutside, KeepTree, parent_after, template_after};
+ghost use Rattle.tree_construction.specs.Page.{Edit};
 ghost use Rattle.tree_construction.specs.Parser.{Options, Parser};
 ghost use Rattle.tree_construction.specs.Text.{parser_of_text, parser_so_far, replied_by, taken_by};
 
@@ -33,6 +35,17 @@ pub fn nodes_are_numbered()
     ensures messages { (options : Options) (messages : List Told) → AreOrderly (told_all messages (start options)).page.edits }
     ensures text { (options : Options) (rules : Rules) (text : List ℕ)
         → AreOrderly (parser_of_text options rules text).page.edits }
+{}
+
+/// The document is a tree. A node that is put has no parent until then, and is put into neither itself nor a descendant (`KeepTree`).
+/// So it is after any messages (`messages`), and of any text (`text`). After such edits a node's parent is no descendant of that node
+/// (`parents`), and neither is the template whose contents it is (`templates`). The contents of a template count as its descendants.
+pub fn document_is_a_tree()
+    ensures messages { (options : Options) (messages : List Told) → KeepTree (told_all messages (start options)).page.edits }
+    ensures text { (options : Options) (rules : Rules) (text : List ℕ) → KeepTree (parser_of_text options rules text).page.edits }
+    ensures parents { (edits : List Edit) (n parent : ℕ) → KeepTree edits → parent_after edits n ≡ Some parent → IsOutside edits n parent }
+    ensures templates { (edits : List Edit) (n template : ℕ) → KeepTree edits → template_after edits n ≡ Some template
+        → IsOutside edits n template }
 {}
 
 /// Whoever asks as the parser does is sent the same messages. That is a sink each of whose states has a parser: a
