@@ -2,7 +2,7 @@
 use Rattle.std.proofs.Common.{◌≡◌, ℕ, ◌<◌, ◌≤◌, Bool, true, false, List, [], ◌∷◌, refl, sym, ◌∙◌, arith}
 use Rattle.std.specs.Prelude.{◌==◌, Option, Some, None, if◌then◌else◌}
 use Rattle.tree_laws.specs.Laws.{AreOrderly, next_number}
-use Rattle.tree_laws.specs.Trees.{KeepTree, KeepsTree, IsOutside, or_else, parent_after, parent_at, template_after}
+use Rattle.tree_laws.specs.Trees.{AreNested, AreOutside, IsOutside, KeepTree, KeepsTree, or_else, parent_after, parent_at, template_after}
 use Rattle.tree_construction.specs.declared.mistakes.Mistake.{Mistake}
 use Rattle.tree_construction.specs.Page.{Edit, Open, Page, Place, edited, inside, left, popped, popped_of, popped_to_first, popped_to_first_in, popped_until, popped_until_in, popped_while, popped_while_in, removed_from_stack, without_open}
 use Rattle.tree_construction.specs.Page.Edit.{Put, Pop, ParseError}
@@ -12,15 +12,6 @@ use Rattle.tree_laws.proofs.Numbers.{AreOpenBelow, IsPlaceBelow, Numbers, PageNu
 use Rattle.tree_laws.proofs.Trees.{AddsNone, KeepsLines, no-parent, outside-new, parents-made, put-keeps, same-lines, stays-outside}
 
 -- ---- what is kept
-
--- these open elements, and the document, are outside of a node
-unfoldable pub AreOutside : List Edit → ℕ → List Open → Type 0
-AreOutside edits n [] = IsOutside edits n 0
-AreOutside edits n (e ∷ es) = IsOutside edits n e.node × IsOutside edits n (inside e) × AreOutside edits n es
-
-unfoldable pub AreNested : List Edit → List Open → Type 0
-AreNested edits [] = Unit {0}
-AreNested edits (e ∷ es) = AreOutside edits e.node es × AreNested edits es
 
 pub record PageTree (k : ℕ) (page : Page) : Type 0 where
   pub numbers : PageNumbers k page

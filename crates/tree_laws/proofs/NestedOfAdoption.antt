@@ -13,12 +13,12 @@ use Rattle.tree_construction.specs.Page.Edit.{Pop, Put, Remove}
 use Rattle.tree_construction.specs.Page.Place.{LastChild, BeforeTable}
 use Rattle.tree_construction.specs.Parser.{Entry, Parser, is_fostered, last_child_of, place_in}
 use Rattle.tree_laws.specs.Laws.{next_number}
-use Rattle.tree_laws.specs.Trees.{IsOutside, KeepTree, or_else, parent_after, parent_at, template_after}
+use Rattle.tree_laws.specs.Trees.{AreNested, AreOutside, IsOutside, KeepTree, or_else, parent_after, parent_at, template_after}
 use Rattle.tree_laws.specs.Trees.IsWithin.{InParent}
 use Rattle.tree_laws.proofs.Numbers.{AreListedBelow, AreOpenBelow, node-below, raised-opened}
 use Rattle.tree_laws.proofs.NumbersOfAdoption.{InnerNumbers, IsFoundBelow, below-appended, below-entry_of, below-list_at, cloned-next, numbers-cloned}
 use Rattle.tree_laws.proofs.Trees.{AddsNone, Leads, led-stood, no-parent, no-template, outside-alone, put-keeps, put-leads, removal-adds-none, same-lines}
-use Rattle.tree_laws.proofs.Nested.{AreNested, AreOutside, nested-kept, nested-same, outside-fresh, outside-kept, outside-same, pop-adds-none}
+use Rattle.tree_laws.proofs.Nested.{nested-kept, nested-same, outside-fresh, outside-kept, outside-same, pop-adds-none}
 
 -- ---- lists of open elements
 

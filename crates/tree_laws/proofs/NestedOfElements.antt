@@ -17,12 +17,12 @@ use Rattle.tree_construction.specs.Page.Place.{LastChild}
 use Rattle.tree_construction.specs.Parser.{Parser, associated_with, insert_comment, insert_comment_in_document, insert_comment_in_root, insert_text, insert_void, inserted, inserted_at, on_page, place_in, place_of, takes_form}
 use Rattle.tree_construction.specs.Tokens.{StartTagOf}
 use Rattle.tree_laws.specs.Laws.{AreOrderly, next_number}
-use Rattle.tree_laws.specs.Trees.{KeepTree, KeepsTree, parent_after, template_after}
+use Rattle.tree_laws.specs.Trees.{AreNested, AreOutside, KeepTree, KeepsTree, parent_after, template_after}
 use Rattle.tree_laws.proofs.Numbers.{AreOpenBelow, IsPlaceBelow, Numbers, numbers-insert_comment, numbers-insert_comment_in_document, numbers-insert_comment_in_root, numbers-insert_text, place_of-below, raised-opened, root-below, some-made}
 use Rattle.tree_laws.proofs.NumbersOfElements.{inserted-at, numbers-add_to_body, numbers-add_to_root, numbers-mark_current, numbers-with_root, numbers-without_body}
 use Rattle.tree_laws.proofs.NumbersOfPointers.{numbers-put_doctype, numbers-set_quirks_mode}
 use Rattle.tree_laws.proofs.Trees.{AddsNone, contents-keep, outside-new, removal-adds-none, same-lines, stays-outside}
-use Rattle.tree_laws.proofs.Nested.{AreNested, AreOutside, IsAlone, IsPut, Nests, TreeOf, alone, alone-after, nested-kept, nested-on_page, nested-popped, nested-same, nests-popped_to_first_in, outside-fresh, plainly, put-alone}
+use Rattle.tree_laws.proofs.Nested.{IsAlone, IsPut, Nests, TreeOf, alone, alone-after, nested-kept, nested-on_page, nested-popped, nested-same, nests-popped_to_first_in, outside-fresh, plainly, put-alone}
 
 -- ---- texts and comments
 

@@ -16,14 +16,14 @@ use Rattle.tree_construction.specs.Page.{Edit, Open, Page, Place, current_passes
 use Rattle.tree_construction.specs.Page.Edit.{MarkStarted, Pop}
 use Rattle.tree_construction.specs.Parser.{Context, Entry, Options, Parser, expects_current, has_template, insert, insert_void, inserted_at, is_fragment, mistaken, on_page, place_of, unexpected}
 use Rattle.tree_construction.specs.Tokens.{StartTagOf, value_of}
-use Rattle.tree_laws.specs.Trees.{KeepTree, parent_after, template_after}
+use Rattle.tree_laws.specs.Trees.{AreNested, KeepTree, parent_after, template_after}
 use Rattle.tree_laws.proofs.Numbers.{AreOpenBelow, IsPlaceBelow, IsPointerBelow, Numbers, PartNumbers, numbers-on_page, numbers-popped, own, place_of-below, removed-from-stack, with-page}
 use Rattle.tree_laws.proofs.NumbersOfElements.{inserted-at, inserted-next, numbers-mark_current}
 use Rattle.tree_laws.proofs.NumbersOfLists.{numbers-with_marker}
 use Rattle.tree_laws.proofs.NumbersOfAdoption.{noted-next}
 use Rattle.tree_laws.proofs.NumbersOfPointers.{head-pushed, implied-next, lowered, numbers-empty, numbers-start_by, raised}
 use Rattle.tree_laws.proofs.Trees.{same-lines}
-use Rattle.tree_laws.proofs.Nested.{AreNested, TreeOf, nested-if-parser, nested-mistaken, nested-on_page, nested-popped_while, nested-removed-from-stack, nested-same, own-tree, pop-adds-none, with-tree}
+use Rattle.tree_laws.proofs.Nested.{TreeOf, nested-if-parser, nested-mistaken, nested-on_page, nested-popped_while, nested-removed-from-stack, nested-same, own-tree, pop-adds-none, with-tree}
 use Rattle.tree_laws.proofs.NestedOfElements.{IsPushed, inserted-opened, nested-insert_void, nested-inserted, nested-mark_current, nested-with_root, pushed-at}
 use Rattle.tree_laws.proofs.NestedOfLists.{nested-end_block, nested-expected, nested-with_marker}
 

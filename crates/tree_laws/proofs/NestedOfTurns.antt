@@ -16,14 +16,14 @@ use Rattle.tree_construction.specs.Page.Place.{LastChild}
 use Rattle.tree_construction.specs.Parser.{Parser, expects_current, mistaken, on_page, place_in}
 use Rattle.tree_construction.specs.Tokens.{StartTagOf}
 use Rattle.tree_laws.specs.Laws.{AreOrderly, next_number}
-use Rattle.tree_laws.specs.Trees.{IsOutside, KeepTree, KeepsTree, IsWithin, moved_to, parent_after, parent_at, template_after}
+use Rattle.tree_laws.specs.Trees.{AreNested, AreOutside, IsOutside, KeepTree, KeepsTree, IsWithin, moved_to, parent_after, parent_at, template_after}
 use Rattle.tree_laws.specs.Trees.IsWithin.{InParent, InTemplate, Itself}
 use Rattle.tree_laws.proofs.Numbers.{AreOpenBelow, Numbers, node-below, raised-opened}
 use Rattle.tree_laws.proofs.NumbersOfAdoption.{IsFoundBelow, below-appended, below-drop, below-last_named, below-opened_inside, below-opened_outside, below-take, noted-next, nth-below, adopted-numbers, numbers-unformatted, open-below}
 use Rattle.tree_laws.proofs.NumbersOfLists.{below-without_entry, with-list}
 use Rattle.tree_laws.proofs.Trees.{AddsNone, moving-keeps, moving-leads, no-parent, no-template, outside-alone, put-keeps, put-leads, removal-adds-none, same-lines, stood}
 use Rattle.tree_laws.proofs.NoLoops.{parents-outside, templates-outside}
-use Rattle.tree_laws.proofs.Nested.{AreNested, AreOutside, TreeOf, nested-if-parser, nested-kept, nested-mistaken, nested-on_page, nested-popped, nested-popped_until, nested-popped_while, nested-removed-from-stack, nested-same, outside-fresh, outside-kept, outside-same, own-tree, pop-adds-none, with-tree}
+use Rattle.tree_laws.proofs.Nested.{TreeOf, nested-if-parser, nested-kept, nested-mistaken, nested-on_page, nested-popped, nested-popped_until, nested-popped_while, nested-removed-from-stack, nested-same, outside-fresh, outside-kept, outside-same, own-tree, pop-adds-none, with-tree}
 use Rattle.tree_laws.proofs.NestedOfLists.{nested-expected, nested-insert-formatting, nested-reconstructed}
 use Rattle.tree_laws.proofs.NestedOfAdoption.{InnerTree, IsInNone, StandsAt, alone-in-none, ancestor-outside, block-stands, in-none, led-nested, led-outside-all, nested-between, nested-inner_loop, nested-among, nested-tail, not-self, plain-inside, removed-parent}
 

@@ -13,7 +13,7 @@ use Rattle.html5reading.specs.Start.{Rules, Start}
 use Rattle.html5reading.proofs.Splitting.{told-within}
 use Rattle.tree_construction.specs.Construction.{is_foreign, run, start, told_all}
 use Rattle.tree_laws.specs.Laws.{AreOrderly, Extends}
-use Rattle.tree_laws.specs.Trees.{KeepTree}
+use Rattle.tree_laws.specs.Trees.{AreNested, KeepTree}
 use Rattle.tree_construction.specs.Page.{Edit}
 use Rattle.tree_construction.specs.Parser.{Options, Parser}
 use Rattle.tree_construction.specs.Tokens.{Token}
@@ -72,6 +72,10 @@ nested-stepped (m ∷ ms) p h = nested-stepped ms (taken_by p m.token m.line) (n
 
 pub messages-keep-tree : (options : Options) (messages : List Told) → KeepTree (told_all messages (start options)).page.edits
 messages-keep-tree options messages = (nested-told_all 3 messages (start options) (nested-start options)).tree
+
+pub open-elements-are-nested : (options : Options) (messages : List Told)
+    → AreNested (told_all messages (start options)).page.edits (told_all messages (start options)).page.opened
+open-elements-are-nested options messages = (nested-told_all 3 messages (start options) (nested-start options)).nested
 
 pub text-keeps-tree : (options : Options) (rules : Rules) (text : List ℕ) → KeepTree (parser_of_text options rules text).page.edits
 text-keeps-tree options rules text = (nested-stepped (messages_of_text options rules text) (start options) (nested-start options)).tree

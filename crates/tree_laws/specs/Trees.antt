@@ -1,6 +1,6 @@
 -- That a document is a tree, in words that contracts cite: parents after edits, descendants, and edits that keep a tree.
 use Rattle.std.specs.Prelude.{◌≡◌, ℕ, List, [], ◌∷◌, ◌==◌, Option, Some, None, if◌then◌else◌}
-use Rattle.tree_construction.specs.Page.{Edit, Place}
+use Rattle.tree_construction.specs.Page.{Edit, Open, Place, inside}
 use Rattle.tree_construction.specs.Page.Place.{LastChild, BeforeTable, BesideNode}
 use Rattle.tree_construction.specs.Page.Edit.{MakeElement, MakeContents, MakeComment, PutDoctype, Put, PutText, Remove, MoveChildren, AddAttributes, SetQuirksMode, MarkStarted, AssociateForm, Pop, ParseError}
 
@@ -65,3 +65,15 @@ KeepsTree (ParseError mistake) before = Unit {0}
 unfoldable pub KeepTree : List Edit → Type 0
 KeepTree [] = Unit {0}
 KeepTree (edit ∷ before) = KeepsTree edit before × KeepTree before
+
+-- ---- the stack of open elements
+
+-- these open elements, and the document, are neither a node nor a descendant of it
+unfoldable pub AreOutside : List Edit → ℕ → List Open → Type 0
+AreOutside edits n [] = IsOutside edits n 0
+AreOutside edits n (e ∷ es) = IsOutside edits n e.node × IsOutside edits n (inside e) × AreOutside edits n es
+
+-- The current node is the first of them. No outer one is the same element as one before it, or its descendant.
+unfoldable pub AreNested : List Edit → List Open → Type 0
+AreNested edits [] = Unit {0}
+AreNested edits (e ∷ es) = AreOutside edits e.node es × AreNested edits es

@@ -1,5 +1,5 @@
 use Rattle.tree_laws.proofs.NoLoops.{parents-outside, templates-outside}
-use Rattle.tree_laws.proofs.TextLaws.{messages-keep-tree, text-keeps-tree}
+use Rattle.tree_laws.proofs.TextLaws.{messages-keep-tree, open-elements-are-nested, text-keeps-tree}
 use Rattle.tree_laws.proofs.document_is_a_tree.Goals as goal
 
 pub returns-clause-messages : goal.returns-clause-messages
@@ -13,3 +13,6 @@ returns-clause-parents c edits n parent tree is = parents-outside edits tree n p
 
 pub returns-clause-templates : goal.returns-clause-templates
 returns-clause-templates c edits n template tree is = templates-outside edits tree n template is
+
+pub returns-clause-stack : goal.returns-clause-stack
+returns-clause-stack c = open-elements-are-nested
