@@ -1,8 +1,9 @@
 -- The document is a tree: each open element, and the document, is outside the open elements further in. The steps of a page keep that.
 use Rattle.std.proofs.Common.{◌≡◌, ℕ, ◌<◌, ◌≤◌, Bool, true, false, List, [], ◌∷◌, refl, sym, ◌∙◌, arith}
-use Rattle.std.specs.Prelude.{◌==◌, Option, Some, None, if◌then◌else◌}
+use Rattle.std.specs.Prelude.{suc, zero, ◌==◌, Option, Some, None, if◌then◌else◌}
 use Rattle.tree_laws.specs.Laws.{AreOrderly, next_number}
 use Rattle.tree_laws.specs.Trees.{AreNested, AreOutside, IsOutside, KeepTree, KeepsTree, or_else, parent_after, parent_at, template_after}
+use Rattle.tree_laws.specs.Trees.IsWithin.{Itself}
 use Rattle.tree_construction.specs.declared.mistakes.Mistake.{Mistake}
 use Rattle.tree_construction.specs.Page.{Edit, Open, Page, Place, edited, inside, left, popped, popped_of, popped_to_first, popped_to_first_in, popped_until, popped_until_in, popped_while, popped_while_in, removed_from_stack, without_open}
 use Rattle.tree_construction.specs.Page.Edit.{Put, Pop, ParseError}
@@ -31,7 +32,7 @@ TreeOf k p = PartTree k p.page p.formatting p.head p.form
 pub outside-kept : (s x : ℕ) (before after : List Edit) (es : List Open) → KeepsLines s before after → AreOutside before s es
     → AreOutside before x es → AreOutside after x es
 unfolding AreOutside
-outside-kept s x before after [] keeps out other = stays-outside s x before after 0 keeps out other
+outside-kept s x before after [] keeps out other = λ m less. stays-outside s x before after m keeps (out m less) (other m less)
 outside-kept s x before after (e ∷ es) keeps out other = (
   stays-outside s x before after e.node keeps out.0 other.0,
   stays-outside s x before after (inside e) keeps out.1 other.1,
@@ -47,7 +48,7 @@ nested-kept s before after (e ∷ es) keeps out nested =
 
 pub outside-same : (x : ℕ) (before after : List Edit) (es : List Open) → AddsNone before after → AreOutside before x es → AreOutside after x es
 unfolding AreOutside
-outside-same x before after [] adds out = λ stands. out (adds.none x 0 stands)
+outside-same x before after [] adds out = λ m less stands. out m less (adds.none x m stands)
 outside-same x before after (e ∷ es) adds out = (
   λ stands. out.0 (adds.none x e.node stands),
   λ stands. out.1 (adds.none x (inside e) stands),
@@ -61,15 +62,27 @@ nested-same before after (e ∷ es) adds nested =
     (outside-same e.node before after es adds nested.0, nested-same before after es adds nested.1)
 
 -- open elements were made before a new node
-pub outside-fresh : (edits : List Edit) (n : ℕ) (es : List Open) → AreOrderly edits → next_number edits ≤ n → 0 < next_number edits
+pub outside-fresh : (edits : List Edit) (n : ℕ) (es : List Open) → AreOrderly edits → next_number edits ≤ n → 3 ≤ next_number edits
     → AreOpenBelow (next_number edits) es → AreOutside edits n es
 unfolding AreOutside AreOpenBelow
-outside-fresh edits n [] orderly new some below = outside-new edits n 0 orderly new some
-outside-fresh edits n (e ∷ es) orderly new some below = (
+outside-fresh edits n [] orderly new begun below = λ m less. outside-new edits n m orderly new (omega (arith, less, begun))
+outside-fresh edits n (e ∷ es) orderly new begun below = (
   outside-new edits n e.node orderly new (node-below e (next_number edits) below.0),
   outside-new edits n (inside e) orderly new below.0,
-  outside-fresh edits n es orderly new some below.1,
+  outside-fresh edits n es orderly new begun below.1,
 )
+
+-- a node of which those from the start are outside is none of them
+begun-outside : (edits : List Edit) (x : ℕ) → ((m : ℕ) → m < 3 → IsOutside edits x m) → 3 ≤ x
+begun-outside edits zero out = absurd (out 0 (omega arith) Itself)
+begun-outside edits (suc zero) out = absurd (out 1 (omega arith) Itself)
+begun-outside edits (suc (suc zero)) out = absurd (out 2 (omega arith) Itself)
+begun-outside edits (suc (suc (suc x))) out = omega arith
+
+pub begun-if-outside : (edits : List Edit) (x : ℕ) (es : List Open) → AreOutside edits x es → 3 ≤ x
+unfolding AreOutside
+begun-if-outside edits x [] out = begun-outside edits x out
+begun-if-outside edits x (e ∷ es) out = begun-if-outside edits x es out.2
 
 -- ---- conditions
 
@@ -236,12 +249,12 @@ alone-after n before after parents adds h = record {
   below = λ m less stands. h.below m less (adds.none n m stands);
 }
 
-outside-below : (n : ℕ) (edits : List Edit) (es : List Open) → ((m : ℕ) → m < n → IsOutside edits n m) → 0 < n → AreOpenBelow n es
+outside-below : (n : ℕ) (edits : List Edit) (es : List Open) → ((m : ℕ) → m < n → IsOutside edits n m) → 3 ≤ n → AreOpenBelow n es
     → AreOutside edits n es
 unfolding AreOutside AreOpenBelow
-outside-below n edits [] out some below = out 0 some
-outside-below n edits (e ∷ es) out some below =
-    (out e.node (node-below e n below.0), out (inside e) below.0, outside-below n edits es out some below.1)
+outside-below n edits [] out begun below = λ m less. out m (omega (arith, less, begun))
+outside-below n edits (e ∷ es) out begun below =
+    (out e.node (node-below e n below.0), out (inside e) below.0, outside-below n edits es out begun below.1)
 
 spot-below : (n : ℕ) (parent : ℕ → Option ℕ) (place : Place) → ((m k : ℕ) → parent m ≡ Some k → k < n) → IsPlaceBelow n place → parent_at parent place < n
 spot-below n parent (LastChild m) parents below = below
@@ -262,12 +275,12 @@ pub record IsPut (place : Place) (n : ℕ) (edits : List Edit) (es : List Open) 
   pub nested : AreNested (Put place n ∷ edits) es
   pub outside : AreOutside (Put place n ∷ edits) n es
 
-pub put-alone : (place : Place) (n : ℕ) (edits : List Edit) (es : List Open) → IsAlone n edits → IsPlaceBelow n place → 0 < n → AreOpenBelow n es
+pub put-alone : (place : Place) (n : ℕ) (edits : List Edit) (es : List Open) → IsAlone n edits → IsPlaceBelow n place → 3 ≤ n → AreOpenBelow n es
     → AreNested edits es → IsPut place n edits es
-put-alone place n edits es h place_below some below nested =
-    let out : AreOutside edits n es = outside-below n edits es h.below some below in
+put-alone place n edits es h place_below begun below nested =
+    let out : AreOutside edits n es = outside-below n edits es h.below begun below in
     record {
-      keeps = (h.no_parent, h.below (parent_at (parent_after edits) place) (spot-below n (parent_after edits) place h.parents place_below));
+      keeps = (begun, h.no_parent, h.below (parent_at (parent_after edits) place) (spot-below n (parent_after edits) place h.parents place_below));
       nested = nested-kept n edits (Put place n ∷ edits) es (put-keeps place n edits) out nested;
       outside = outside-kept n n edits (Put place n ∷ edits) es (put-keeps place n edits) out out;
     }

@@ -18,7 +18,7 @@ use Rattle.tree_laws.specs.Trees.IsWithin.{InParent}
 use Rattle.tree_laws.proofs.Numbers.{AreListedBelow, AreOpenBelow, node-below, raised-opened}
 use Rattle.tree_laws.proofs.NumbersOfAdoption.{InnerNumbers, IsFoundBelow, below-appended, below-entry_of, below-list_at, cloned-next, numbers-cloned}
 use Rattle.tree_laws.proofs.Trees.{AddsNone, Leads, led-stood, no-parent, no-template, outside-alone, put-keeps, put-leads, removal-adds-none, same-lines}
-use Rattle.tree_laws.proofs.Nested.{nested-kept, nested-same, outside-fresh, outside-kept, outside-same, pop-adds-none}
+use Rattle.tree_laws.proofs.Nested.{begun-if-outside, nested-kept, nested-same, outside-fresh, outside-kept, outside-same, pop-adds-none}
 
 -- ---- lists of open elements
 
@@ -62,7 +62,7 @@ alone-in-none edits n (e ∷ es) no_parent no_template below = (
 module _ (s t : ℕ) (before after : List Edit) (leads : Leads s t before after) where
   pub led-outside-all : (x : ℕ) (es : List Open) → IsOutside before x t → AreOutside before x es → AreOutside after x es
   unfolding AreOutside
-  led-outside-all x [] at other = λ g. other (led-stood s t before after leads x 0 (λ a b. at b) g)
+  led-outside-all x [] at other = λ m less g. other m less (led-stood s t before after leads x m (λ a b. at b) g)
   led-outside-all x (e ∷ es) at other = (
     λ g. other.0 (led-stood s t before after leads x e.node (λ a b. at b) g),
     λ g. other.1 (led-stood s t before after leads x (inside e) (λ a b. at b) g),
@@ -178,10 +178,11 @@ nested-clone m block low around e list inner below_low below_around plain number
     let no_template : template_after made n ≡ None = no-template before n h.numbers.orderly next in
     let below_X : AreOpenBelow n X = below-appended n low inner.clones (raised-opened m n low le below_low) h.numbers.cloned in
     let around_n : AreOpenBelow n around = raised-opened m n around le below_around in
-    let some : 0 < n = omega (arith, h.numbers.begun) in
+    let begun : 3 ≤ n = h.numbers.begun in
     let in_place : inside new ≡ n = plain-inside n e plain in
     let fresh : AreOutside before n around =
-    outside-fresh before n around h.numbers.orderly next (subst (λ i. 0 < i) h.numbers.made some) (subst (λ i. AreOpenBelow i around) h.numbers.made around_n) in
+    outside-fresh before n around h.numbers.orderly next (subst (λ i. 3 ≤ i) h.numbers.made begun)
+    (subst (λ i. AreOpenBelow i around) h.numbers.made around_n) in
     let new_out : AreOutside made n around = outside-same n before made around adds fresh in
     let last_out : AreOutside made last around = outside-same last before made around adds h.last_out in
     let last_below : IsOutside made last n = outside-alone made last n no_parent no_template (not-self last n h.numbers.last_made) in
@@ -194,7 +195,7 @@ nested-clone m block low around e list inner below_low below_around plain number
     nested-kept last made later (new ∷ around) (put-keeps (LastChild n) last made) last_all (nested-tail made X (new ∷ around) among) in
     record {
       numbers = numbers;
-      tree = ((removed-parent last (Pop e.node ∷ remake n e ∷ before), last_below), (tt, (tt, (tt, h.tree))));
+      tree = ((begun-if-outside before last around h.last_out, removed-parent last (Pop e.node ∷ remake n e ∷ before), last_below), (tt, (tt, (tt, h.tree))));
       nested = subst (λ es. AreNested later es) (sym (appended-between low inner.clones around new))
           (led-nested last n made later (put-leads (LastChild n) last made last_below) X (new ∷ around) none among outer);
       last_out = outside-kept last n made later around (put-keeps (LastChild n) last made) last_out new_out;
@@ -326,12 +327,12 @@ block-stands n d es scope is =
 
 child-outside : (edits : List Edit) (x : ℕ) (es : List Open) → AreOutside edits x es → IsOutside edits x (parent_at (parent_after edits) (last_child_of es))
 unfolding AreOutside
-child-outside edits x [] out = out
+child-outside edits x [] out = out 0 (omega arith)
 child-outside edits x (e ∷ es) out = out.1
 
 first-outside : (edits : List Edit) (x : ℕ) (es : List Open) → AreOutside edits x es → IsOutside edits x (inside_first es)
 unfolding AreOutside
-first-outside edits x [] out = out
+first-outside edits x [] out = out 0 (omega arith)
 first-outside edits x (e ∷ es) out = out.1
 
 before-outside : (edits : List Edit) (x table above : ℕ) → IsOutside edits x table → IsOutside edits x above

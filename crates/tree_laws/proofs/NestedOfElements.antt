@@ -44,7 +44,7 @@ comment k place text p below numbers h =
     let new : IsAlone n made =
     alone-after n before made (λ m. refl) adds (subst (λ i. IsAlone i before) (sym same) (alone before h.numbers.of_page.orderly)) in
     let put : IsPut place n made p.page.opened =
-    put-alone place n made p.page.opened new below (some-made k p h.numbers) h.numbers.of_page.opened (nested-same before made p.page.opened adds h.nested) in
+    put-alone place n made p.page.opened new below h.numbers.of_page.begun h.numbers.of_page.opened (nested-same before made p.page.opened adds h.nested) in
     record { numbers = numbers; tree = (put.keeps, (tt, h.tree)); nested = put.nested }
 
 pub nested-insert_comment : (k : ℕ) (text : List ℕ) (p : Parser) → TreeOf k p → TreeOf k (insert_comment text p)
@@ -78,10 +78,10 @@ new-after n edit edits es parents templates keeps h =
       nested = nested-same edits (edit ∷ edits) es adds h.nested;
     }
 
-new-with-contents : (n : ℕ) (edits : List Edit) (es : List Open) → AreOrderly edits → next_number edits ≡ suc n → AreOpenBelow (suc n) es
+new-with-contents : (n : ℕ) (edits : List Edit) (es : List Open) → AreOrderly edits → next_number edits ≡ suc n → 3 ≤ n → AreOpenBelow (suc n) es
     → IsNew n edits es → IsNew n (MakeContents n (suc n) ∷ edits) es
 unfolding KeepTree parent_after
-new-with-contents n edits es orderly next below h =
+new-with-contents n edits es orderly next begun below h =
     let after : List Edit = MakeContents n (suc n) ∷ edits in
     let le : next_number edits ≤ suc n = subst (λ i. i ≤ suc n) (sym next) (omega arith) in
     record {
@@ -93,7 +93,7 @@ new-with-contents n edits es orderly next below h =
       };
       tree = (outside-new edits (suc n) n orderly le (subst (λ i. n < i) (sym next) (omega arith)), h.tree);
       nested = nested-kept (suc n) edits after es (contents-keep n (suc n) edits)
-          (outside-fresh edits (suc n) es orderly le (subst (λ i. 0 < i) (sym next) (omega arith)) (subst (λ i. AreOpenBelow i es) (sym next) below)) h.nested;
+          (outside-fresh edits (suc n) es orderly le (subst (λ i. 3 ≤ i) (sym next) (omega (arith, begun))) (subst (λ i. AreOpenBelow i es) (sym next) below)) h.nested;
     }
 
 -- with its contents, if it is a template
@@ -116,7 +116,7 @@ new-made k kind name attributes p es below tree nested h = by_test (is_template 
     })
 
     by_test : (test : Bool) → IsNew n (if test then MakeContents n (suc n) ∷ make ∷ p.page.edits else make ∷ p.page.edits) es
-    by_test true = new-with-contents n (make ∷ p.page.edits) es (h.of_page.next, h.of_page.orderly) refl
+    by_test true = new-with-contents n (make ∷ p.page.edits) es (h.of_page.next, h.of_page.orderly) refl h.of_page.begun
         (raised-opened n (suc n) es (omega arith) below) element
     by_test false = element
 
@@ -126,11 +126,11 @@ pub record IsPushed (n : ℕ) (edits : List Edit) (es : List Open) : Type 0 wher
   pub nested : AreNested edits es
   pub outside : AreOutside edits n es
 
-pushed-new : (n : ℕ) (place : Place) (edits : List Edit) (es : List Open) → IsPlaceBelow n place → 0 < n → AreOpenBelow n es → IsNew n edits es
+pushed-new : (n : ℕ) (place : Place) (edits : List Edit) (es : List Open) → IsPlaceBelow n place → 3 ≤ n → AreOpenBelow n es → IsNew n edits es
     → IsPushed n (Put place n ∷ edits) es
 unfolding KeepTree
-pushed-new n place edits es place_below some below h =
-    let put : IsPut place n edits es = put-alone place n edits es h.is_alone place_below some below h.nested in
+pushed-new n place edits es place_below begun below h =
+    let put : IsPut place n edits es = put-alone place n edits es h.is_alone place_below begun below h.nested in
     record { tree = (put.keeps, h.tree); nested = put.nested; outside = put.outside }
 
 new-associated : (n : ℕ) (form : Option ℕ) (takes : Bool) (place : Place) (page : Page) (es : List Open) → IsNew n page.edits es
@@ -154,7 +154,7 @@ pushed-at k place kind name attributes p es place_below below tree nested h =
     let n : ℕ = p.page.next in
     let page : Page = made kind name attributes p.page in
     let takes : Bool = takes_form p kind attributes in
-    pushed-new n place (associated_with p.form takes n place page).edits es place_below (some-made k p h) below
+    pushed-new n place (associated_with p.form takes n place page).edits es place_below h.of_page.begun below
     (new-associated n p.form takes place page es (new-made k kind name attributes p es below tree nested h))
 
 pub inserted-opened : (place : Place) (kind : Kind) (name : List ℕ) (attributes : List AttributeOf) (p : Parser)
@@ -197,7 +197,7 @@ unfolding AreNested
 nested-with_root k attributes p h =
     let n : ℕ = p.page.next in
     let put : IsPushed n (Put (LastChild 0) n ∷ (made HtmlRoot (codes "html") attributes p.page).edits) p.page.opened =
-    pushed-new n (LastChild 0) (made HtmlRoot (codes "html") attributes p.page).edits p.page.opened (some-made k p h.numbers) (some-made k p h.numbers)
+    pushed-new n (LastChild 0) (made HtmlRoot (codes "html") attributes p.page).edits p.page.opened (some-made k p h.numbers) h.numbers.of_page.begun
     h.numbers.of_page.opened (new-made k HtmlRoot (codes "html") attributes p p.page.opened h.numbers.of_page.opened h.tree h.nested h.numbers) in
     record { numbers = numbers-with_root k attributes p h.numbers; tree = put.tree; nested = (put.outside, put.nested) }
 

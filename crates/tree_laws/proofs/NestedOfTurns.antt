@@ -23,7 +23,7 @@ use Rattle.tree_laws.proofs.NumbersOfAdoption.{IsFoundBelow, below-appended, bel
 use Rattle.tree_laws.proofs.NumbersOfLists.{below-without_entry, with-list}
 use Rattle.tree_laws.proofs.Trees.{AddsNone, moving-keeps, moving-leads, no-parent, no-template, outside-alone, put-keeps, put-leads, removal-adds-none, same-lines, stood}
 use Rattle.tree_laws.proofs.NoLoops.{parents-outside, templates-outside}
-use Rattle.tree_laws.proofs.Nested.{TreeOf, nested-if-parser, nested-kept, nested-mistaken, nested-on_page, nested-popped, nested-popped_until, nested-popped_while, nested-removed-from-stack, nested-same, outside-fresh, outside-kept, outside-same, own-tree, pop-adds-none, with-tree}
+use Rattle.tree_laws.proofs.Nested.{begun-if-outside, TreeOf, nested-if-parser, nested-kept, nested-mistaken, nested-on_page, nested-popped, nested-popped_until, nested-popped_while, nested-removed-from-stack, nested-same, outside-fresh, outside-kept, outside-same, own-tree, pop-adds-none, with-tree}
 use Rattle.tree_laws.proofs.NestedOfLists.{nested-expected, nested-insert-formatting, nested-reconstructed}
 use Rattle.tree_laws.proofs.NestedOfAdoption.{InnerTree, IsInNone, StandsAt, alone-in-none, ancestor-outside, block-stands, in-none, led-nested, led-outside-all, nested-between, nested-inner_loop, nested-among, nested-tail, not-self, plain-inside, removed-parent}
 
@@ -44,7 +44,7 @@ last-placed place last edits X around nested out at_place =
     let last_out : AreOutside before last around = outside-same last edits before around adds out in
     let apart : IsOutside before last at = at_place last last_out in
     record {
-      keeps = (removed-parent last edits, apart);
+      keeps = (begun-if-outside edits last around out, removed-parent last edits, apart);
       nested = led-nested last at before (Put place last ∷ before) (put-leads place last before apart) X around
           (in-none before at X around at_place here) here
           (nested-kept last before (Put place last ∷ before) around (put-keeps place last before) last_out (nested-tail before X around here));
@@ -77,6 +77,7 @@ source-outside edits n _ tree out other (InTemplate block outer is stands) =
 -- a new element that isn't put yet, inside the block
 record IsRemade (n : ℕ) (edits : List Edit) (within : List Open) (new block : Open) (rest : List Open) : Type 0 where
   pub tree : KeepTree edits
+  pub begun : 3 ≤ n
   pub number : new.node ≡ n
   pub no_parent : parent_after edits n ≡ None
   pub no_template : template_after edits n ≡ None
@@ -136,7 +137,7 @@ put-in-block n edits within new block rest h =
     let new_out : AreOutside after n (block ∷ rest) =
     led-outside-all n b before after (put-leads (LastChild b) n before moved.apart) n (block ∷ rest) moved.apart moved.out in
     record {
-      tree = ((none, moved.apart), (moved.keeps, h.tree));
+      tree = ((h.begun, none, moved.apart), (moved.keeps, h.tree));
       nested = led-nested n b before after (put-leads (LastChild b) n before moved.apart) within (new ∷ block ∷ rest)
           (in-none before b within (new ∷ block ∷ rest) (λ x out. out.2.0) moved.nested) moved.nested
           (subst (λ i. AreOutside after i (block ∷ rest)) (sym h.number) new_out, outer);
@@ -177,19 +178,20 @@ first-inner k p n d stands h =
 
 -- after it: a new element for the formatting element, among those that are left
 remade-inside : (n : ℕ) (f : Listed) (edits : List Edit) (within : List Open) (block : Open) (rest : List Open) → AreOrderly edits
-    → n ≡ next_number edits → is_template f.kind ≡ false → inside block ≡ block.node → 0 < n → AreOpenBelow n within → AreOpenBelow n (block ∷ rest)
+    → n ≡ next_number edits → is_template f.kind ≡ false → inside block ≡ block.node → 3 ≤ n → AreOpenBelow n within → AreOpenBelow n (block ∷ rest)
     → KeepTree edits → AreNested edits (within ++ block ∷ rest) → IsRemade n (remake n f ∷ edits) within (remade_open n f) block rest
 unfolding KeepTree AreOpenBelow parent_after template_after
-remade-inside n f edits within block rest orderly next plain block_plain some below_within below_rest tree nested =
+remade-inside n f edits within block rest orderly next plain block_plain begun below_within below_rest tree nested =
     let made : List Edit = remake n f ∷ edits in
     let le : next_number edits ≤ n = subst (λ i. i ≤ n) next (omega arith) in
     let adds : AddsNone edits made = same-lines edits made (λ m. refl) (λ m. refl) in
     let none : parent_after edits n ≡ None = no-parent edits n orderly le in
     let no_contents : template_after edits n ≡ None = no-template edits n orderly le in
     let fresh : AreOutside edits n (block ∷ rest) =
-    outside-fresh edits n (block ∷ rest) orderly le (subst (λ i. 0 < i) next some) (subst (λ i. AreOpenBelow i (block ∷ rest)) next below_rest) in
+    outside-fresh edits n (block ∷ rest) orderly le (subst (λ i. 3 ≤ i) next begun) (subst (λ i. AreOpenBelow i (block ∷ rest)) next below_rest) in
     record {
       tree = (tt, tree);
+      begun = begun;
       number = refl;
       no_parent = none;
       no_template = no_contents;
@@ -223,7 +225,7 @@ adopted-tree k p f d inner plain stands numbers h whole =
     let X : List Open = (within ++ block ∷ []) ++ inner.clones in
     let before : List Edit = Put place inner.last ∷ Remove inner.last ∷ inner.edits in
     let le : m ≤ n = h.numbers.rises in
-    let some : 0 < n = omega (arith, h.numbers.begun) in
+    let begun : 3 ≤ n = h.numbers.begun in
     let some_made : 0 < m = omega (arith, whole.numbers.of_page.begun) in
     let placed : IsPlaced place inner.last inner.edits (X ++ around) =
     last-placed place inner.last inner.edits X around h.nested h.last_out
@@ -239,7 +241,7 @@ adopted-tree k p f d inner plain stands numbers h whole =
     let below_rest : AreOpenBelow n rest =
     below-appended n inner.clones outer h.numbers.cloned (raised-opened m n outer le below_outer) in
     let remade : IsRemade n (remake n f ∷ before) within (remade_open n f) block rest =
-    remade-inside n f before within block rest orderly h.numbers.made plain block_plain some below_within (omega (arith, block_below, le), below_rest)
+    remade-inside n f before within block rest orderly h.numbers.made plain block_plain begun below_within (omega (arith, block_below, le), below_rest)
     (placed.keeps, (tt, h.tree)) left in
     let done : IsInBlock n (remake n f ∷ before) within (remade_open n f) block rest =
     put-in-block n (remake n f ∷ before) within (remade_open n f) block rest remade in

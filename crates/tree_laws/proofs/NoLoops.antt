@@ -19,7 +19,7 @@ pub parents-outside : (edits : List Edit) → KeepTree edits → (n outer : ℕ)
 unfolding KeepTree parent_after template_after
 parents-outside [] tree n outer is = absurd (none-some outer is)
 parents-outside (Put place i ∷ before) tree n outer is =
-    parent-stays-outside i (parent_at (parent_after before) place) before (Put place i ∷ before) (put-leads place i before tree.0.1)
+    parent-stays-outside i (parent_at (parent_after before) place) before (Put place i ∷ before) (put-leads place i before tree.0.2)
     (parents-outside before tree.1) n outer is
 parents-outside (MakeContents template i ∷ before) tree n outer is =
     parent-stays-outside i template before (MakeContents template i ∷ before) (contents-lead template i before tree.0) (parents-outside before tree.1)
@@ -66,7 +66,7 @@ pub templates-outside : (edits : List Edit) → KeepTree edits → (n outer : �
 unfolding KeepTree parent_after template_after
 templates-outside [] tree n outer is = absurd (none-some outer is)
 templates-outside (Put place i ∷ before) tree n outer is =
-    template-stays-outside i (parent_at (parent_after before) place) before (Put place i ∷ before) (put-leads place i before tree.0.1)
+    template-stays-outside i (parent_at (parent_after before) place) before (Put place i ∷ before) (put-leads place i before tree.0.2)
     (templates-outside before tree.1) n outer is
 templates-outside (MakeContents template i ∷ before) tree n outer is =
     template-stays-outside i template before (MakeContents template i ∷ before) (contents-lead template i before tree.0) (templates-outside before tree.1)

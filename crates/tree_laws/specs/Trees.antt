@@ -1,5 +1,5 @@
 -- That a document is a tree, in words that contracts cite: parents after edits, descendants, and edits that keep a tree.
-use Rattle.std.specs.Prelude.{◌≡◌, ℕ, List, [], ◌∷◌, ◌==◌, Option, Some, None, if◌then◌else◌}
+use Rattle.std.specs.Prelude.{◌≡◌, ℕ, ◌<◌, ◌≤◌, List, [], ◌∷◌, ◌==◌, Option, Some, None, if◌then◌else◌}
 use Rattle.tree_construction.specs.Page.{Edit, Open, Place, inside}
 use Rattle.tree_construction.specs.Page.Place.{LastChild, BeforeTable, BesideNode}
 use Rattle.tree_construction.specs.Page.Edit.{MakeElement, MakeContents, MakeComment, PutDoctype, Put, PutText, Remove, MoveChildren, AddAttributes, SetQuirksMode, MarkStarted, AssociateForm, Pop, ParseError}
@@ -43,14 +43,14 @@ pub data IsWithin (edits : List Edit) (outer : ℕ) : ℕ → Type 0 where
 abbrev pub IsOutside : List Edit → ℕ → ℕ → Type 0
 IsOutside edits n m = IsWithin edits n m → ⊥
 
--- DOM, "ensure pre-insert validity": a node is put into neither itself nor a descendant. It has no parent until then. Children move to no
--- descendant of their parent.
+-- DOM, "ensure pre-insert validity": a node is put into neither itself nor a descendant. It has no parent until then, and was made
+-- by an edit. Children move to no descendant of their parent.
 abbrev pub KeepsTree : Edit → List Edit → Type 0
 KeepsTree (MakeElement n namespace name attributes) before = Unit {0}
 KeepsTree (MakeContents template n) before = IsOutside before n template
 KeepsTree (MakeComment n text) before = Unit {0}
 KeepsTree (PutDoctype name public_id system_id) before = Unit {0}
-KeepsTree (Put place n) before = (parent_after before n ≡ None) × IsOutside before n (parent_at (parent_after before) place)
+KeepsTree (Put place n) before = (3 ≤ n) × (parent_after before n ≡ None) × IsOutside before n (parent_at (parent_after before) place)
 KeepsTree (PutText place text) before = Unit {0}
 KeepsTree (Remove n) before = Unit {0}
 KeepsTree (MoveChildren source target) before = IsOutside before source target
@@ -68,9 +68,9 @@ KeepTree (edit ∷ before) = KeepsTree edit before × KeepTree before
 
 -- ---- the stack of open elements
 
--- these open elements, and the document, are neither a node nor a descendant of it
+-- these open elements, and the nodes that are there from the start, are neither a node nor a descendant of it
 unfoldable pub AreOutside : List Edit → ℕ → List Open → Type 0
-AreOutside edits n [] = IsOutside edits n 0
+AreOutside edits n [] = (m : ℕ) → m < 3 → IsOutside edits n m
 AreOutside edits n (e ∷ es) = IsOutside edits n e.node × IsOutside edits n (inside e) × AreOutside edits n es
 
 -- The current node is the first of them. No outer one is the same element as one before it, or its descendant.
