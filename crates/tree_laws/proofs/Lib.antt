@@ -16,6 +16,7 @@ pub mod NestedOfPointers
 pub mod NestedOfAdoption
 pub mod NestedOfTurns
 pub mod NestedSteps
+pub mod Rows
 pub mod Asking
 pub mod Calm
 pub mod CalmSteps

@@ -11,6 +11,7 @@ ghost use Rattle.html5sinks.specs.Replies.{standard_reply};
 ghost use Rattle.tree_construction.specs.Construction.{is_foreign, start, told_all};
 ghost use Rattle.tree_laws.specs.Laws.{AreOrderly, AsksAsParser, Extends, IsInBody};
 ghost use Rattle.tree_laws.specs.Trees.{AreNested, IsOutside, KeepTree, parent_after, template_after};
+ghost use Rattle.tree_construction.specs.Document.{built, parent_of};
 ghost use Rattle.tree_construction.specs.Page.{Edit};
 ghost use Rattle.tree_construction.specs.Parser.{Options, Parser};
 ghost use Rattle.tree_construction.specs.Text.{parser_of_text, parser_so_far, replied_by, taken_by};
@@ -40,6 +41,7 @@ pub fn nodes_are_numbered()
 /// The document is a tree. A node that is put has no parent until then, and is put into neither itself nor a descendant (`KeepTree`).
 /// So it is after any messages (`messages`), and of any text (`text`). After such edits a node's parent is no descendant of that node
 /// (`parents`), and neither is the template whose contents it is (`templates`). The contents of a template count as its descendants.
+/// The rows of the document have the parents that these clauses speak of (`rows`; `AreOrderly`: see `nodes_are_numbered`).
 /// No element is twice on the stack of open elements, and none of them is a descendant of one further in (`stack`).
 pub fn document_is_a_tree()
     ensures messages { (options : Options) (messages : List Told) → KeepTree (told_all messages (start options)).page.edits }
@@ -47,6 +49,7 @@ pub fn document_is_a_tree()
     ensures parents { (edits : List Edit) (n parent : ℕ) → KeepTree edits → parent_after edits n ≡ Some parent → IsOutside edits n parent }
     ensures templates { (edits : List Edit) (n template : ℕ) → KeepTree edits → template_after edits n ≡ Some template
         → IsOutside edits n template }
+    ensures rows { (edits : List Edit) (n : ℕ) → AreOrderly edits → KeepTree edits → parent_of n (built edits) ≡ parent_after edits n }
     ensures stack { (options : Options) (messages : List Told)
         → AreNested (told_all messages (start options)).page.edits (told_all messages (start options)).page.opened }
 {}

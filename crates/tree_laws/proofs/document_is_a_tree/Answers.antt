@@ -1,4 +1,5 @@
 use Rattle.tree_laws.proofs.NoLoops.{parents-outside, templates-outside}
+use Rattle.tree_laws.proofs.Rows.{rows-have-parents}
 use Rattle.tree_laws.proofs.TextLaws.{messages-keep-tree, open-elements-are-nested, text-keeps-tree}
 use Rattle.tree_laws.proofs.document_is_a_tree.Goals as goal
 
@@ -16,3 +17,6 @@ returns-clause-templates c edits n template tree is = templates-outside edits tr
 
 pub returns-clause-stack : goal.returns-clause-stack
 returns-clause-stack c = open-elements-are-nested
+
+pub returns-clause-rows : goal.returns-clause-rows
+returns-clause-rows c edits n orderly tree = rows-have-parents edits orderly tree n
