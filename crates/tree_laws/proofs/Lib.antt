@@ -13,7 +13,9 @@ pub mod Nested
 pub mod NestedOfElements
 pub mod NestedOfLists
 pub mod NestedOfPointers
+pub mod Stacks
 pub mod NestedOfAdoption
+pub mod Moves
 pub mod NestedOfTurns
 pub mod NestedSteps
 pub mod Rows
