@@ -34,6 +34,8 @@ LAWS = [
         "Each step of tree construction makes numbers in their order, and names those that were made."),
     Law("Nested", "nested", "PageTree k {}", "TreeOf k {}", {"page", "formatting", "head", "form"}, "k", "ℕ", {}, set(),
         "Each step of tree construction keeps a tree, and no open element in one that is further in."),
+    Law("Pointing", "points", "Extends first {}.edits", "Points {}", {"page", "head", "form"}, "first", "List Edit", {}, set(),
+        "After each step of tree construction its pointers name a head and a form."),
     Law("Calm", "calm", None, "IsCalm {}", {"request", "options"}, "", "",
         {"Kind": "asks_text {} ≡ false", "StartTagOf": "asks_text (kind_of {}.name) ≡ false", "Token": "asks_text_by {} ≡ false"},
         {"Title", "Textarea", "Style", "Noframes", "Xmp", "Iframe", "Noembed", "Script", "Plaintext"},
@@ -216,7 +218,7 @@ class Prover:
         """The fields that the property speaks of."""
         if kind == "Parser":
             return self.law.fields
-        return {"edits"} if self.law.fields == {"page"} else {"edits", "next", "opened"}
+        return {"edits"} if ".edits" in (self.law.page or "") else {"edits", "next", "opened"}
 
     def property(self, kind, text):
         return (self.law.page if kind == "Page" else self.law.parser).format(text)

@@ -17,7 +17,7 @@ use Rattle.tree_construction.specs.Tokens.Token.{Doctype, StartTag, EndTag, Comm
 use Rattle.tree_construction.specs.Page.{Edit, Open, Page, edited, first_open, has_kind, inside, made, pushed, removed_from_stack}
 use Rattle.tree_construction.specs.Page.Place.{LastChild}
 use Rattle.tree_construction.specs.Page.Edit.{AddAttributes, MarkStarted, Put, PutDoctype, SetQuirksMode}
-use Rattle.tree_construction.specs.Parser.{Again, Parser, Request, all_implied_ended, asked, expects_current, has_template, in_mode, insert, insert_character, insert_comment, insert_comment_in_document, insert_void, insert_with_text, is_current, is_fragment, mistaken, not_frameset_ok, on_page, pop, pop_until, reads_text, unexpected}
+use Rattle.tree_construction.specs.Parser.{Again, Parser, Request, all_implied_ended, asked, expects_current, has_template, in_mode, insert, insert_character, insert_comment, insert_comment_in_document, insert_void, insert_with_text, inserted, is_current, is_fragment, mistaken, not_frameset_ok, on_page, pop, pop_until, reads_text, unexpected}
 use Rattle.tree_construction.specs.Parser.Request.{Run, UseCharset, UseContent}
 use Rattle.tree_construction.specs.Formatting.{cleared_to_marker, with_marker}
 use Rattle.tree_construction.specs.Resetting.{mode_reset}
@@ -94,7 +94,7 @@ abbrev pub start_html : StartTagOf → Parser → Parser
 start_html tag p = if has_template p then unexpected p else add_to_root tag (unexpected p)
 
 abbrev pub insert_head : StartTagOf → Parser → Parser
-insert_head tag p = in_mode InHead (record (insert tag p) { head = Some p.page.next })
+insert_head tag p = in_mode InHead (record (inserted Head (codes "head") tag.attributes p) { head = Some p.page.next })
 
 abbrev pub before_head_other : Again → Token → Parser → Parser
 before_head_other again token p = again (insert_head (bare_tag (codes "head")) p) token

@@ -17,7 +17,7 @@ use Rattle.tree_construction.specs.Tokens.{StartTagOf, Token, bare_tag, is_null,
 use Rattle.tree_construction.specs.Tokens.Token.{Doctype, StartTag, EndTag, Comment, Character, EndOfFile}
 use Rattle.tree_construction.specs.Page.{Edit, Open, Page, edited, first_open, has_in_scope, has_kind, has_name, has_number, has_open, popped_to_first, removed_from_stack, second_body}
 use Rattle.tree_construction.specs.Page.Edit.{AddAttributes, Remove}
-use Rattle.tree_construction.specs.Parser.{Again, Context, Parser, Request, acknowledges, asked, ended, ended_without_implied, expects_current, has_template, implied_ended, implied_ended_but, in_button_scope, in_mode, in_scope, insert, insert_character, insert_comment, insert_void, insert_with_text, inserted_at, is_current, mistaken, not_frameset_ok, on_page, paragraph_closed, place_of, pop, pop_until, reads_text, stop_parsing, unexpected, without_paragraph}
+use Rattle.tree_construction.specs.Parser.{Again, Context, Parser, Request, acknowledges, asked, ended, ended_without_implied, expects_current, has_template, implied_ended, implied_ended_but, in_button_scope, in_mode, in_scope, insert, insert_character, insert_comment, insert_void, inserted, insert_with_text, inserted_at, is_current, mistaken, not_frameset_ok, on_page, paragraph_closed, place_of, pop, pop_until, reads_text, stop_parsing, unexpected, without_paragraph}
 use Rattle.tree_construction.specs.Parser.Request.{ReadPlain}
 use Rattle.tree_construction.specs.Formatting.{cleared_to_marker, insert_formatting, last_named, Listed, reconstructed, with_marker, without_entry}
 use Rattle.tree_construction.specs.Adoption.{adoption_agency, any_other_end_tag}
@@ -141,7 +141,8 @@ end_paragraph p =
 
 -- "set the form element pointer to point to the element created"
 abbrev pub insert_form : StartTagOf → Parser → Parser
-insert_form tag p = let ready : Parser = without_paragraph p in record (insert tag ready) { form = Some ready.page.next }
+insert_form tag p =
+    let ready : Parser = without_paragraph p in record (inserted Form (codes "form") tag.attributes ready) { form = Some ready.page.next }
 
 abbrev pub start_form_outside : Option ℕ → StartTagOf → Parser → Parser
 start_form_outside None tag p = insert_form tag p

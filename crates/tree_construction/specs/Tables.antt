@@ -9,7 +9,7 @@ use Rattle.tree_construction.specs.Names.{ends_table_scope, is_body_context, is_
 use Rattle.tree_construction.specs.Tokens.{StartTagOf, Token, bare_tag, is_null, is_space}
 use Rattle.tree_construction.specs.Tokens.Token.{Doctype, StartTag, EndTag, Comment, Character, EndOfFile}
 use Rattle.tree_construction.specs.Page.{Open, has_kind, has_name}
-use Rattle.tree_construction.specs.Parser.{Again, Parser, cleared_back_to, ended, expects_current, has_template, implied_ended, in_mode, in_table_scope, insert, insert_character, insert_comment, insert_void, is_current, pop, pop_until, unexpected}
+use Rattle.tree_construction.specs.Parser.{Again, Parser, cleared_back_to, ended, expects_current, has_template, implied_ended, in_mode, in_table_scope, insert, insert_character, insert_comment, insert_void, inserted, is_current, pop, pop_until, unexpected}
 use Rattle.tree_construction.specs.Formatting.{cleared_to_marker, with_marker}
 use Rattle.tree_construction.specs.Resetting.{mode_reset}
 use Rattle.tree_construction.specs.BeforeBody.{end_template, start_html, start_in_head}
@@ -43,7 +43,7 @@ without_table p = mode_reset (pop_until (has_kind is_table) p)
 -- `form`: it is popped at once
 abbrev pub form_in_table : Option ℕ → StartTagOf → Parser → Parser
 form_in_table (Some n) tag p = p
-form_in_table None tag p = pop (record (insert tag p) { form = Some p.page.next })
+form_in_table None tag p = pop (record (inserted Form (codes "form") tag.attributes p) { form = Some p.page.next })
 
 abbrev pub start_form_in_table : StartTagOf → Parser → Parser
 start_form_in_table tag p = if has_template p then unexpected p else form_in_table p.form tag (unexpected p)

@@ -254,7 +254,8 @@ calm-start_html tag q-tag p h = calm-if-parser (has_template p) (unexpected p) (
     (calm-add_to_root tag q-tag (unexpected p) (calm-unexpected p h))
 
 pub calm-insert_head : (tag : StartTagOf) → asks_text (kind_of tag.name) ≡ false → (p : Parser) → IsCalm p → IsCalm (insert_head tag p)
-calm-insert_head tag q-tag p h = calm-in_mode InHead ((record (insert tag p) { head = Some p.page.next })) (calm-insert tag q-tag p h)
+calm-insert_head tag q-tag p h = calm-in_mode InHead ((record (inserted Head (codes "head") tag.attributes p) { head = Some p.page.next }))
+    (calm-inserted Head (codes "head") tag.attributes p h)
 
 pub calm-before_head_other : (again : Again) → ((q : Parser) → (t : Token) → asks_text_by t ≡ false → IsCalm q → IsCalm (again q t)) →
     (token : Token) → asks_text_by token ≡ false → (p : Parser) → IsCalm p → IsCalm (before_head_other again token p)
@@ -541,7 +542,7 @@ calm-end_paragraph p h = calm-paragraph_closed ((if in_button_scope (has_kind is
     ((bare_tag (codes "p"))) refl (unexpected p) (calm-unexpected p h)))
 
 pub calm-insert_form : (tag : StartTagOf) → asks_text (kind_of tag.name) ≡ false → (p : Parser) → IsCalm p → IsCalm (insert_form tag p)
-calm-insert_form tag q-tag p h = let ready : Parser = without_paragraph p in let h-ready : IsCalm ready = calm-without_paragraph p h in calm-insert tag q-tag ready h-ready
+calm-insert_form tag q-tag p h = let ready : Parser = without_paragraph p in let h-ready : IsCalm ready = calm-without_paragraph p h in calm-inserted Form (codes "form") tag.attributes ready h-ready
 
 pub calm-start_form_outside : (n : Option ℕ) → (tag : StartTagOf) → asks_text (kind_of tag.name) ≡ false → (p : Parser) → IsCalm p → IsCalm
     (start_form_outside n tag p)
@@ -832,7 +833,8 @@ calm-without_table p h = calm-mode_reset ((pop_until (has_kind is_table) p)) (ca
 pub calm-form_in_table : (n : Option ℕ) → (tag : StartTagOf) → asks_text (kind_of tag.name) ≡ false → (p : Parser) → IsCalm p → IsCalm
     (form_in_table n tag p)
 calm-form_in_table (Some n) tag q-tag p h = h
-calm-form_in_table None tag q-tag p h = calm-pop ((record (insert tag p) { form = Some p.page.next })) (calm-insert tag q-tag p h)
+calm-form_in_table None tag q-tag p h = calm-pop ((record (inserted Form (codes "form") tag.attributes p) { form = Some p.page.next }))
+    (calm-inserted Form (codes "form") tag.attributes p h)
 
 pub calm-start_form_in_table : (tag : StartTagOf) → asks_text (kind_of tag.name) ≡ false → (p : Parser) → IsCalm p → IsCalm
     (start_form_in_table tag p)

@@ -361,7 +361,8 @@ grows-start_html first tag p h = grows-if-parser first (has_template p) (unexpec
 
 pub grows-insert_head : (first : List Edit) → (tag : StartTagOf) → (p : Parser) → Extends first p.page.edits → Extends first
     (insert_head tag p).page.edits
-grows-insert_head first tag p h = grows-in_mode first InHead ((record (insert tag p) { head = Some p.page.next })) (grows-insert first tag p h)
+grows-insert_head first tag p h = grows-in_mode first InHead ((record (inserted Head (codes "head") tag.attributes p) { head = Some p.page.next }))
+    (grows-inserted first Head (codes "head") tag.attributes p h)
 
 pub grows-before_head_other : (first : List Edit) → (again : Again) → ((first : List Edit) → (q : Parser) → (t : Token) → Extends first q.page.edits
     → Extends first (again q t).page.edits) → (token : Token) → (p : Parser) → Extends first p.page.edits → Extends first
@@ -722,7 +723,7 @@ grows-end_paragraph first p h = grows-paragraph_closed first ((if in_button_scop
 
 pub grows-insert_form : (first : List Edit) → (tag : StartTagOf) → (p : Parser) → Extends first p.page.edits → Extends first
     (insert_form tag p).page.edits
-grows-insert_form first tag p h = let ready : Parser = without_paragraph p in let h-ready : Extends first ready.page.edits = grows-without_paragraph first p h in grows-insert first tag ready h-ready
+grows-insert_form first tag p h = let ready : Parser = without_paragraph p in let h-ready : Extends first ready.page.edits = grows-without_paragraph first p h in grows-inserted first Form (codes "form") tag.attributes ready h-ready
 
 pub grows-start_form_outside : (first : List Edit) → (n : Option ℕ) → (tag : StartTagOf) → (p : Parser) → Extends first p.page.edits → Extends first
     (start_form_outside n tag p).page.edits
@@ -1055,7 +1056,8 @@ grows-without_table first p h = grows-mode_reset first ((pop_until (has_kind is_
 pub grows-form_in_table : (first : List Edit) → (n : Option ℕ) → (tag : StartTagOf) → (p : Parser) → Extends first p.page.edits → Extends first
     (form_in_table n tag p).page.edits
 grows-form_in_table first (Some n) tag p h = h
-grows-form_in_table first None tag p h = grows-pop first ((record (insert tag p) { form = Some p.page.next })) (grows-insert first tag p h)
+grows-form_in_table first None tag p h = grows-pop first ((record (inserted Form (codes "form") tag.attributes p) { form = Some p.page.next }))
+    (grows-inserted first Form (codes "form") tag.attributes p h)
 
 pub grows-start_form_in_table : (first : List Edit) → (tag : StartTagOf) → (p : Parser) → Extends first p.page.edits → Extends first
     (start_form_in_table tag p).page.edits

@@ -19,6 +19,8 @@ pub mod Moves
 pub mod NestedOfTurns
 pub mod NestedSteps
 pub mod Rows
+pub mod Pointing
+pub mod PointingSteps
 pub mod Asking
 pub mod Calm
 pub mod CalmSteps

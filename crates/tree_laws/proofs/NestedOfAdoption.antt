@@ -19,7 +19,6 @@ use Rattle.tree_laws.proofs.Numbers.{AreListedBelow, AreOpenBelow, node-below, r
 use Rattle.tree_laws.proofs.NumbersOfAdoption.{InnerNumbers, IsFoundBelow, below-appended, below-entry_of, below-list_at, cloned-next, numbers-cloned}
 use Rattle.tree_laws.proofs.Trees.{AddsNone, no-parent, no-template, outside-alone, put-keeps, put-leads, removal-adds-none, same-lines}
 use Rattle.tree_laws.proofs.Nested.{begun-if-outside, nested-kept, nested-same, outside-fresh, outside-kept, outside-same, pop-adds-none}
-
 use Rattle.tree_laws.proofs.Stacks.{IsInNone, alone-in-none, led-nested, nested-between, nested-tail, not-self, outside-outside}
 
 -- ---- the inner loop

@@ -1,15 +1,15 @@
 -- The document is a tree: the list of active formatting elements, and the head and form element pointers.
 use Rattle.std.proofs.Common.{◌≡◌, ℕ, Bool, false, List, [], ◌∷◌, refl}
-use Rattle.std.specs.Prelude.{◌&&◌, not, Option, Some, None}
+use Rattle.std.specs.Prelude.{◌&&◌, not, Option, Some, None, codes}
 use Rattle.tree_construction.specs.declared.kinds.Kind.{Kind}
-use Rattle.tree_construction.specs.declared.kinds.Kind.TheVariants.{Font, Formatting}
+use Rattle.tree_construction.specs.declared.kinds.Kind.TheVariants.{Font, Form, Formatting, Head}
 use Rattle.tree_construction.specs.declared.mistakes.Mistake.TheVariants.{UnclosedElements, UnexpectedToken}
 use Rattle.tree_construction.specs.BeforeBody.{insert_head}
 use Rattle.tree_construction.specs.Formatting.{Listed, cleared_to_marker, insert_formatting, reconstructed, reopened, still_listed, to_reopen, with_marker}
 use Rattle.tree_construction.specs.InBody.{end_block, insert_form, start_font, start_formatting}
-use Rattle.tree_construction.specs.Names.{ends_button_scope, ends_scope, is_implied, is_paragraph, is_template, kind_of}
+use Rattle.tree_construction.specs.Names.{ends_button_scope, ends_scope, is_implied, is_paragraph, is_template}
 use Rattle.tree_construction.specs.Page.{Open, current_passes, has_in_scope, has_kind, popped, popped_until, popped_while}
-use Rattle.tree_construction.specs.Parser.{Entry, Parser, ended, expects_current, insert, inserted, mistaken, on_page, without_paragraph}
+use Rattle.tree_construction.specs.Parser.{Entry, Parser, ended, expects_current, inserted, mistaken, on_page, without_paragraph}
 use Rattle.tree_construction.specs.Tables.{form_in_table}
 use Rattle.tree_construction.specs.Tokens.{StartTagOf}
 use Rattle.tree_laws.proofs.Numbers.{Numbers}
@@ -56,12 +56,9 @@ nested-start_font k tag p h = nested-insert-formatting k Font tag (reconstructed
 
 -- ---- the head and form element pointers
 
-inserted-tag : (k : ℕ) (tag : StartTagOf) (p : Parser) → TreeOf k p → TreeOf k (insert tag p)
-inserted-tag k tag p h = nested-inserted k (kind_of tag.name) tag.name tag.attributes p h
-
 pub nested-insert_head : (k : ℕ) (tag : StartTagOf) (p : Parser) → TreeOf k p → TreeOf k (insert_head tag p)
 nested-insert_head k tag p h =
-    let later : TreeOf k (insert tag p) = inserted-tag k tag p h in
+    let later : TreeOf k (inserted Head (codes "head") tag.attributes p) = nested-inserted k Head (codes "head") tag.attributes p h in
     record { numbers = numbers-insert_head k tag p h.numbers; tree = later.tree; nested = later.nested }
 
 pub nested-expected : (k : ℕ) (test : Open → Bool) (p : Parser) → TreeOf k p → TreeOf k (expects_current test p)
@@ -79,13 +76,15 @@ nested-without_paragraph k p h =
 
 pub nested-insert_form : (k : ℕ) (tag : StartTagOf) (p : Parser) → TreeOf k p → TreeOf k (insert_form tag p)
 nested-insert_form k tag p h =
-    let later : TreeOf k (insert tag (without_paragraph p)) = inserted-tag k tag (without_paragraph p) (nested-without_paragraph k p h) in
+    let later : TreeOf k (inserted Form (codes "form") tag.attributes (without_paragraph p)) =
+    nested-inserted k Form (codes "form") tag.attributes (without_paragraph p) (nested-without_paragraph k p h) in
     record { numbers = numbers-insert_form k tag p h.numbers; tree = later.tree; nested = later.nested }
 
 pub nested-form_in_table : (k : ℕ) (form : Option ℕ) (tag : StartTagOf) (p : Parser) → TreeOf k p → TreeOf k (form_in_table form tag p)
 nested-form_in_table k (Some n) tag p h = h
 nested-form_in_table k None tag p h =
-    let later : TreeOf k (on_page popped (insert tag p)) = nested-on_page k popped nested-popped (insert tag p) (inserted-tag k tag p h) in
+    let put : Parser = inserted Form (codes "form") tag.attributes p in
+    let later : TreeOf k (on_page popped put) = nested-on_page k popped nested-popped put (nested-inserted k Form (codes "form") tag.attributes p h) in
     record { numbers = numbers-form_in_table k None tag p h.numbers; tree = later.tree; nested = later.nested }
 
 nested-ended : (k : ℕ) (test : Open → Bool) (p : Parser) → TreeOf k p → TreeOf k (ended test p)

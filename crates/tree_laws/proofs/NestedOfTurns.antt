@@ -23,7 +23,6 @@ use Rattle.tree_laws.proofs.Nested.{TreeOf, nested-if-parser, nested-mistaken, n
 use Rattle.tree_laws.proofs.NestedOfLists.{nested-expected, nested-insert-formatting, nested-reconstructed}
 use Rattle.tree_laws.proofs.Stacks.{alone-in-none, nested-between, nested-among, nested-tail}
 use Rattle.tree_laws.proofs.NestedOfAdoption.{InnerTree, StandsAt, ancestor-outside, block-stands, nested-inner_loop, plain-inside}
-
 use Rattle.tree_laws.proofs.Moves.{IsInBlock, IsPlaced, IsRemade, last-placed, put-in-block}
 
 -- ---- one turn with a furthest block

@@ -2,7 +2,8 @@
 use Rattle.std.proofs.Common.{◌≡◌, ℕ, ◌<◌, ◌≤◌, Bool, true, false, List, [], ◌∷◌, refl, sym, ◌∙◌, subst, arith}
 use Rattle.std.specs.Prelude.{◌&&◌, not, Option, Some, None, codes, if◌then◌else◌}
 use Rattle.tree_construction.specs.declared.mistakes.Mistake.TheVariants.{UnclosedElements, UnexpectedToken}
-use Rattle.tree_construction.specs.declared.kinds.Kind.TheVariants.{Head}
+use Rattle.tree_construction.specs.declared.kinds.Kind.{Kind}
+use Rattle.tree_construction.specs.declared.kinds.Kind.TheVariants.{Form, Head}
 use Rattle.tree_construction.specs.declared.modes.QuirksMode.{QuirksMode}
 use Rattle.html5ever_interface.specs.Token.{DoctypeOf}
 use Rattle.tree_construction.specs.Construction.{empty_parser, fragment_form, start, start_by}
@@ -10,10 +11,10 @@ use Rattle.tree_construction.specs.BeforeBody.{insert_head, or_empty, put_doctyp
 use Rattle.tree_construction.specs.InBody.{end_block, end_form, end_form_of, insert_form}
 use Rattle.tree_construction.specs.Tables.{form_in_table}
 use Rattle.tree_laws.specs.Laws.{AreOrderly, IsOrderlyEdit, next_number}
-use Rattle.tree_construction.specs.Names.{ends_button_scope, ends_scope, is_form, is_implied, is_paragraph, kind_of}
+use Rattle.tree_construction.specs.Names.{ends_button_scope, ends_scope, is_form, is_implied, is_paragraph}
 use Rattle.tree_construction.specs.Page.{Edit, Open, Page, current_passes, edited, has_in_scope, has_kind, has_number, left, popped, popped_until, popped_while, popped_while_in, pushed, removed_from_stack}
 use Rattle.tree_construction.specs.Page.Edit.{PutDoctype, SetQuirksMode}
-use Rattle.tree_construction.specs.Parser.{Context, Options, Parser, ended, expects_current, has_template, insert, mistaken, on_page, place_of, without_paragraph}
+use Rattle.tree_construction.specs.Parser.{Context, Options, Parser, ended, expects_current, has_template, inserted, mistaken, on_page, place_of, without_paragraph}
 use Rattle.tree_construction.specs.Tokens.{StartTagOf}
 use Rattle.tree_laws.proofs.Numbers.{AreListedBelow, AreOpenBelow, IsPointerBelow, Numbers, PageNumbers, numbers-if-parser, numbers-mistaken, numbers-on_page, numbers-popped, numbers-popped_until, numbers-popped_while, own, removed-from-stack, with-edit, with-page}
 use Rattle.tree_laws.proofs.NumbersOfElements.{inserted-next, numbers-inserted, numbers-with_root}
@@ -27,14 +28,13 @@ with-form k p form below h = record { of_page = h.of_page; of_list = h.of_list; 
 with-head : (k : ℕ) (p : Parser) (head : Option ℕ) → IsPointerBelow p.page.next head → Numbers k p → Numbers k (record p { head = head })
 with-head k p head below h = record { of_page = h.of_page; of_list = h.of_list; of_head = below; of_form = h.of_form }
 
-inserted-tag : (k : ℕ) (tag : StartTagOf) (p : Parser) → Numbers k p → Numbers k (insert tag p)
-inserted-tag k tag p h = numbers-inserted k (kind_of tag.name) tag.name tag.attributes p h
-
-tag-next : (tag : StartTagOf) (p : Parser) → p.page.next < (insert tag p).page.next
-tag-next tag p = inserted-next (place_of 0 p) (kind_of tag.name) tag.name tag.attributes p
+named-next : (kind : Kind) (name : List ℕ) (tag : StartTagOf) (p : Parser) → p.page.next < (inserted kind name tag.attributes p).page.next
+named-next kind name tag p = inserted-next (place_of 0 p) kind name tag.attributes p
 
 pub numbers-insert_head : (k : ℕ) (tag : StartTagOf) (p : Parser) → Numbers k p → Numbers k (insert_head tag p)
-numbers-insert_head k tag p h = with-head k (insert tag p) (Some p.page.next) (tag-next tag p) (inserted-tag k tag p h)
+numbers-insert_head k tag p h =
+    with-head k (inserted Head (codes "head") tag.attributes p) (Some p.page.next) (named-next Head (codes "head") tag p)
+    (numbers-inserted k Head (codes "head") tag.attributes p h)
 
 numbers-without_paragraph : (k : ℕ) (p : Parser) → Numbers k p → Numbers k (without_paragraph p)
 numbers-without_paragraph k p h =
@@ -48,13 +48,16 @@ numbers-without_paragraph k p h =
 pub numbers-insert_form : (k : ℕ) (tag : StartTagOf) (p : Parser) → Numbers k p → Numbers k (insert_form tag p)
 numbers-insert_form k tag p h =
     let ready : Parser = without_paragraph p in
-    with-form k (insert tag ready) (Some ready.page.next) (tag-next tag ready) (inserted-tag k tag ready (numbers-without_paragraph k p h))
+    with-form k (inserted Form (codes "form") tag.attributes ready) (Some ready.page.next) (named-next Form (codes "form") tag ready)
+    (numbers-inserted k Form (codes "form") tag.attributes ready (numbers-without_paragraph k p h))
 
 pub numbers-form_in_table : (k : ℕ) (form : Option ℕ) (tag : StartTagOf) (p : Parser) → Numbers k p → Numbers k (form_in_table form tag p)
 numbers-form_in_table k (Some n) tag p h = h
 numbers-form_in_table k None tag p h =
-    let later : Parser = record (insert tag p) { form = Some p.page.next } in
-    numbers-on_page k popped numbers-popped later (with-form k (insert tag p) (Some p.page.next) (tag-next tag p) (inserted-tag k tag p h))
+    let put : Parser = inserted Form (codes "form") tag.attributes p in
+    let later : Parser = record put { form = Some p.page.next } in
+    numbers-on_page k popped numbers-popped later
+    (with-form k put (Some p.page.next) (named-next Form (codes "form") tag p) (numbers-inserted k Form (codes "form") tag.attributes p h))
 
 numbers-ended : (k : ℕ) (test : Open → Bool) (p : Parser) → Numbers k p → Numbers k (ended test p)
 numbers-ended k test p h =

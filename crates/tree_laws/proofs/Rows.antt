@@ -3,7 +3,7 @@ use Rattle.std.proofs.Common.{◌≡◌, ℕ, ◌<◌, ◌≤◌, Bool, true, fa
 use Rattle.std.specs.Prelude.{suc, ◌==◌, map, Option, Some, None, if◌then◌else◌}
 use Rattle.std.proofs.lemmas.Bool.{eq-eqb, eqb-true, false≢true}
 use Rattle.std.proofs.lemmas.Option.{none-some}
-use Rattle.tree_construction.specs.Document.{Child, Row, Spot, What, added, applied, built, changed, children_moved, is_child_of, moved, new_row, parent_of, put_among, removed_from, row_of, spot_before, spot_beside, spot_of, with_attributes, with_children, with_parent, without_node}
+use Rattle.tree_construction.specs.Document.{Child, Row, Spot, added, built, changed, is_child_of, moved, new_row, parent_of, put_among, removed_from, row_of, spot_before, spot_beside, spot_of, with_attributes, with_children, with_parent, without_node}
 use Rattle.tree_construction.specs.Document.Child.{Node, Text, Doctype}
 use Rattle.tree_construction.specs.Document.What.{Document, Element, TemplateContents, Comment}
 use Rattle.tree_construction.specs.Page.{Edit, Place}
@@ -77,14 +77,14 @@ parent-set n m parent (r ∷ rows) has = by_test (parent-set n m parent rows) (r
     later : (test : Bool) → (r.node == n) ≡ test → (r.node == m) ≡ false
         → parent_of n (changed m (with_parent parent) rows) ≡ (if m == n then parent else parent_of n rows)
         → (if test then r else row_of n (changed m (with_parent parent) rows)).parent
-          ≡ (if m == n then parent else (if test then r else row_of n rows).parent)
+        ≡ (if m == n then parent else (if test then r else row_of n rows).parent)
     later true is other rest = ap (λ same. if same then parent else r.parent) (sym (other-number m n r.node is other))
     later false is other rest = rest
 
     by_test : (has_row m rows ≡ true → parent_of n (changed m (with_parent parent) rows) ≡ (if m == n then parent else parent_of n rows))
         → (test : Bool) → (r.node == m) ≡ test → (if test then true else has_row m rows) ≡ true
         → parent_of n (if test then with_parent parent r ∷ rows else r ∷ changed m (with_parent parent) rows)
-          ≡ (if m == n then parent else parent_of n (r ∷ rows))
+        ≡ (if m == n then parent else parent_of n (r ∷ rows))
     by_test rest true is has =
         subst (λ i. (if r.node == n then with_parent parent r else row_of n rows).parent
         ≡ (if i == n then parent else (if r.node == n then r else row_of n rows).parent)) (eqb-true r.node m is) (first (r.node == n))
@@ -111,7 +111,7 @@ moved-parents n source target (r ∷ rows) = by_test (moved-parents n source tar
 
     chosen : (test : Bool) → parent_of n (map (moved source target) rows) ≡ moved_to source target (parent_of n rows)
         → (if test then moved source target r else row_of n (map (moved source target) rows)).parent
-          ≡ moved_to source target (if test then r else row_of n rows).parent
+        ≡ moved_to source target (if test then r else row_of n rows).parent
     chosen true rest = of_parent r.parent refl
     chosen false rest = rest
 

@@ -27,6 +27,8 @@ use Rattle.tree_laws.proofs.NumbersSteps.{numbers-told, numbers-told_all}
 use Rattle.tree_laws.proofs.Nested.{TreeOf}
 use Rattle.tree_laws.proofs.NestedOfPointers.{nested-start}
 use Rattle.tree_laws.proofs.NestedSteps.{nested-told, nested-told_all}
+use Rattle.tree_laws.proofs.Pointing.{Points, points-start}
+use Rattle.tree_laws.proofs.PointingSteps.{points-told_all}
 
 -- ---- a sink
 
@@ -76,6 +78,9 @@ messages-keep-tree options messages = (nested-told_all 3 messages (start options
 pub open-elements-are-nested : (options : Options) (messages : List Told)
     → AreNested (told_all messages (start options)).page.edits (told_all messages (start options)).page.opened
 open-elements-are-nested options messages = (nested-told_all 3 messages (start options) (nested-start options)).nested
+
+pub pointers-name : (options : Options) (messages : List Told) → Points (told_all messages (start options))
+pointers-name options messages = points-told_all [] messages (start options) (points-start options)
 
 pub text-keeps-tree : (options : Options) (rules : Rules) (text : List ℕ) → KeepTree (parser_of_text options rules text).page.edits
 text-keeps-tree options rules text = (nested-stepped (messages_of_text options rules text) (start options) (nested-start options)).tree

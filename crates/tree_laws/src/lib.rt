@@ -10,6 +10,7 @@ ghost use Rattle.html5reading.specs.Start.{Rules, Start};
 ghost use Rattle.html5sinks.specs.Replies.{standard_reply};
 ghost use Rattle.tree_construction.specs.Construction.{is_foreign, start, told_all};
 ghost use Rattle.tree_laws.specs.Laws.{AreOrderly, AsksAsParser, Extends, IsInBody};
+ghost use Rattle.tree_laws.specs.Pointers.{IsForm, IsHead};
 ghost use Rattle.tree_laws.specs.Trees.{AreNested, IsOutside, KeepTree, parent_after, template_after};
 ghost use Rattle.tree_construction.specs.Document.{built, parent_of};
 ghost use Rattle.tree_construction.specs.Page.{Edit};
@@ -52,6 +53,16 @@ pub fn document_is_a_tree()
     ensures rows { (edits : List Edit) (n : ℕ) → AreOrderly edits → KeepTree edits → parent_of n (built edits) ≡ parent_after edits n }
     ensures stack { (options : Options) (messages : List Told)
         → AreNested (told_all messages (start options)).page.edits (told_all messages (start options)).page.opened }
+{}
+
+/// The pointers name what they say, after any messages. Once it is set, the head element pointer names an HTML element `head` that an
+/// edit made (`head`). The form element pointer names an HTML element `form` that an edit made, or in the fragment case the form around
+/// the context element (`form`).
+pub fn pointers_name_elements()
+    ensures head { (options : Options) (messages : List Told)
+        → IsHead (told_all messages (start options)).page.edits (told_all messages (start options)).head }
+    ensures form { (options : Options) (messages : List Told)
+        → IsForm (told_all messages (start options)).page.edits (told_all messages (start options)).form }
 {}
 
 /// Whoever asks as the parser does is sent the same messages. That is a sink each of whose states has a parser: a
