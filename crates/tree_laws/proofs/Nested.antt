@@ -96,13 +96,6 @@ nested-if-page k false p q g h = h
 
 -- ---- a page
 
--- an edit that changes no parent
-pub with-plain : (k : ℕ) (edit : Edit) (page : Page) → AddsNone page.edits (edit ∷ page.edits) → KeepsTree edit page.edits
-    → PageNumbers k (edited edit page) → PageTree k page → PageTree k (edited edit page)
-unfolding KeepTree
-with-plain k edit page adds keeps numbers h =
-    record { numbers = numbers; tree = (keeps, h.tree); nested = nested-same page.edits (edit ∷ page.edits) page.opened adds h.nested }
-
 pub pop-adds-none : (n : ℕ) (edits : List Edit) → AddsNone edits (Pop n ∷ edits)
 unfolding parent_after template_after
 pop-adds-none n edits = same-lines edits (Pop n ∷ edits) (λ m. refl) (λ m. refl)
@@ -168,11 +161,6 @@ nested-popped_while k test page h =
     with-numbers k (popped_while test page) (numbers-popped_while k test page h.numbers)
     (nests-popped_while_in test page.opened page h.nested (h.tree, h.nested))
 
-pub nested-popped_to_first : (k : ℕ) (page : Page) → PageTree k page → PageTree k (popped_to_first page)
-nested-popped_to_first k page h =
-    with-numbers k (popped_to_first page) (numbers-popped_to_first k page h.numbers)
-    (nests-popped_to_first_in page.opened page h.nested (h.tree, h.nested))
-
 outside-without : (edits : List Edit) (x n : ℕ) (es : List Open) → AreOutside edits x es → AreOutside edits x (without_open n es)
 unfolding AreOutside without_open
 outside-without edits x n [] out = out
@@ -219,7 +207,7 @@ nested-mistaken k mistake p h = record {
   nested = nested-same p.page.edits (ParseError mistake ∷ p.page.edits) p.page.opened (mistake-adds-none mistake p.page.edits) h.nested;
 }
 
--- an edit that changes no parent, by a parser
+-- an edit that changes no parent
 pub plainly : (k : ℕ) (edit : Edit) (p : Parser) → AddsNone p.page.edits (edit ∷ p.page.edits) → KeepsTree edit p.page.edits
     → Numbers k (on_page (edited edit) p) → TreeOf k p → TreeOf k (on_page (edited edit) p)
 unfolding KeepTree

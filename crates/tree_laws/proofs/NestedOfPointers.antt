@@ -17,7 +17,7 @@ use Rattle.tree_construction.specs.Page.Edit.{MarkStarted, Pop}
 use Rattle.tree_construction.specs.Parser.{Context, Entry, Options, Parser, expects_current, has_template, insert, insert_void, inserted_at, is_fragment, mistaken, on_page, place_of, unexpected}
 use Rattle.tree_construction.specs.Tokens.{StartTagOf, value_of}
 use Rattle.tree_laws.specs.Trees.{AreNested, KeepTree, parent_after, template_after}
-use Rattle.tree_laws.proofs.Numbers.{AreOpenBelow, IsPlaceBelow, IsPointerBelow, Numbers, PartNumbers, numbers-on_page, numbers-popped, own, place_of-below, removed-from-stack, with-page}
+use Rattle.tree_laws.proofs.Numbers.{below-without, AreOpenBelow, IsPlaceBelow, IsPointerBelow, Numbers, PartNumbers, numbers-on_page, numbers-popped, own, place_of-below, removed-from-stack, with-page}
 use Rattle.tree_laws.proofs.NumbersOfElements.{inserted-at, inserted-next, numbers-mark_current}
 use Rattle.tree_laws.proofs.NumbersOfLists.{numbers-with_marker}
 use Rattle.tree_laws.proofs.NumbersOfAdoption.{noted-next}
@@ -63,15 +63,6 @@ record PartWithHead (k n : ℕ) (page : Page) (formatting : List Entry) (head fo
 
 abbrev WithHead : ℕ → ℕ → Parser → Type 0
 WithHead k n p = PartWithHead k n p.page p.formatting p.head p.form
-
-below-without : (n m : ℕ) (es : List Open) → AreOpenBelow n es → AreOpenBelow n (without_open m es)
-unfolding AreOpenBelow without_open
-below-without n m [] below = tt
-below-without n m (e ∷ es) below = by_test (below-without n m es below.1) (e.node == m)
-  where
-    by_test : AreOpenBelow n (without_open m es) → (test : Bool) → AreOpenBelow n (if test then es else e ∷ without_open m es)
-    by_test others true = below.1
-    by_test others false = (below.0, others)
 
 not-older : (m n : ℕ) → n < m → (m == n) ≡ false
 not-older m n less = by_test (m == n) refl

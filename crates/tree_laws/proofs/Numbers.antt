@@ -154,7 +154,7 @@ numbers-popped_to_first_in k (e ∷ outer ∷ es) page below h =
 pub numbers-popped_to_first : (k : ℕ) (page : Page) → PageNumbers k page → PageNumbers k (popped_to_first page)
 numbers-popped_to_first k page h = numbers-popped_to_first_in k page.opened page h.opened h
 
-below-without : (n m : ℕ) (es : List Open) → AreOpenBelow n es → AreOpenBelow n (without_open m es)
+pub below-without : (n m : ℕ) (es : List Open) → AreOpenBelow n es → AreOpenBelow n (without_open m es)
 unfolding AreOpenBelow without_open
 below-without n m [] below = tt
 below-without n m (e ∷ es) below = by_test (below-without n m es below.1) (e.node == m)
