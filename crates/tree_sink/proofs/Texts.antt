@@ -1,0 +1,54 @@
+-- A text that is put byte by byte is as one that is put at once.
+use Rattle.std.specs.Prelude.{◌≡◌, ℕ, Bool, false, List, [], ◌∷◌, ◌++◌, Option, Some, refl}
+use Rattle.std.proofs.Common.{ap, sym, ◌∙◌}
+use Rattle.tree_construction.specs.Page.{Edit, Place}
+use Rattle.tree_construction.specs.Page.Edit.{PutText}
+use Rattle.tree_sink.specs.Edited.{IsTold}
+use Rattle.tree_sink.specs.Sinks.{TreeMeans, stepped, text_put}
+
+module _ {S : Type 0} (step : S → Edit → S) (place : Place)
+    (joins : (s : S) (place : Place) (a b : List ℕ) → step (step s (PutText place a)) (PutText place b) ≡ step s (PutText place (a ++ b)))
+    (empty : (s : S) (place : Place) → step s (PutText place []) ≡ s) where
+  pub stepped-text : (s : S) (text : List ℕ) (edits : List Edit)
+      → stepped step s (text_put place text edits) ≡ step (stepped step s edits) (PutText place text)
+  unfolding text_put stepped
+  stepped-text s [] edits = sym (empty (stepped step s edits) place)
+  stepped-text s (c ∷ text) edits =
+      stepped-text s text (PutText place (c ∷ []) ∷ edits) ∙ joins (stepped step s edits) place (c ∷ []) text
+
+-- ---- what an editor has told its sink
+
+-- after an edit that was told and noted
+pub told_after : {Q S : Type 0} (means : TreeMeans Q S) (start : Option Q) (edits later : List Edit) (before after : Q) (edit : Edit) (failed : Bool)
+    → (failed ≡ false → IsTold means start edits before) → means.state after ≡ means.step (means.state before) edit → later ≡ edit ∷ edits
+    → (failed ≡ false → IsTold means start later after)
+unfolding stepped
+told_after means start edits later before after edit failed told steps noted well first is =
+    steps ∙ (ap (λ s. means.step s edit) (told well first is) ∙ ap (stepped means.step (means.state first)) (sym noted))
+
+-- after an edit that made a node, which was noted by the node's handle
+pub told_made : {Q S : Type 0} (means : TreeMeans Q S) (start : Option Q) (edits later : List Edit) (before after : Q) (edit : ℕ → Edit) (n next : ℕ)
+    (failed : Bool) → (failed ≡ false → IsTold means start edits before) → n ≡ next
+    → means.state after ≡ means.step (means.state before) (edit next) → later ≡ edit n ∷ edits → (failed ≡ false → IsTold means start later after)
+told_made means start edits later before after edit n next failed told names steps noted =
+    told_after means start edits later before after (edit next) failed told steps (noted ∙ ap (λ m. edit m ∷ edits) names)
+
+-- before any edit
+pub told_first : {Q S : Type 0} (means : TreeMeans Q S) (start : Option Q) (edits : List Edit) (sink : Q) (failed : Bool) → start ≡ Some sink → edits ≡ []
+    → (failed ≡ false → IsTold means start edits sink)
+unfolding stepped
+told_first means start edits sink failed begins none well first is =
+    let is_some : Some sink ≡ Some first = sym begins ∙ is in
+    let same : sink ≡ first = cc in
+    ap means.state same ∙ ap (stepped means.step (means.state first)) (sym none)
+
+-- after a text
+pub told_text : {Q S : Type 0} (means : TreeMeans Q S) (start : Option Q) (edits later : List Edit) (before after : Q) (place : Place) (text : List ℕ) (failed : Bool)
+    → ((s : S) (place : Place) (a b : List ℕ) → means.step (means.step s (PutText place a)) (PutText place b) ≡ means.step s (PutText place (a ++ b)))
+    → ((s : S) (place : Place) → means.step s (PutText place []) ≡ s)
+    → (failed ≡ false → IsTold means start edits before) → means.state after ≡ means.step (means.state before) (PutText place text)
+    → later ≡ text_put place text edits → (failed ≡ false → IsTold means start later after)
+told_text means start edits later before after place text failed joins empty told steps noted well first is =
+    steps
+    ∙ (ap (λ s. means.step s (PutText place text)) (told well first is)
+    ∙ (sym (stepped-text means.step place joins empty (means.state first) text edits) ∙ ap (stepped means.step (means.state first)) (sym noted)))

@@ -1,0 +1,8 @@
+use Rattle.tree_construction.specs.Page.Edit.{MakeComment}
+use Rattle.tree_sink.proofs.Texts.{told_made}
+use Rattle.tree_sink.proofs.editor.Editor.create_comment.Goals as goal
+
+pub invariant_of-self-2 : goal.invariant_of-self-2
+invariant_of-self-2 g c =
+    told_made g.S.TreeSink.means _ _ _ _ _ (λ n. MakeComment n c.args.text.now) _ _ _ c.self.invariant
+    c.in-Ok.ensures.names c.in-Ok.ensures.steps c.note.ensures

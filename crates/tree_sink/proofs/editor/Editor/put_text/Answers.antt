@@ -1,0 +1,20 @@
+use Rattle.std.proofs.Common.{rules}
+use Rattle.tree_construction.specs.Page.Edit.{PutText}
+use Rattle.tree_sink.proofs.Texts.{told_text}
+use Rattle.tree_sink.specs.Sinks.{next_after}
+use Rattle.tree_sink.specs.Places.{place_of}
+use Rattle.tree_sink.proofs.editor.Editor.put_text.Goals as goal
+
+pub invariant_of-self-2 : goal.invariant_of-self-2
+invariant_of-self-2 g c =
+    told_text g.S.TreeSink.means _ _ _ _ _ _ _ _ g.met.S.TreeSink.joins g.met.S.TreeSink.empty c.self.invariant c.in-Ok.ensures.steps c.note_text.ensures
+
+pub returns-clause-ok : goal.returns-clause-ok
+unfolding next_after
+returns-clause-ok g c =
+    rw (
+      ← c.self.view_is,
+      c.in-Ok.ensures.steps,
+      g.met.S.TreeSink.counts (g.S.TreeSink.means.state c.self.inside.sink) (PutText (place_of g.S.Handle.NodeHandle.node c.args.place) c.args.text.now),
+    )
+    (search rules)

@@ -1,0 +1,4 @@
+pub mod Places
+pub mod Sinks
+pub mod Edited
+pub mod Changes
