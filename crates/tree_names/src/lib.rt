@@ -1,0 +1,6 @@
+//! Names, attributes and doctypes, as the rows of tree construction compare and change them.
+#![tactic(auto)]
+
+pub mod attributes;
+pub mod known;
+pub mod name;
