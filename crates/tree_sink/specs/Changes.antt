@@ -1,5 +1,5 @@
 -- The edit that an editor notes. These are words of the proofs: no promise to callers is made of them.
-use Rattle.std.specs.Prelude.{ℕ, List, []}
+use Rattle.std.specs.Prelude.{ℕ, suc, List, []}
 use Rattle.markup5ever.specs.Names.{AttributeOf}
 use Rattle.tree_construction.specs.Page.{Edit}
 use Rattle.tree_construction.specs.Page.Edit.{MakeElement, MakeContents, MakeComment, PutDoctype, Put, Remove, MoveChildren, AddAttributes, SetQuirksMode, MarkStarted, AssociateForm, Pop, ParseError}
@@ -10,7 +10,7 @@ use Rattle.tree_sink.specs.declared.noted.Change.TheVariants.{MakeElement as Mak
 abbrev pub edit_of : {H T : Type 0} → (H → ℕ) → (T → List AttributeOf) → Change H T → Edit
 edit_of node said (MakeElementOf handle namespace name attributes) = MakeElement (node handle) namespace name.now (said attributes.now)
 edit_of node said (MakeBareElement handle namespace name) = MakeElement (node handle) namespace name.now []
-edit_of node said (MakeContentsOf template contents) = MakeContents (node template) (node contents)
+edit_of node said (MakeContentsOf template) = MakeContents (node template) (suc (node template))
 edit_of node said (MakeCommentOf handle text) = MakeComment (node handle) text.now
 edit_of node said (PutDoctypeOf name public_id system_id) = PutDoctype name.now public_id.now system_id.now
 edit_of node said (PutOf place child) = Put (place_of node place) (node child)

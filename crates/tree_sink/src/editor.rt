@@ -1,5 +1,5 @@
 //! Tells a sink edits, and keeps for contracts which ones.
-ghost use Rattle.std.specs.Prelude.{◌≡◌, ◌+◌, false, [], Some, IfOk, OnErr, OnOk};
+ghost use Rattle.std.specs.Prelude.{◌≡◌, suc, ◌+◌, false, [], Some, IfOk, OnErr, OnOk};
 ghost use Rattle.tree_construction.specs.Page.Edit.{MakeElement, MakeContents, MakeComment, PutDoctype, Put, Remove, MoveChildren, AddAttributes, SetQuirksMode, MarkStarted, AssociateForm, Pop, ParseError};
 ghost use Rattle.tree_sink.specs.Edited.{IsTold, edited, faults_of, text_edited};
 ghost use Rattle.tree_sink.specs.Places.{place_of, put_of};
@@ -295,17 +295,25 @@ impl<S: TreeSink<T> + Drop, T: TagAttributes> Editor<S, T> {
     }
 
     /// Makes the template contents of a template that was made just before.
-    pub fn create_contents(&mut self, template: S::Handle) -> Result<S::Handle, TreeBuilderError>
-        ensures ok { OnOk result (self.new ≡ edited (MakeContents (S.Handle.node template) self.old.next) self.old) }
-        ensures node { IfOk result (λ handle. S.Handle.node handle ≡ self.old.next) }
+    pub fn create_contents(&mut self, template: S::Handle) -> Result<(), TreeBuilderError>
+        ensures ok { OnOk result
+            (self.new ≡ edited (MakeContents (S.Handle.node template) (suc (S.Handle.node template))) self.old) }
         ensures faults { self.new.faults ≡ self.old.faults + faults_of result }
     {
-        let Ok(handle) = self.sink.get_template_contents(template) else {
+        let Ok(()) = self.sink.create_template_contents(template) else {
             self.failed = true;
             return Err(TreeBuilderError::Sink);
         };
-        self.log.note(&Change::<'_, S::Handle, T>::MakeContents(template, handle));
-        Ok(handle)
+        self.log
+            .note(&Change::<'_, S::Handle, T>::MakeContents(template));
+        Ok(())
+    }
+
+    /// The template contents of a template.
+    pub fn contents_of(&self, template: S::Handle) -> S::Handle
+        ensures { S.Handle.node result ≡ suc (S.Handle.node template) }
+    {
+        self.sink.get_template_contents(template)
     }
 
     /// Makes a comment.

@@ -13,7 +13,7 @@ use tree_construction::modes::QuirksMode;
 pub enum Change<'a, H, T> {
     MakeElement(H, Namespace, &'a str, &'a T),
     MakeBareElement(H, Namespace, &'a str),
-    MakeContents(H, H),
+    MakeContents(H),
     MakeComment(H, &'a str),
     PutDoctype(&'a str, &'a str, &'a str),
     Put(InsertionPoint<H>, H),

@@ -56,12 +56,15 @@ pub trait TreeSink<T: TagAttributes> {
         ensures one_fault { OnErr result (faults self.new ≡ faults self.old + 1) };
 
     /// Makes the template contents of a template that was made just before. They are a node of their own.
-    fn get_template_contents(&mut self, template: Self::Handle) -> Result<Self::Handle, SinkFault>
-        ensures names { IfOk result (λ handle. Self.Handle.node handle ≡ means.next (means.state self.old)) }
+    fn create_template_contents(&mut self, template: Self::Handle) -> Result<(), SinkFault>
         ensures steps { OnOk result (means.state self.new ≡ means.step (means.state self.old)
-            (MakeContents (Self.Handle.node template) (means.next (means.state self.old)))) }
+            (MakeContents (Self.Handle.node template) (suc (Self.Handle.node template)))) }
         ensures no_fault { OnOk result (faults self.new ≡ faults self.old) }
         ensures one_fault { OnErr result (faults self.new ≡ faults self.old + 1) };
+
+    /// The template contents of a template. They were made just after it.
+    fn get_template_contents(&self, template: Self::Handle) -> Self::Handle
+        ensures { Self.Handle.node result ≡ suc (Self.Handle.node template) };
 
     /// Makes a comment.
     fn create_comment(&mut self, text: &str) -> Result<Self::Handle, SinkFault>

@@ -1,8 +1,5 @@
-use Rattle.tree_construction.specs.Page.Edit.{MakeContents}
-use Rattle.tree_sink.proofs.Texts.{told_made}
+use Rattle.tree_sink.proofs.Texts.{told_after}
 use Rattle.tree_sink.proofs.editor.Editor.create_contents.Goals as goal
 
 pub invariant_of-self-2 : goal.invariant_of-self-2
-invariant_of-self-2 g c =
-    told_made g.S.TreeSink.means _ _ _ _ _ (λ n. MakeContents (g.S.Handle.NodeHandle.node c.args.template) n) _ _ _ c.self.invariant
-    c.in-Ok.ensures.names c.in-Ok.ensures.steps c.note.ensures
+invariant_of-self-2 g c = told_after g.S.TreeSink.means _ _ _ _ _ _ _ c.self.invariant c.in-Ok.ensures.steps c.note.ensures

@@ -1,0 +1,3 @@
+pub mod Reversed
+pub mod Mapped
+pub mod OpenPlaces

@@ -1,0 +1,33 @@
+use Rattle.std.proofs.Common.{◌≡◌, ◌<◌, ◌+◌, ◌-◌, ap, arith, drop, get_or, length, rules, sym, vec_len, ◌∙◌}
+use Rattle.std.proofs.lemmas.List.{length-reverse}
+use Rattle.tree_lists.proofs.Reversed.{at-reverse}
+use Rattle.tree_lists.proofs.stack.Stack.at.Goals as goal
+
+pub overflow_sub-at : goal.overflow_sub-at
+overflow_sub-at g c =
+    let len : vec_len c.self.inside.items ≡ length c.self.inside.items.items = search rules in
+    let lens = length-reverse c.self.inside.items.items in
+    let view = ap length c.self.view_is in
+    omega arith
+
+pub overflow_sub-at-2 : goal.overflow_sub-at-2
+overflow_sub-at-2 g c =
+    let len : vec_len c.self.inside.items ≡ length c.self.inside.items.items = search rules in
+    let lens = length-reverse c.self.inside.items.items in
+    let view = ap length c.self.view_is in
+    omega arith
+
+pub index-requires : goal.index-requires
+index-requires g c =
+    let len : vec_len c.self.inside.items ≡ length c.self.inside.items.items = search rules in
+    let lens = length-reverse c.self.inside.items.items in
+    let view = ap length c.self.view_is in
+    omega arith
+
+pub returns : goal.returns
+returns g c =
+    let len : vec_len c.self.inside.items ≡ length c.self.inside.items.items = search rules in
+    let lens = length-reverse c.self.inside.items.items in
+    let view = ap length c.self.view_is in
+    let sum : c.args.depth + (c.len.result - c.args.depth - 1 + 1) ≡ length c.self.inside.items.items = omega arith in
+    rw (← c.self.view_is) (at-reverse c.self.inside.items.items c.args.depth (c.len.result - c.args.depth - 1) c.index.result.now sum c.index.ensures)
