@@ -1,3 +1,4 @@
 pub mod Reversed
 pub mod Mapped
 pub mod OpenPlaces
+pub mod ListPlaces

@@ -8,7 +8,7 @@ use Rattle.tree_construction.specs.Page.{Open, first_open, has_number, has_open,
 use Rattle.tree_lists.specs.Opened.{later_depth}
 use Rattle.tree_lists.specs.Places.{IsNotOpen, IsOpenAt}
 
-if-false : (b c : Bool) → (if b then true else c) ≡ false → (b ≡ false) × (c ≡ false)
+pub if-false : (b c : Bool) → (if b then true else c) ≡ false → (b ≡ false) × (c ≡ false)
 if-false true c e = cc
 if-false false c e = (refl, e)
 

@@ -1,3 +1,5 @@
 pub mod Wanted
 pub mod Opened
 pub mod Places
+pub mod Formatting
+pub mod ListPlaces
