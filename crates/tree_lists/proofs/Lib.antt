@@ -2,3 +2,4 @@ pub mod Reversed
 pub mod Mapped
 pub mod OpenPlaces
 pub mod ListPlaces
+pub mod Searches

@@ -1,10 +1,10 @@
 //! "The list of active formatting elements".
-ghost use Rattle.std.specs.Prelude.{◌≡◌, ◌<◌, ◌+◌, List, [], ◌∷◌, ◌++◌, drop, length, take, IfNone, IfSome, MatchOption, OnErr, OnOk};
+ghost use Rattle.std.specs.Prelude.{◌≡◌, ◌<◌, ◌+◌, ◌-◌, List, [], ◌∷◌, ◌++◌, drop, length, take, IfNone, IfSome, MatchOption, OnErr, OnOk};
 ghost use Rattle.tree_construction.specs.Adoption.{added_after, at_bookmark, replaced};
 ghost use Rattle.tree_construction.specs.Formatting.{Listed, cleared, count_after_marker, count_alike, has_entry, is_alike, is_entry_of, last_named, with_entry, within_limit, without_earliest, without_entry, without_oldest};
 ghost use Rattle.tree_construction.specs.Parser.{Entry};
 ghost use Rattle.tree_names.specs.ElementNames.{name_bytes};
-ghost use Rattle.tree_lists.specs.Formatting.{entry_of, listed_of, with_room, with_node};
+ghost use Rattle.tree_lists.specs.Formatting.{active_of, entry_of, listed_of, with_room};
 ghost use Rattle.tree_lists.specs.Opened.{node_in};
 ghost use Rattle.tree_lists.specs.ListPlaces.{AreLost, IsEarliest, IsListedAt, IsNotListed, IsOldest};
 
@@ -211,5 +211,164 @@ impl<H: NodeHandle, T: TagAttributes, A: Allocator> FormattingList<H, T, A> {
             }
         }
         None
+    }
+
+    // How many entries after the last marker are like an element.
+    #[tactic(auto, unfolding(tree_construction::specs::Formatting::count_alike))]
+    fn count_alike(&self, element: &Formatting<H, T, A>) -> usize
+        ensures { result ≡ count_alike (listed_of H.node T.said element.now).name
+            (listed_of H.node T.said element.now).attributes self.now }
+    {
+        let mut count = 0;
+        for depth in 0..self.len() {
+            match self.at(depth) {
+                FormatEntry::Mark => return count,
+                FormatEntry::Active(other) => {
+                    if other.is_alike(element) {
+                        count += 1;
+                    }
+                }
+            }
+        }
+        count
+    }
+
+    // How deep the earliest entry stands that is like an element, of so many after the last marker.
+    fn earliest_alike(&self, element: &Formatting<H, T, A>, total: usize) -> Option<usize>
+        requires { total ≡ count_alike (listed_of H.node T.said element.now).name
+            (listed_of H.node T.said element.now).attributes self.now }
+        ensures { MatchOption result
+            (without_earliest (listed_of H.node T.said element.now).name (listed_of H.node T.said element.now).attributes self.now ≡ self.now)
+            (λ depth. IsEarliest (listed_of H.node T.said element.now).name (listed_of H.node T.said element.now).attributes self.now depth) }
+    {
+        let mut seen = 0;
+        for depth in 0..self.len() {
+            match self.at(depth) {
+                FormatEntry::Mark => return None,
+                FormatEntry::Active(other) => {
+                    if !other.is_alike(element) {
+                        continue;
+                    }
+                    if seen + 1 == total {
+                        return Some(depth);
+                    }
+                    seen += 1;
+                }
+            }
+        }
+        None
+    }
+
+    // Where three entries after the last marker are like an element, the earliest is taken out.
+    fn make_room(&mut self, element: &Formatting<H, T, A>)
+        ensures { self.new ≡ with_room (listed_of H.node T.said element.now).name
+            (listed_of H.node T.said element.now).attributes self.old }
+    {
+        let total = self.count_alike(element);
+        if total < 3 {
+            return;
+        }
+        if let Some(depth) = self.earliest_alike(element, total) {
+            self.remove_at(depth);
+        }
+    }
+
+    // How many elements stand after the last marker.
+    #[tactic(auto, unfolding(tree_construction::specs::Formatting::count_after_marker))]
+    fn count_after_marker(&self) -> usize
+        ensures { result ≡ count_after_marker self.now }
+    {
+        for depth in 0..self.len() {
+            if matches!(self.at(depth), FormatEntry::Mark) {
+                return depth;
+            }
+        }
+        self.len()
+    }
+
+    // Keeps the limit of elements after the last marker: the earliest leaves the list.
+    fn keep_limit(&mut self, limit: Option<usize>)
+        ensures { self.new ≡ within_limit limit self.old }
+    {
+        let Some(limit) = limit else {
+            return;
+        };
+        let count = self.count_after_marker();
+        if limit < count {
+            self.remove_at(count - 1);
+        }
+    }
+
+    /// "Push onto the list of active formatting elements", within a limit.
+    #[tactic(auto, unfolding(tree_construction::specs::Formatting::with_entry))]
+    pub fn push_formatting(
+        &mut self,
+        element: Formatting<H, T, A>,
+        limit: Option<usize>,
+    ) -> Result<(), AllocError>
+        ensures ok { OnOk result (self.new ≡ within_limit limit (with_entry (listed_of H.node T.said element).node
+            (listed_of H.node T.said element).kind (listed_of H.node T.said element).name
+            (listed_of H.node T.said element).attributes self.old)) }
+    {
+        self.make_room(&element);
+        self.push(FormatEntry::Active(element))?;
+        self.keep_limit(limit);
+        Ok(())
+    }
+
+    /// How many of the last entries are to be opened again.
+    pub fn count_lost(&self, opened: &OpenElements<H, A>) -> usize
+        ensures { AreLost opened.now self.now result }
+    {
+        for depth in 0..self.len() {
+            match self.at(depth) {
+                FormatEntry::Mark => return depth,
+                FormatEntry::Active(element) => {
+                    if opened.has(&Wanted::Node(element.handle)) {
+                        return depth;
+                    }
+                }
+            }
+        }
+        self.len()
+    }
+
+    // Puts another element in the place of a node's entry.
+    fn replace(&mut self, handle: H, element: Formatting<H, T, A>) -> Result<(), AllocError>
+        ensures { OnOk result (self.new ≡ replaced (H.node handle) (active_of (listed_of H.node T.said element)) self.old) }
+    {
+        match self.find(handle) {
+            Some(depth) => self.replace_at(depth, FormatEntry::Active(element)),
+            None => Ok(()),
+        }
+    }
+
+    // Puts an element after a node's entry.
+    fn add_after(&mut self, handle: H, element: Formatting<H, T, A>) -> Result<(), AllocError>
+        ensures { OnOk result (self.new ≡ added_after (H.node handle) (active_of (listed_of H.node T.said element)) self.old) }
+    {
+        match self.find(handle) {
+            Some(depth) => self.insert_at(depth, FormatEntry::Active(element)),
+            None => Ok(()),
+        }
+    }
+
+    /// Puts the adopted element where the bookmark is.
+    pub fn put_at_bookmark(
+        &mut self,
+        bookmark: Option<H>,
+        handle: H,
+        element: Formatting<H, T, A>,
+    ) -> Result<(), AllocError>
+        ensures { OnOk result (self.new ≡ at_bookmark (node_in H.node bookmark) (H.node handle)
+            (active_of (listed_of H.node T.said element)) self.old) }
+    {
+        match bookmark {
+            None => self.replace(handle, element),
+            Some(after) => {
+                self.remove(handle);
+                self.add_after(after, element)
+            }
+        }
     }
 }

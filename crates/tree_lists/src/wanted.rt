@@ -54,6 +54,7 @@ pub enum Scope {
 }
 
 /// What is searched for.
+#[derive(Drop)]
 pub enum Wanted<'n, H, A: Allocator> {
     /// An element of one of some kinds.
     Of(KindSet),
