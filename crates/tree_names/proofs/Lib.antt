@@ -1,2 +1,4 @@
 pub mod NameTables
 pub mod Texts
+pub mod Loops
+pub mod MathKinds

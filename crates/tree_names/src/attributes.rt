@@ -99,7 +99,7 @@ fn has_attribute_like<A: Allocator>(attribute: &Attribute<A>, others: &[Attribut
 fn is_like<A: Allocator>(attribute: &Attribute<A>, other: &Attribute<A>) -> bool
     ensures { result
         ≡ (bytes_eq (attribute_of attribute.now).name.local (attribute_of other.now).name.local
-            && bytes_eq (attribute_of attribute.now).value (attribute_of other.now).value) }
+        && bytes_eq (attribute_of attribute.now).value (attribute_of other.now).value) }
 {
     attribute.name.local.0.as_str() == other.name.local.0.as_str()
         && attribute.value.as_str() == other.value.as_str()

@@ -260,7 +260,8 @@ static KINDS: [Kind; COUNT] = [
     Kind::MathGlyph,
 ];
 
-// By slot, the place of the name that has it. In a slot of no name it is 0: a name is compared with what its slot says.
+// By slot, the place of the name that has it. It is 0 in a slot of no name: what a slot says is compared
+// with the text.
 static PLACES: [u8; SLOTS] = [
     0, 41, 111, 0, 0, 0, 0, 18, 0, 0, 87, 0, 0, 10, 0, 26, 76, 44, 0, 0, 0, 0, 56, 0, 0, 0, 0, 0,
     0, 0, 0, 0, 0, 0, 0, 0, 0, 0, 0, 0, 0, 0, 0, 0, 66, 0, 0, 0, 0, 0, 0, 46, 0, 25, 0, 0, 0, 0, 0,
@@ -396,7 +397,8 @@ impl KnownName {
     /// The constants above, in their order.
     pub fn constants() -> [KnownName; 10]
         ensures { map name_of result
-            ≡ codes "html" ∷ codes "head" ∷ codes "body" ∷ codes "p" ∷ codes "colgroup" ∷ codes "tbody" ∷ codes "tr" ∷ codes "br" ∷ codes "img" ∷ codes "form" ∷ [] }
+            ≡ codes "html" ∷ codes "head" ∷ codes "body" ∷ codes "p" ∷ codes "colgroup"
+            ∷ codes "tbody" ∷ codes "tr" ∷ codes "br" ∷ codes "img" ∷ codes "form" ∷ [] }
     {
         [
             Self::HTML,
