@@ -14,7 +14,7 @@ pub record TreeMeans (Q S : Type 0) : Type 0 where
   pub next : S → ℕ
 
 -- the number of the next node after an edit, by the one before it
-unfoldable pub next_after : Edit → ℕ → ℕ
+abbrev pub next_after : Edit → ℕ → ℕ
 next_after (MakeElement n namespace name attributes) next = suc next
 next_after (MakeContents template n) next = suc next
 next_after (MakeComment n text) next = suc next

@@ -1,7 +1,7 @@
 use Rattle.std.proofs.Common.{rules}
 use Rattle.tree_construction.specs.Page.Edit.{PutText}
 use Rattle.tree_sink.proofs.Texts.{told_text}
-use Rattle.tree_sink.specs.Sinks.{next_after}
+
 use Rattle.tree_sink.specs.Places.{place_of}
 use Rattle.tree_sink.proofs.editor.Editor.put_text.Goals as goal
 
@@ -10,7 +10,6 @@ invariant_of-self-2 g c =
     told_text g.S.TreeSink.means _ _ _ _ _ _ _ _ g.met.S.TreeSink.joins g.met.S.TreeSink.empty c.self.invariant c.in-Ok.ensures.steps c.note_text.ensures
 
 pub returns-clause-ok : goal.returns-clause-ok
-unfolding next_after
 returns-clause-ok g c =
     rw (
       ← c.self.view_is,

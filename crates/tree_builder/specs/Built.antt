@@ -1,0 +1,79 @@
+-- What a builder holds, as a parser of the definition.
+use Rattle.std.specs.Prelude.{ℕ, Bool, true, not, List, [], ◌∷◌, ◌&&◌, Option, Some, None, codes, option_map, string_bytes}
+use Rattle.markup5ever.specs.Names.{AttributeOf}
+use Rattle.tree_construction.specs.Names.{ends_table_scope, is_body_context, is_implied, is_implied_thoroughly, is_row_context}
+use Rattle.tree_construction.specs.ForeignContent.{stays_foreign}
+use Rattle.tree_construction.specs.Page.{Open}
+use Rattle.tree_construction.specs.Parser.{Again, Context, Options, Parser, Request}
+use Rattle.tree_construction.specs.Parser.Request.{GoOn, ReadRaw, ReadPlain, Run, UseCharset, UseContent}
+use Rattle.tree_construction.specs.Tokens.{StartTagOf, Token}
+use Rattle.tree_construction.specs.Tokens.Token.{StartTag}
+use Rattle.tree_names.specs.ElementNames.{name_bytes}
+use Rattle.tree_lists.specs.Wanted.{is_wanted}
+use Rattle.tree_builder.specs.declared.options.TreeBuilderOpts.{TreeBuilderOpts}
+use Rattle.tree_builder.specs.declared.options.FragmentContext.{FragmentContext}
+use Rattle.tree_builder.specs.declared.request.Request.{Request as RequestOf}
+use Rattle.tree_builder.specs.declared.request.Request.TheVariants.{GoOn as GoOnOf, ReadRaw as ReadRawOf, ReadPlain as ReadPlainOf, Run as RunOf, UseCharset as UseCharsetOf, UseContent as UseContentOf}
+use Rattle.tree_builder.specs.declared.tag.StartTag.{StartTag as TagOf}
+use Rattle.tree_builder.specs.declared.tag.Step.{Step}
+use Rattle.tree_builder.specs.declared.tag.Step.TheVariants.{Done, Again as AgainStep, AsImage}
+use Rattle.tree_builder.specs.declared.closing.PopTest.{PopTest}
+use Rattle.tree_builder.specs.declared.closing.PopTest.TheVariants.{Implied, ImpliedBut, Thoroughly, OutsideTable, OutsideTableBody, OutsideTableRow, Foreign, Any}
+
+-- what is known of the sink: how it was when the builder began, how often it faulted, and whether it faulted at an edit of this builder
+pub record Telling (Q : Type 0) : Type 0 where
+  pub start : Option Q
+  pub faults : ℕ
+  pub failed : Bool
+
+pub record Built (Q : Type 0) : Type 0 where
+  pub parser : Parser
+  pub telling : Telling Q
+
+abbrev pub on_parser : {Q : Type 0} → (Parser → Parser) → Built Q → Built Q
+on_parser change b = record b { parser = change b.parser }
+
+abbrev pub context_of : FragmentContext → Context
+context_of context = record { kind = context.kind; in_form = context.in_form; quirks_mode = context.quirks_mode }
+
+abbrev pub options_of : TreeBuilderOpts → Option FragmentContext → Options
+options_of opts context = record {
+  scripting = opts.scripting_enabled;
+  iframe_srcdoc = opts.iframe_srcdoc;
+  context = option_map context_of context;
+  depth_limit = opts.depth_limit;
+  formatting_limit = opts.formatting_limit;
+}
+
+abbrev pub request_of : {H Z : Type 0} → (H → ℕ) → RequestOf H Z → Request
+request_of node GoOnOf = GoOn
+request_of node (ReadRawOf kind) = ReadRaw kind
+request_of node ReadPlainOf = ReadPlain
+request_of node (RunOf handle) = Run (node handle)
+request_of node (UseCharsetOf text) = UseCharset (string_bytes text)
+request_of node (UseContentOf text) = UseContent (string_bytes text)
+
+abbrev pub tag_of : {T Z : Type 0} → (T → List AttributeOf) → TagOf T Z → StartTagOf
+tag_of said tag = record { name = name_bytes tag.name; attributes = said tag.attributes; self_closing = tag.self_closing }
+
+-- "Change the token's tag name to img"
+abbrev pub as_image : Token → Token
+as_image (StartTag tag) = StartTag (record tag { name = codes "img" })
+as_image token = token
+
+-- what follows a row
+abbrev pub followed : Again → Step → Parser → Token → Parser
+followed again Done p token = p
+followed again AgainStep p token = again p token
+followed again AsImage p token = again p (as_image token)
+
+-- which elements are popped while they are the current node
+abbrev pub is_popped : {H Z : Type 0} → (H → ℕ) → PopTest H Z → Open → Bool
+is_popped node Implied e = is_implied e.kind
+is_popped node (ImpliedBut but) e = is_implied e.kind && not (is_wanted node but.now e)
+is_popped node Thoroughly e = is_implied_thoroughly e.kind
+is_popped node OutsideTable e = not (ends_table_scope e.kind)
+is_popped node OutsideTableBody e = not (is_body_context e.kind)
+is_popped node OutsideTableRow e = not (is_row_context e.kind)
+is_popped node Foreign e = stays_foreign e
+is_popped node Any e = true

@@ -1,0 +1,8 @@
+//! The tree builder: takes tokens, and tells a sink how to build the document.
+#![tactic(auto)]
+
+pub mod builder;
+pub mod closing;
+pub mod options;
+pub mod request;
+pub mod tag;
