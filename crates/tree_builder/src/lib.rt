@@ -4,5 +4,6 @@
 pub mod builder;
 pub mod closing;
 pub mod options;
+pub mod places;
 pub mod request;
 pub mod tag;

@@ -1,5 +1,5 @@
 -- A text that is put byte by byte is as one that is put at once.
-use Rattle.std.specs.Prelude.{◌≡◌, ℕ, Bool, false, List, [], ◌∷◌, ◌++◌, Option, Some, refl}
+use Rattle.std.specs.Prelude.{◌≡◌, ℕ, Bool, true, false, List, [], ◌∷◌, ◌++◌, Option, Some, length, ◌==◌, refl}
 use Rattle.std.proofs.Common.{ap, sym, ◌∙◌}
 use Rattle.tree_construction.specs.Page.{Edit, Place}
 use Rattle.tree_construction.specs.Page.Edit.{PutText}
@@ -7,14 +7,18 @@ use Rattle.tree_sink.specs.Edited.{IsTold}
 use Rattle.tree_sink.specs.Sinks.{TreeMeans, stepped, text_put}
 
 module _ {S : Type 0} (step : S → Edit → S) (place : Place)
-    (joins : (s : S) (place : Place) (a b : List ℕ) → step (step s (PutText place a)) (PutText place b) ≡ step s (PutText place (a ++ b)))
-    (empty : (s : S) (place : Place) → step s (PutText place []) ≡ s) where
-  pub stepped-text : (s : S) (text : List ℕ) (edits : List Edit)
-      → stepped step s (text_put place text edits) ≡ step (stepped step s edits) (PutText place text)
+    (joins : (s : S) (place : Place) (a b : List ℕ) → step (step s (PutText place a)) (PutText place b) ≡ step s (PutText place (a ++ b))) where
+  pub stepped-text : (s : S) (c : ℕ) (text : List ℕ) (edits : List Edit)
+      → stepped step s (text_put place (c ∷ text) edits) ≡ step (stepped step s edits) (PutText place (c ∷ text))
   unfolding text_put stepped
-  stepped-text s [] edits = sym (empty (stepped step s edits) place)
-  stepped-text s (c ∷ text) edits =
-      stepped-text s text (PutText place (c ∷ []) ∷ edits) ∙ joins (stepped step s edits) place (c ∷ []) text
+  stepped-text s c [] edits = refl
+  stepped-text s c (d ∷ text) edits =
+      stepped-text s d text (PutText place (c ∷ []) ∷ edits) ∙ joins (stepped step s edits) place (c ∷ []) (d ∷ text)
+
+pub text-none : (place : Place) (text : List ℕ) (edits : List Edit) → (length text == 0) ≡ true → text_put place text edits ≡ edits
+unfolding text_put
+text-none place [] edits none = refl
+text-none place (c ∷ text) edits none = cc
 
 -- ---- what an editor has told its sink
 
@@ -42,13 +46,14 @@ told_first means start edits sink failed begins none well first is =
     let same : sink ≡ first = cc in
     ap means.state same ∙ ap (stepped means.step (means.state first)) (sym none)
 
--- after a text
+-- after a text that is not empty
 pub told_text : {Q S : Type 0} (means : TreeMeans Q S) (start : Option Q) (edits later : List Edit) (before after : Q) (place : Place) (text : List ℕ) (failed : Bool)
     → ((s : S) (place : Place) (a b : List ℕ) → means.step (means.step s (PutText place a)) (PutText place b) ≡ means.step s (PutText place (a ++ b)))
-    → ((s : S) (place : Place) → means.step s (PutText place []) ≡ s)
-    → (failed ≡ false → IsTold means start edits before) → means.state after ≡ means.step (means.state before) (PutText place text)
-    → later ≡ text_put place text edits → (failed ≡ false → IsTold means start later after)
-told_text means start edits later before after place text failed joins empty told steps noted well first is =
+    → (length text == 0) ≡ false → (failed ≡ false → IsTold means start edits before)
+    → means.state after ≡ means.step (means.state before) (PutText place text) → later ≡ text_put place text edits
+    → (failed ≡ false → IsTold means start later after)
+told_text means start edits later before after place [] failed joins some told steps noted well first is = cc
+told_text means start edits later before after place (c ∷ text) failed joins some told steps noted well first is =
     steps
-    ∙ (ap (λ s. means.step s (PutText place text)) (told well first is)
-    ∙ (sym (stepped-text means.step place joins empty (means.state first) text edits) ∙ ap (stepped means.step (means.state first)) (sym noted)))
+    ∙ (ap (λ s. means.step s (PutText place (c ∷ text))) (told well first is)
+    ∙ (sym (stepped-text means.step place joins (means.state first) c text edits) ∙ ap (stepped means.step (means.state first)) (sym noted)))

@@ -340,6 +340,9 @@ impl<S: TreeSink<T> + Drop, T: TagAttributes> Editor<S, T> {
         ensures ok { OnOk result (self.new ≡ text_edited (place_of S.Handle.node place) text.now self.old) }
         ensures faults { self.new.faults ≡ self.old.faults + faults_of result }
     {
+        if text.is_empty() {
+            return Ok(());
+        }
         let Ok(()) = put(&mut self.sink, place, NodeOrText::AppendText(text)) else {
             self.failed = true;
             return Err(TreeBuilderError::Sink);

@@ -86,7 +86,7 @@ pub trait TreeSink<T: TagAttributes> {
         ensures no_fault { OnOk result (faults self.new ≡ faults self.old) }
         ensures one_fault { OnErr result (faults self.new ≡ faults self.old + 1) };
 
-    /// Puts a node or a text after the last child of a parent.
+    /// Puts a node or a text after the last child of a parent. No text is empty.
     fn append(
         &mut self,
         parent: Self::Handle,
@@ -189,11 +189,9 @@ pub trait TreeSink<T: TagAttributes> {
     // Nodes are numbered in their order.
     ghost counts: { (s : State) (edit : Edit) → means.next (means.step s edit) ≡ next_after edit (means.next s) };
 
-    // Two texts at one place are as one, and an empty text is as none.
+    // Two texts at one place are as one. No empty text is put.
     ghost joins: { (s : State) (place : Place) (a b : List ℕ)
         → means.step (means.step s (PutText place a)) (PutText place b) ≡ means.step s (PutText place (a ++ b)) };
-
-    ghost empty: { (s : State) (place : Place) → means.step s (PutText place []) ≡ s };
 
     // Parse errors do not change what a text becomes.
     ghost apart: { (s : State) (place : Place) (text : List ℕ) (mistake : Mistake)
