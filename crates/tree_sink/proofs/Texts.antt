@@ -1,6 +1,7 @@
 -- A text that is put byte by byte is as one that is put at once.
 use Rattle.std.specs.Prelude.{◌≡◌, ℕ, Bool, true, false, List, [], ◌∷◌, ◌++◌, Option, Some, length, ◌==◌, refl}
-use Rattle.std.proofs.Common.{ap, sym, ◌∙◌}
+use Rattle.std.proofs.Common.{ap, arith, sym, ◌∙◌}
+use Rattle.std.proofs.lemmas.Bool.{eqb-true}
 use Rattle.tree_construction.specs.Page.{Edit, Place}
 use Rattle.tree_construction.specs.Page.Edit.{PutText}
 use Rattle.tree_sink.specs.Edited.{IsTold}
@@ -18,7 +19,7 @@ module _ {S : Type 0} (step : S → Edit → S) (place : Place)
 pub text-none : (place : Place) (text : List ℕ) (edits : List Edit) → (length text == 0) ≡ true → text_put place text edits ≡ edits
 unfolding text_put
 text-none place [] edits none = refl
-text-none place (c ∷ text) edits none = cc
+text-none place (c ∷ text) edits none = absurd (omega (arith, eqb-true (length (c ∷ text)) 0 none))
 
 -- ---- what an editor has told its sink
 
