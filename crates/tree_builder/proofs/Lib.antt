@@ -1,0 +1,2 @@
+pub mod TagKinds
+pub mod HtmlElements

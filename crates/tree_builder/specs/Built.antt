@@ -1,10 +1,13 @@
 -- What a builder holds, as a parser of the definition.
-use Rattle.std.specs.Prelude.{ℕ, Bool, true, not, List, [], ◌∷◌, ◌&&◌, Option, Some, None, codes, option_map, string_bytes}
+use Rattle.std.specs.Prelude.{ℕ, suc, Bool, true, not, List, [], ◌∷◌, ◌&&◌, Option, Some, None, codes, option_map, string_bytes, if◌then◌else◌}
 use Rattle.markup5ever.specs.Names.{AttributeOf}
-use Rattle.tree_construction.specs.Names.{ends_table_scope, is_body_context, is_implied, is_implied_thoroughly, is_row_context}
+use Rattle.tree_construction.specs.Names.{ends_table_scope, is_body_context, is_implied, is_implied_thoroughly, is_row_context, is_template, namespace_of}
 use Rattle.tree_construction.specs.ForeignContent.{stays_foreign}
-use Rattle.tree_construction.specs.Page.{Open}
-use Rattle.tree_construction.specs.Parser.{Again, Context, Options, Parser, Request}
+use Rattle.tree_construction.specs.Page.{Open, Page, Place, contents_of, edited, pushed}
+use Rattle.tree_construction.specs.Page.Edit.{MakeElement, Put}
+use Rattle.tree_construction.specs.declared.kinds.Kind.{Kind}
+use Rattle.tree_construction.specs.declared.kinds.Namespace.{Namespace}
+use Rattle.tree_construction.specs.Parser.{Again, Context, Options, Parser, Request, associated_with, on_page}
 use Rattle.tree_construction.specs.Parser.Request.{GoOn, ReadRaw, ReadPlain, Run, UseCharset, UseContent}
 use Rattle.tree_construction.specs.Tokens.{StartTagOf, Token}
 use Rattle.tree_construction.specs.Tokens.Token.{StartTag}
@@ -77,3 +80,22 @@ is_popped node OutsideTableBody e = not (is_body_context e.kind)
 is_popped node OutsideTableRow e = not (is_row_context e.kind)
 is_popped node Foreign e = stays_foreign e
 is_popped node Any e = true
+
+-- an element that was made without template contents, and the contents of one that is a template
+abbrev pub created : Namespace → List ℕ → List AttributeOf → Page → Page
+created namespace name attributes page =
+    record page { next = suc page.next; edits = MakeElement page.next namespace name attributes ∷ page.edits }
+
+abbrev pub with_contents : Kind → ℕ → Page → Page
+with_contents kind n page =
+    record page { next = if is_template kind then suc page.next else page.next; edits = contents_of kind n page.edits }
+
+-- an element that was made of attributes which have the names of its namespace
+abbrev pub made_as : Kind → List ℕ → List AttributeOf → Page → Page
+made_as kind name attributes page = with_contents kind page.next (created (namespace_of kind) name attributes page)
+
+-- and inserted
+abbrev pub inserted_as : Place → Kind → List ℕ → List AttributeOf → (takes : Bool) → Parser → Parser
+inserted_as place kind name attributes takes p =
+    let n : ℕ = p.page.next in
+    on_page (λ page. pushed kind name n (edited (Put place n) (associated_with p.form takes n place (made_as kind name attributes page)))) p

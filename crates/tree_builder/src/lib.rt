@@ -3,6 +3,7 @@
 
 pub mod builder;
 pub mod closing;
+pub mod inserting;
 pub mod options;
 pub mod places;
 pub mod request;

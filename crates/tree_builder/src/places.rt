@@ -80,10 +80,7 @@ impl<S: TreeSink<T> + Drop, T: TagAttributes, A: Allocator> Builder<S, T, A> {
         ensures { result ≡ is_too_deep extra self.now.parser.options.depth_limit self.now.parser.page.opened }
     {
         match self.opts.depth_limit {
-            Some(limit) => match limit.checked_add(extra) {
-                Some(most) => most < self.opened.len(),
-                None => false,
-            },
+            Some(limit) => limit < self.opened.len().saturating_sub(extra),
             None => false,
         }
     }
