@@ -8,7 +8,7 @@ use Rattle.tree_construction.specs.declared.kinds.Kind.{Kind}
 use Rattle.tree_construction.specs.declared.kinds.Namespace.{Namespace}
 use Rattle.tree_construction.specs.declared.kinds.Namespace.TheVariants.{Html, MathMl, Svg}
 
-html-namespace : (kind : Kind) → is_html kind ≡ true → namespace_of kind ≡ Html
+pub html-namespace : (kind : Kind) → is_html kind ≡ true → namespace_of kind ≡ Html
 html-namespace kind e = by (namespace_of kind) refl
   where
     by : (namespace : Namespace) → namespace_of kind ≡ namespace → namespace_of kind ≡ Html

@@ -1,7 +1,8 @@
 //! "Creating and inserting nodes".
 ghost use Rattle.std.specs.Prelude.{◌≡◌, [], IfOk, OnOk};
-ghost use Rattle.tree_construction.specs.Names.{kind_of, namespace_of};
-ghost use Rattle.tree_construction.specs.declared.kinds.Namespace.TheVariants.{Html};
+ghost use Rattle.tree_construction.specs.Names.{kind_in_namespace, kind_of};
+ghost use Rattle.tree_construction.specs.Adjusting.{adjusted_tag_name};
+ghost use Rattle.tree_construction.specs.InBody.{insert_foreign};
 ghost use Rattle.tree_construction.specs.Page.{comment_put, edited, made, pushed};
 ghost use Rattle.tree_construction.specs.Page.Edit.{Put};
 ghost use Rattle.tree_construction.specs.Parser.{associated_with, insert, insert_comment, insert_comment_in_document, insert_comment_in_root, insert_text, insert_void, inserted, inserted_at, on_page, takes_form};
@@ -15,6 +16,7 @@ use crate::tag::{StartTag, html_kind};
 use std::alloc::Allocator;
 use tree_construction::kinds::{Kind, Namespace};
 use tree_lists::opened::OpenElement;
+use tree_names::adjusting::{svg_kind, svg_tag_name};
 use tree_names::known::KnownName;
 use tree_names::name::ElementName;
 use tree_sink::attributes::TagAttributes;
@@ -139,21 +141,25 @@ impl<S: TreeSink<T> + Drop, T: TagAttributes, A: Allocator + Copy> Builder<S, T,
         Ok(handle)
     }
 
-    // "Insert an HTML element" of a kind at a place.
-    fn insert_at(
+    // The same, of attributes as the tag has them.
+    pub(crate) fn insert_at(
         &mut self,
         place: InsertionPoint<S::Handle>,
         kind: Kind,
         name: &ElementName<A>,
         attributes: &T,
     ) -> Result<S::Handle, TreeBuilderError>
-        requires html { namespace_of kind ≡ Html }
         ensures ok { OnOk result (self.new ≡ on_parser (inserted_at (sink_place S.Handle.node place) kind (name_bytes name.now)
             (T.said attributes.now)) self.old) }
         ensures node { IfOk result (λ handle. S.Handle.node handle ≡ self.old.parser.page.next) }
     {
         let takes = self.takes_form(kind, attributes);
-        self.insert_as(place, kind, name, attributes, takes)
+        if kind.is_html() {
+            return self.insert_as(place, kind, name, attributes, takes);
+        }
+        let mut adjusted = attributes.share()?;
+        adjusted.adjust(kind.namespace())?;
+        self.insert_as(place, kind, name, &adjusted, takes)
     }
 
     /// "Insert an HTML element" of a kind.
@@ -163,7 +169,6 @@ impl<S: TreeSink<T> + Drop, T: TagAttributes, A: Allocator + Copy> Builder<S, T,
         name: &ElementName<A>,
         attributes: &T,
     ) -> Result<S::Handle, TreeBuilderError>
-        requires html { namespace_of kind ≡ Html }
         ensures ok { OnOk result (self.new ≡ on_parser (inserted kind (name_bytes name.now) (T.said attributes.now)) self.old) }
         ensures node { IfOk result (λ handle. S.Handle.node handle ≡ self.old.parser.page.next) }
     {
@@ -244,5 +249,51 @@ impl<S: TreeSink<T> + Drop, T: TagAttributes, A: Allocator + Copy> Builder<S, T,
         self.pop()?;
         self.acknowledge();
         Ok(())
+    }
+
+    /// "Insert a foreign element for the token", with adjusted names.
+    pub fn insert_foreign(
+        &mut self,
+        namespace: Namespace,
+        tag: &StartTag<T, A>,
+    ) -> Result<(), TreeBuilderError>
+        ensures { OnOk result (self.new ≡ on_parser (insert_foreign namespace (tag_of T.said tag.now)) self.old) }
+    {
+        let name = self.adjusted_name(namespace, tag)?;
+        let kind = foreign_kind(namespace, &name, &tag.attributes);
+        let place = self.place(usize::from(tag.self_closing));
+        self.insert_at(place, kind, &name, &tag.attributes)?;
+        Ok(())
+    }
+
+    // The tag name of an element in a namespace.
+    fn adjusted_name(
+        &self,
+        namespace: Namespace,
+        tag: &StartTag<T, A>,
+    ) -> Result<ElementName<A>, TreeBuilderError>
+        ensures { IfOk result (λ name. name_bytes name ≡ adjusted_tag_name namespace (name_bytes tag.now.name)) }
+    {
+        if namespace == Namespace::Svg {
+            if let Some(name) = svg_tag_name(tag.name.as_str()) {
+                return Ok(ElementName::Other(String::from_str(self.alloc, name)?));
+            }
+        }
+        Ok(tag.name.try_clone()?)
+    }
+}
+
+// The kind of an element in a namespace, by its adjusted name and the attributes of its tag.
+fn foreign_kind<T: TagAttributes, A: Allocator>(
+    namespace: Namespace,
+    name: &ElementName<A>,
+    attributes: &T,
+) -> Kind
+    ensures { result ≡ kind_in_namespace namespace (name_bytes name.now) (T.said attributes.now) }
+{
+    match namespace {
+        Namespace::Html => name.kind(),
+        Namespace::MathMl => attributes.math_kind(name.as_str()),
+        Namespace::Svg => svg_kind(name.as_str()),
     }
 }

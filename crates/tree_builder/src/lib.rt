@@ -3,8 +3,11 @@
 
 pub mod builder;
 pub mod closing;
+pub mod formatting;
 pub mod inserting;
 pub mod options;
 pub mod places;
 pub mod request;
+pub mod resetting;
 pub mod tag;
+pub mod texts;

@@ -1,6 +1,6 @@
 -- A search by node finds where its entry stands in the list of active formatting elements.
-use Rattle.std.proofs.Common.{◌≡◌, ℕ, zero, suc, ◌+◌, ◌<◌, ◌≤◌, Bool, true, false, List, [], ◌∷◌, ◌++◌, Option, Some, None, length, take, drop, refl, ap, sym, ◌∙◌, arith, add-one, append_assoc}
-use Rattle.std.specs.Prelude.{◌==◌, if◌then◌else◌}
+use Rattle.std.proofs.Common.{◌≡◌, ℕ, zero, suc, ◌+◌, ◌<◌, true, false, List, [], ◌∷◌, ◌++◌, Some, length, take, drop, refl, ap, ◌∙◌, arith, add-one}
+use Rattle.std.specs.Prelude.{◌==◌}
 use Rattle.tree_construction.specs.Adoption.{added_after, entry_of, replaced}
 use Rattle.tree_construction.specs.Formatting.{Listed, has_entry, is_entry_of, without_entry}
 use Rattle.tree_construction.specs.Parser.{Entry}

@@ -1,22 +1,15 @@
 -- Searches in the list of active formatting elements: entries that are opened again, the earliest of those that are alike, the earliest after the
 -- last marker.
-use Rattle.std.proofs.Common.{◌≡◌, ℕ, zero, suc, ◌+◌, ◌-◌, ◌<◌, ◌≤◌, Bool, true, false, List, [], ◌∷◌, ◌++◌, length, take, drop, refl, ap, subst, sym, ◌∙◌, arith, add-one, append_assoc}
+use Rattle.std.proofs.Common.{◌≡◌, ℕ, zero, suc, ◌+◌, ◌-◌, ◌<◌, ◌≤◌, true, false, List, [], ◌∷◌, ◌++◌, length, take, drop, refl, ap, subst, sym, ◌∙◌, arith, add-one, append_assoc}
 use Rattle.std.proofs.lemmas.Bool.Decides.{nat_tests}
-use Rattle.std.proofs.lemmas.List.{append-nil, drop_all, take-append-drop, take_all}
-use Rattle.std.specs.Prelude.{map, ◌==◌, ◌&&◌, if◌then◌else◌}
+use Rattle.std.proofs.lemmas.List.{drop_all, take-append-drop}
+use Rattle.std.specs.Prelude.{◌==◌}
 use Rattle.markup5ever.specs.Names.{AttributeOf}
-use Rattle.tree_construction.specs.Formatting.{Listed, count_after_marker, count_alike, is_after_marker, is_alike, still_listed, to_reopen, without_earliest, without_oldest}
-use Rattle.tree_construction.specs.Page.{Open, has_number, has_open}
+use Rattle.tree_construction.specs.Formatting.{Listed, count_after_marker, count_alike, is_alike, without_earliest, without_oldest}
 use Rattle.tree_construction.specs.Parser.{Entry}
 use Rattle.tree_construction.specs.Parser.Entry.{Active, Marker}
 use Rattle.tree_lists.specs.Formatting.{active_of}
-use Rattle.tree_lists.specs.ListPlaces.{AreLost, IsEarliest, IsOldest}
-
--- ---- entries that are lost
-
-pub record IsLosing (opened : List Open) (list : List Entry) (d : ℕ) : Type 0 where
-  pub lost : take d list ++ map active_of (to_reopen opened (drop d list)) ≡ map active_of (to_reopen opened list)
-  pub kept : still_listed opened (drop d list) ≡ still_listed opened list
+use Rattle.tree_lists.specs.ListPlaces.{IsEarliest, IsOldest}
 
 take-more : {Y : Type 0} (d : ℕ) (list : List Y) (x : Y) (rest : List Y) → drop d list ≡ x ∷ rest → take (suc d) list ≡ take d list ++ x ∷ []
 take-more zero [] x rest e = cc
@@ -26,51 +19,6 @@ take-more (suc d) (y ∷ list) x rest e = ap (λ ys. y ∷ ys) (take-more d list
 
 pub take-one_more : {Y : Type 0} (d : ℕ) (list : List Y) (x : Y) (rest : List Y) → drop d list ≡ x ∷ rest → take (d + 1) list ≡ take d list ++ x ∷ []
 take-one_more d list x rest e = rw (add-one d) (take-more d list x rest e)
-
-pub losing-more : (opened : List Open) (list : List Entry) (d : ℕ) (e : Listed) → IsLosing opened list d → drop d list ≡ active_of e ∷ drop (d + 1) list
-    → has_open (has_number e.node) opened ≡ false → IsLosing opened list (d + 1)
-unfolding to_reopen still_listed
-losing-more opened list d e s f t =
-    let l : to_reopen opened (drop d list) ≡ e ∷ to_reopen opened (drop (d + 1) list) = rw f (rw t refl) in
-    let k : still_listed opened (drop d list) ≡ still_listed opened (drop (d + 1) list) = rw f (rw t refl) in
-    record {
-      lost =
-          ap (λ ys. ys ++ map active_of (to_reopen opened (drop (d + 1) list))) (take-one_more d list (active_of e) (drop (d + 1) list) f)
-          ∙ (append_assoc (take d list) (active_of e ∷ []) (map active_of (to_reopen opened (drop (d + 1) list)))
-          ∙ (ap (λ ys. take d list ++ map active_of ys) (sym l) ∙ s.lost));
-      kept = sym k ∙ s.kept;
-    }
-
-pub lost-at : (opened : List Open) (list : List Entry) (d : ℕ) → IsLosing opened list d → d ≤ length list → to_reopen opened (drop d list) ≡ []
-    → still_listed opened (drop d list) ≡ drop d list → AreLost opened list d
-lost-at opened list d s h l k =
-    record {
-      within = h;
-      lost = sym s.lost ∙ (ap (λ ys. take d list ++ map active_of ys) l ∙ append-nil (take d list));
-      kept = sym s.kept ∙ k;
-    }
-
-pub lost-marker : (opened : List Open) (list : List Entry) (d : ℕ) → IsLosing opened list d → d ≤ length list → drop d list ≡ Marker ∷ drop (d + 1) list
-    → AreLost opened list d
-unfolding to_reopen still_listed
-lost-marker opened list d s h f = lost-at opened list d s h (rw f refl) (rw f refl)
-
-pub lost-open : (opened : List Open) (list : List Entry) (d : ℕ) (e : Listed) → IsLosing opened list d → d ≤ length list → drop d list ≡ active_of e ∷ drop (d + 1) list
-    → has_open (has_number e.node) opened ≡ true → AreLost opened list d
-unfolding to_reopen still_listed
-lost-open opened list d e s h f t = lost-at opened list d s h (rw f (rw t refl)) (rw f (rw t refl))
-
-pub lost-all : (opened : List Open) (list : List Entry) (d n : ℕ) → IsLosing opened list d → length list ≤ d → n ≡ length list → AreLost opened list n
-unfolding to_reopen still_listed
-lost-all opened list d n s h e =
-    let none : drop d list ≡ [] = drop_all d list h in
-    let none_n : drop n list ≡ [] = drop_all n list (omega arith) in
-    let all : take n list ≡ take d list = take_all n list (omega arith) ∙ sym (take_all d list h) in
-    record {
-      within = omega arith;
-      lost = sym s.lost ∙ (rw none (append-nil (take d list)) ∙ sym all);
-      kept = sym s.kept ∙ (rw none (sym none_n));
-    }
 
 -- ---- the earliest entry that is like an element
 

@@ -1,7 +1,8 @@
 -- The list of active formatting elements of code, as that of the definition.
-use Rattle.std.specs.Prelude.{ℕ, List, map, nat_le, if◌then◌else◌}
+use Rattle.std.specs.Prelude.{ℕ, Bool, false, not, List, [], ◌∷◌, Option, Some, None, map, nat_le, if◌then◌else◌}
 use Rattle.markup5ever.specs.Names.{AttributeOf}
 use Rattle.tree_construction.specs.Formatting.{Listed, count_alike, without_earliest}
+use Rattle.tree_construction.specs.Page.{Open, has_number, has_open}
 use Rattle.tree_construction.specs.Parser.{Entry}
 use Rattle.tree_construction.specs.Parser.Entry.{Marker, Active}
 use Rattle.tree_names.specs.ElementNames.{name_bytes}
@@ -31,3 +32,13 @@ with_node n (Active m kind name attributes) = Active n kind name attributes
 -- with room for an element, by the Noah's Ark clause
 abbrev pub with_room : List ℕ → List AttributeOf → List Entry → List Entry
 with_room name attributes list = if nat_le 3 (count_alike name attributes list) then without_earliest name attributes list else list
+
+-- whether the last entry is of an element that is not open
+abbrev pub is_lost : List Open → List Entry → Bool
+is_lost opened [] = false
+is_lost opened (Marker ∷ list) = false
+is_lost opened (Active n kind name attributes ∷ list) = not (has_open (has_number n) opened)
+
+abbrev pub before_lost : Option Listed → List Listed → List Listed
+before_lost None lost = lost
+before_lost (Some e) lost = e ∷ lost

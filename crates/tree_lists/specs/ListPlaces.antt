@@ -1,10 +1,9 @@
 -- Where entries stand in the list of active formatting elements, counted from the last. These are words of the proofs: no promise to callers is
 -- made of them.
-use Rattle.std.specs.Prelude.{◌≡◌, ℕ, ◌+◌, ◌<◌, ◌≤◌, Bool, true, false, List, ◌∷◌, ◌++◌, Option, Some, None, drop, length, map, take}
+use Rattle.std.specs.Prelude.{◌≡◌, ℕ, ◌+◌, ◌<◌, true, false, List, ◌∷◌, ◌++◌, Some, None, drop, length, take}
 use Rattle.markup5ever.specs.Names.{AttributeOf}
 use Rattle.tree_construction.specs.Adoption.{added_after, entry_of, replaced}
-use Rattle.tree_construction.specs.Formatting.{Listed, has_entry, still_listed, to_reopen, without_earliest, without_entry, without_oldest}
-use Rattle.tree_construction.specs.Page.{Open}
+use Rattle.tree_construction.specs.Formatting.{Listed, has_entry, without_earliest, without_entry, without_oldest}
 use Rattle.tree_construction.specs.Parser.{Entry}
 use Rattle.tree_lists.specs.Formatting.{active_of}
 
@@ -23,12 +22,6 @@ pub record IsNotListed (n : ℕ) (list : List Entry) : Type 0 where
   pub without : without_entry n list ≡ list
   pub replaced : (new : Entry) → replaced n new list ≡ list
   pub added : (new : Entry) → added_after n new list ≡ list
-
--- so many entries are opened again
-pub record AreLost (opened : List Open) (list : List Entry) (d : ℕ) : Type 0 where
-  pub within : d ≤ length list
-  pub lost : map active_of (to_reopen opened list) ≡ take d list
-  pub kept : still_listed opened list ≡ drop d list
 
 pub record IsEarliest (name : List ℕ) (attributes : List AttributeOf) (list : List Entry) (d : ℕ) : Type 0 where
   pub within : d < length list

@@ -1,6 +1,6 @@
 -- Where a node stands among the open elements, counted from the current node. These are words of the proofs: no promise to callers is made of
 -- them.
-use Rattle.std.specs.Prelude.{◌≡◌, ℕ, ◌+◌, ◌<◌, Bool, true, false, List, [], ◌++◌, drop, length, take}
+use Rattle.std.specs.Prelude.{◌≡◌, ℕ, ◌+◌, ◌<◌, true, false, List, [], ◌++◌, drop, length, take}
 use Rattle.tree_construction.specs.Adoption.{opened_inside, opened_outside}
 use Rattle.tree_construction.specs.Page.{Open, has_number, has_open, without_open}
 

@@ -1,12 +1,12 @@
 //! "The list of active formatting elements".
-ghost use Rattle.std.specs.Prelude.{◌≡◌, ◌<◌, ◌+◌, ◌-◌, List, [], ◌∷◌, ◌++◌, drop, length, take, IfNone, IfSome, MatchOption, OnErr, OnOk};
+ghost use Rattle.std.specs.Prelude.{◌≡◌, ◌<◌, ◌+◌, ◌-◌, List, [], ◌∷◌, ◌++◌, drop, length, option_map, take, IfNone, IfSome, MatchOption, OnErr, OnOk};
 ghost use Rattle.tree_construction.specs.Adoption.{added_after, at_bookmark, replaced};
-ghost use Rattle.tree_construction.specs.Formatting.{Listed, cleared, count_after_marker, count_alike, has_entry, is_alike, is_entry_of, last_named, with_entry, within_limit, without_earliest, without_entry, without_oldest};
+ghost use Rattle.tree_construction.specs.Formatting.{Listed, cleared, count_after_marker, count_alike, has_entry, is_alike, is_entry_of, last_named, still_listed, to_reopen, with_entry, within_limit, without_earliest, without_entry, without_oldest};
 ghost use Rattle.tree_construction.specs.Parser.{Entry};
 ghost use Rattle.tree_names.specs.ElementNames.{name_bytes};
-ghost use Rattle.tree_lists.specs.Formatting.{active_of, entry_of, listed_of, with_room};
+ghost use Rattle.tree_lists.specs.Formatting.{active_of, before_lost, entry_of, is_lost, listed_of, with_room};
 ghost use Rattle.tree_lists.specs.Opened.{node_in};
-ghost use Rattle.tree_lists.specs.ListPlaces.{AreLost, IsEarliest, IsListedAt, IsNotListed, IsOldest};
+ghost use Rattle.tree_lists.specs.ListPlaces.{IsEarliest, IsListedAt, IsNotListed, IsOldest};
 
 use crate::opened::OpenElements;
 use crate::stack::Stack;
@@ -316,21 +316,35 @@ impl<H: NodeHandle, T: TagAttributes, A: Allocator> FormattingList<H, T, A> {
         Ok(())
     }
 
-    /// How many of the last entries are to be opened again.
-    pub fn count_lost(&self, opened: &OpenElements<H, A>) -> usize
-        ensures { AreLost opened.now self.now result }
+    // Whether the last entry is of an element that is not open.
+    fn last_is_lost(&self, opened: &OpenElements<H, A>) -> bool
+        ensures { result ≡ is_lost opened.now self.now }
     {
-        for depth in 0..self.len() {
-            match self.at(depth) {
-                FormatEntry::Mark => return depth,
-                FormatEntry::Active(element) => {
-                    if opened.has(&Wanted::Node(element.handle)) {
-                        return depth;
-                    }
-                }
-            }
+        if self.len() == 0 {
+            return false;
         }
-        self.len()
+        match self.at(0) {
+            FormatEntry::Mark => false,
+            FormatEntry::Active(element) => !opened.has(&Wanted::Node(element.handle)),
+        }
+    }
+
+    /// Takes the last entry, if it is of an element that is not open: "reconstruct the active formatting elements" opens
+    /// it again.
+    #[tactic(auto, unfolding(tree_construction::specs::Formatting::to_reopen, tree_construction::specs::Formatting::still_listed))]
+    pub fn pop_lost(&mut self, opened: &OpenElements<H, A>) -> Option<Formatting<H, T, A>>
+        ensures lost { to_reopen opened.now self.old ≡ before_lost (option_map (listed_of H.node T.said) result) (to_reopen opened.now self.new) }
+        ensures kept { still_listed opened.now self.new ≡ still_listed opened.now self.old }
+        ensures none { IfNone result ((self.new ≡ self.old) × (to_reopen opened.now self.old ≡ []) × (still_listed opened.now self.old ≡ self.old)) }
+        ensures some { IfSome result (λ e. self.old ≡ active_of (listed_of H.node T.said e) ∷ self.new) }
+    {
+        if !self.last_is_lost(opened) {
+            return None;
+        }
+        match self.pop() {
+            Some(FormatEntry::Active(element)) => Some(element),
+            _ => unreachable!(),
+        }
     }
 
     // Puts another element in the place of a node's entry.

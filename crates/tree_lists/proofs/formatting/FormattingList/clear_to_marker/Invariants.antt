@@ -1,4 +1,4 @@
-use Rattle.std.proofs.Common.{◌≡◌, drop}
+use Rattle.std.proofs.Common.{◌≡◌}
 use Rattle.std.proofs.Common.{length}
 use Rattle.tree_construction.specs.Formatting.{cleared}
 use Rattle.tree_lists.proofs.formatting.FormattingList.clear_to_marker.Given as goal

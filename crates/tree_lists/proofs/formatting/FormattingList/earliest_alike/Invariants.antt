@@ -1,4 +1,3 @@
-use Rattle.std.proofs.Common.{◌≡◌, drop}
 use Rattle.tree_lists.proofs.Searches.{IsCounting}
 use Rattle.tree_lists.specs.Formatting.{listed_of}
 use Rattle.tree_lists.proofs.formatting.FormattingList.earliest_alike.Given as goal

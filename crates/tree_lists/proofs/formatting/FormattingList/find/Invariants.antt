@@ -1,4 +1,4 @@
-use Rattle.std.proofs.Common.{◌≡◌, drop}
+use Rattle.std.proofs.Common.{◌≡◌}
 use Rattle.std.proofs.Common.{false, take}
 use Rattle.tree_construction.specs.Formatting.{has_entry}
 use Rattle.tree_lists.proofs.formatting.FormattingList.find.Given as goal

@@ -1,4 +1,3 @@
-use Rattle.std.proofs.Common.{◌+◌}
 use Rattle.std.proofs.lemmas.Result.{on_ok_weaker}
 use Rattle.tree_lists.proofs.Mapped.{put-mapped}
 use Rattle.tree_lists.specs.Formatting.{entry_of}

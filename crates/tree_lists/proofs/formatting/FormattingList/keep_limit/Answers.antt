@@ -1,8 +1,7 @@
-use Rattle.std.proofs.Common.{◌≡◌, ◌<◌, ◌+◌, ◌-◌, arith, ap, drop, length, sym, ◌∙◌}
-use Rattle.std.specs.Prelude.{ℕ, List, true, Some, nat_lt, if◌then◌else◌}
+use Rattle.std.proofs.Common.{◌≡◌, ◌<◌, arith, sym, ◌∙◌}
+use Rattle.std.specs.Prelude.{true, nat_lt}
 use Rattle.std.proofs.lemmas.Bool.Decides.{nat_tests}
-use Rattle.tree_construction.specs.Formatting.{count_after_marker, within_limit, without_oldest}
-use Rattle.tree_construction.specs.Parser.{Entry}
+use Rattle.tree_construction.specs.Formatting.{count_after_marker}
 use Rattle.tree_lists.proofs.Searches.{oldest-at}
 use Rattle.tree_lists.proofs.formatting.FormattingList.keep_limit.Goals as goal
 

@@ -1,4 +1,4 @@
-use Rattle.std.proofs.Common.{◌≡◌, drop}
+use Rattle.std.proofs.Common.{◌≡◌}
 use Rattle.std.proofs.Common.{false, take}
 use Rattle.tree_construction.specs.Page.{has_number, has_open}
 use Rattle.tree_lists.proofs.opened.OpenElements.find.Given as goal

@@ -1,4 +1,4 @@
-use Rattle.std.proofs.Common.{arith, drop, ◌+◌, ◌-◌}
+use Rattle.std.proofs.Common.{arith, ◌-◌}
 use Rattle.tree_lists.proofs.OpenPlaces.{first-at}
 use Rattle.tree_lists.specs.Opened.{open_of}
 use Rattle.tree_lists.proofs.opened.OpenElements.first.Goals as goal

@@ -1,4 +1,4 @@
-use Rattle.std.proofs.Common.{ap, sym, ◌∙◌}
+use Rattle.std.proofs.Common.{sym, ◌∙◌}
 use Rattle.tree_lists.proofs.OpenPlaces.{block-other, block-special}
 use Rattle.tree_lists.specs.Opened.{open_of}
 use Rattle.tree_lists.proofs.opened.OpenElements.furthest_block.Goals as goal

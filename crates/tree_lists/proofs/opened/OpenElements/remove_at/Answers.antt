@@ -1,6 +1,3 @@
-use Rattle.std.proofs.Common.{ap, ◌∷◌, ◌+◌, drop, rules, sym, ◌∙◌}
-use Rattle.std.proofs.lemmas.List.{drop-map}
-use Rattle.std.specs.Prelude.{map}
 use Rattle.tree_lists.proofs.Mapped.{at-mapped, removed-mapped}
 use Rattle.tree_lists.specs.Opened.{open_of}
 use Rattle.tree_lists.proofs.opened.OpenElements.remove_at.Goals as goal

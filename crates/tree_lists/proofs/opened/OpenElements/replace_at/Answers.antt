@@ -1,6 +1,5 @@
-use Rattle.std.proofs.Common.{ap, ◌∷◌, ◌+◌, drop, rules, sym, ◌∙◌}
+use Rattle.std.proofs.Common.{◌+◌}
 use Rattle.std.proofs.lemmas.Result.{on_ok_weaker}
-use Rattle.std.specs.Prelude.{map}
 use Rattle.tree_lists.proofs.Mapped.{put-mapped}
 use Rattle.tree_lists.specs.Opened.{open_of}
 use Rattle.tree_lists.proofs.opened.OpenElements.replace_at.Goals as goal

@@ -1,5 +1,5 @@
-use Rattle.std.proofs.Common.{arith, ap, drop, sym, ◌+◌, ◌-◌, ◌∙◌}
-use Rattle.std.specs.Prelude.{◌≡◌, ℕ, Option, Some, None, if◌then◌else◌}
+use Rattle.std.proofs.Common.{arith, ap, sym, ◌-◌, ◌∙◌}
+use Rattle.std.specs.Prelude.{Some, None, if◌then◌else◌}
 use Rattle.tree_lists.proofs.OpenPlaces.{second-at, second-none}
 use Rattle.tree_lists.specs.Opened.{open_of}
 use Rattle.tree_lists.proofs.opened.OpenElements.second_body.Goals as goal

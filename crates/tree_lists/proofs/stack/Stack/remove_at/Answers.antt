@@ -1,4 +1,4 @@
-use Rattle.std.proofs.Common.{◌≡◌, ◌<◌, ◌+◌, ◌-◌, ap, arith, drop, get_or, length, rules, sym, vec_len, ◌∙◌}
+use Rattle.std.proofs.Common.{◌≡◌, ◌+◌, ◌-◌, ap, arith, length, rules, vec_len}
 use Rattle.std.proofs.lemmas.List.{length-reverse}
 use Rattle.tree_lists.proofs.Reversed.{at-reverse, removed-reverse}
 use Rattle.tree_lists.proofs.stack.Stack.remove_at.Goals as goal
