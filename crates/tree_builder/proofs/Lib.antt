@@ -1,2 +1,4 @@
 pub mod TagKinds
 pub mod HtmlElements
+pub mod Reopened
+pub mod TemplateModes

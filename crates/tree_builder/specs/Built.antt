@@ -7,7 +7,10 @@ use Rattle.tree_construction.specs.Page.{Open, Page, Place, contents_of, edited,
 use Rattle.tree_construction.specs.Page.Edit.{MakeElement, Put}
 use Rattle.tree_construction.specs.declared.kinds.Kind.{Kind}
 use Rattle.tree_construction.specs.declared.kinds.Namespace.{Namespace}
-use Rattle.tree_construction.specs.Parser.{Again, Context, Options, Parser, Request, associated_with, on_page}
+use Rattle.tree_construction.specs.declared.modes.Mode.{Mode}
+use Rattle.tree_construction.specs.Parser.{Again, Context, Options, Parser, Request, associated_with, on_page, place_in}
+use Rattle.tree_construction.specs.Formatting.{Listed, reopened_one}
+use Rattle.tree_sink.specs.Sinks.{text_put}
 use Rattle.tree_construction.specs.Parser.Request.{GoOn, ReadRaw, ReadPlain, Run, UseCharset, UseContent}
 use Rattle.tree_construction.specs.Tokens.{StartTagOf, Token}
 use Rattle.tree_construction.specs.Tokens.Token.{StartTag}
@@ -99,3 +102,16 @@ abbrev pub inserted_as : Place → Kind → List ℕ → List AttributeOf → (t
 inserted_as place kind name attributes takes p =
     let n : ℕ = p.page.next in
     on_page (λ page. pushed kind name n (edited (Put place n) (associated_with p.form takes n place (made_as kind name attributes page)))) p
+
+-- after a text that is put at the appropriate place, byte by byte
+abbrev pub texted : List ℕ → Parser → Parser
+texted text p = on_page (λ page. record page { edits = text_put (place_in p p.page.opened) text page.edits }) p
+
+-- after elements that are opened again, the earliest first
+unfoldable pub reopened_all : List Listed → Parser → Parser
+reopened_all [] p = p
+reopened_all (e ∷ es) p = reopened_all es (reopened_one e p)
+
+abbrev pub mode_or : Option Mode → Mode → Mode
+mode_or None outer = outer
+mode_or (Some mode) outer = mode

@@ -1,8 +1,8 @@
 //! Active formatting elements: inserted, and opened again.
-ghost use Rattle.std.specs.Prelude.{◌≡◌, List, [], map, option_map, reverse, IfNone, IfOk, IfSome, OnOk};
-ghost use Rattle.tree_construction.specs.Formatting.{insert_formatting, reconstructed, still_listed, to_reopen};
-ghost use Rattle.tree_builder.specs.Built.{on_parser, reopened_all, reopened_one_of, tag_of};
-ghost use Rattle.tree_lists.specs.Formatting.{before_lost, listed_of};
+ghost use Rattle.std.specs.Prelude.{◌≡◌, map, reverse, IfOk, OnOk};
+ghost use Rattle.tree_construction.specs.Formatting.{insert_formatting, reconstructed, reopened_one, still_listed, to_reopen};
+ghost use Rattle.tree_builder.specs.Built.{on_parser, reopened_all, tag_of};
+ghost use Rattle.tree_lists.specs.Formatting.{listed_of};
 
 use crate::builder::Builder;
 use crate::tag::StartTag;
@@ -16,7 +16,11 @@ use tree_sink::sink::TreeSink;
 
 impl<S: TreeSink<T> + Drop, T: TagAttributes, A: Allocator + Copy> Builder<S, T, A> {
     /// "Insert an HTML element for the token, and push onto the list of active formatting elements that element".
-    pub fn insert_formatting(&mut self, kind: Kind, tag: &StartTag<T, A>) -> Result<(), TreeBuilderError>
+    pub fn insert_formatting(
+        &mut self,
+        kind: Kind,
+        tag: &StartTag<T, A>,
+    ) -> Result<(), TreeBuilderError>
         ensures { OnOk result (self.new ≡ on_parser (insert_formatting kind (tag_of T.said tag.now)) self.old) }
     {
         let name = tag.name.try_clone()?;
@@ -28,16 +32,56 @@ impl<S: TreeSink<T> + Drop, T: TagAttributes, A: Allocator + Copy> Builder<S, T,
             name,
             attributes,
         };
-        self.formatting.push_formatting(element, self.opts.formatting_limit)?;
+        self.formatting
+            .push_formatting(element, self.opts.formatting_limit)?;
         Ok(())
     }
 
-    // Takes the last entry of the list, if it is of an element that is not open.
-    fn pop_lost(&mut self) -> Option<Formatting<S::Handle, T, A>>
-        ensures { self.new ≡ on_parser (popped_lost (option_map (listed_of S.Handle.node T.said) result)) self.old }
-        ensures lost { to_reopen self.old.parser.page.opened self.old.parser.formatting
-            ≡ before_lost (option_map (listed_of S.Handle.node T.said) result) (to_reopen self.old.parser.page.opened self.new.parser.formatting) }
+    // Opens an element again, and puts it into the list.
+    fn reopen(&mut self, element: Formatting<S::Handle, T, A>) -> Result<(), TreeBuilderError>
+        ensures { OnOk result (self.new ≡ on_parser (reopened_one (listed_of S.Handle.node T.said element)) self.old) }
     {
-        self.formatting.pop_lost(&self.opened)
+        let handle = self.insert_element(element.kind, &element.name, &element.attributes)?;
+        let entry = Formatting {
+            handle,
+            kind: element.kind,
+            name: element.name,
+            attributes: element.attributes,
+        };
+        self.formatting.push(FormatEntry::Active(entry))?;
+        Ok(())
+    }
+
+    // Opens elements again, in their order.
+    #[tactic(auto, unfolding(crate::specs::Built::reopened_all))]
+    fn reopen_all(
+        &mut self,
+        elements: Stack<Formatting<S::Handle, T, A>, A>,
+    ) -> Result<(), TreeBuilderError>
+        ensures { OnOk result (self.new ≡ on_parser (reopened_all (map (listed_of S.Handle.node T.said) elements)) self.old) }
+    {
+        let mut left = elements;
+        while let Some(element) = left.pop() {
+            self.reopen(element)?;
+        }
+        Ok(())
+    }
+
+    // Takes the entries that are opened again out of the list.
+    fn take_lost(&mut self) -> Result<Stack<Formatting<S::Handle, T, A>, A>, TreeBuilderError>
+        ensures list { OnOk result (self.new ≡ on_parser (λ p. record p { formatting = still_listed p.page.opened p.formatting }) self.old) }
+        ensures lost { IfOk result (λ lost. reverse (map (listed_of S.Handle.node T.said) lost)
+            ≡ to_reopen self.old.parser.page.opened self.old.parser.formatting) }
+    {
+        let lost = self.formatting.take_lost(&self.opened, self.alloc)?;
+        Ok(lost)
+    }
+
+    /// "Reconstruct the active formatting elements".
+    pub fn reconstruct(&mut self) -> Result<(), TreeBuilderError>
+        ensures { OnOk result (self.new ≡ on_parser reconstructed self.old) }
+    {
+        let lost = self.take_lost()?;
+        self.reopen_all(lost)
     }
 }

@@ -54,7 +54,11 @@ impl<S: TreeSink<T> + Drop, T: TagAttributes, A: Allocator> Builder<S, T, A> {
     }
 
     // The same, without attributes.
-    fn create_bare(&mut self, kind: Kind, name: KnownName) -> Result<S::Handle, TreeBuilderError>
+    pub(crate) fn create_bare(
+        &mut self,
+        kind: Kind,
+        name: KnownName,
+    ) -> Result<S::Handle, TreeBuilderError>
         ensures ok { OnOk result (self.new ≡ on_parser (on_page (made_as kind (name_of name) [])) self.old) }
         ensures node { IfOk result (λ handle. S.Handle.node handle ≡ self.old.parser.page.next) }
     {
@@ -99,7 +103,7 @@ impl<S: TreeSink<T> + Drop, T: TagAttributes, A: Allocator> Builder<S, T, A> {
     }
 
     // Puts an element that was made at a place, and opens it.
-    fn put_and_push(
+    pub(crate) fn put_and_push(
         &mut self,
         place: InsertionPoint<S::Handle>,
         element: OpenElement<S::Handle, A>,
@@ -267,6 +271,7 @@ impl<S: TreeSink<T> + Drop, T: TagAttributes, A: Allocator + Copy> Builder<S, T,
     }
 
     // The tag name of an element in a namespace.
+    #[tactic(auto, unfolding(tree_construction::specs::Adjusting::adjusted_tag_name))]
     fn adjusted_name(
         &self,
         namespace: Namespace,
@@ -284,6 +289,7 @@ impl<S: TreeSink<T> + Drop, T: TagAttributes, A: Allocator + Copy> Builder<S, T,
 }
 
 // The kind of an element in a namespace, by its adjusted name and the attributes of its tag.
+#[tactic(auto, unfolding(tree_construction::specs::Names::kind_in_namespace))]
 fn foreign_kind<T: TagAttributes, A: Allocator>(
     namespace: Namespace,
     name: &ElementName<A>,

@@ -1,6 +1,7 @@
 //! The tree builder: takes tokens, and tells a sink how to build the document.
 #![tactic(auto)]
 
+pub mod before_head;
 pub mod builder;
 pub mod closing;
 pub mod formatting;

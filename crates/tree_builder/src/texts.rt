@@ -22,7 +22,11 @@ impl<S: TreeSink<T> + Drop, T: TagAttributes, A: Allocator> Builder<S, T, A> {
     }
 
     // Makes a comment, and puts it at a place.
-    fn put_comment(&mut self, place: InsertionPoint<S::Handle>, text: &str) -> Result<(), TreeBuilderError>
+    fn put_comment(
+        &mut self,
+        place: InsertionPoint<S::Handle>,
+        text: &str,
+    ) -> Result<(), TreeBuilderError>
         ensures { OnOk result (self.new ≡ on_parser (on_page (comment_put (sink_place S.Handle.node place) text.now)) self.old) }
     {
         let handle = self.editor.create_comment(text)?;
@@ -45,6 +49,7 @@ impl<S: TreeSink<T> + Drop, T: TagAttributes, A: Allocator> Builder<S, T, A> {
     }
 
     // The first element that was opened, or else the document.
+    #[tactic(auto, unfolding(tree_construction::specs::Page::first_open))]
     pub(crate) fn first_open(&self) -> S::Handle
         ensures { S.Handle.node result ≡ first_open self.now.parser.page.opened }
     {

@@ -3,3 +3,4 @@ pub mod Mapped
 pub mod OpenPlaces
 pub mod ListPlaces
 pub mod Searches
+pub mod Lost

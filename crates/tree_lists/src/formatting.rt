@@ -1,5 +1,5 @@
 //! "The list of active formatting elements".
-ghost use Rattle.std.specs.Prelude.{◌≡◌, ◌<◌, ◌+◌, ◌-◌, List, [], ◌∷◌, ◌++◌, drop, length, option_map, take, IfNone, IfSome, MatchOption, OnErr, OnOk};
+ghost use Rattle.std.specs.Prelude.{◌≡◌, ◌<◌, ◌+◌, ◌-◌, List, [], ◌∷◌, ◌++◌, drop, length, map, option_map, reverse, take, IfNone, IfOk, IfSome, MatchOption, OnErr, OnOk};
 ghost use Rattle.tree_construction.specs.Adoption.{added_after, at_bookmark, replaced};
 ghost use Rattle.tree_construction.specs.Formatting.{Listed, cleared, count_after_marker, count_alike, has_entry, is_alike, is_entry_of, last_named, still_listed, to_reopen, with_entry, within_limit, without_earliest, without_entry, without_oldest};
 ghost use Rattle.tree_construction.specs.Parser.{Entry};
@@ -329,10 +329,9 @@ impl<H: NodeHandle, T: TagAttributes, A: Allocator> FormattingList<H, T, A> {
         }
     }
 
-    /// Takes the last entry, if it is of an element that is not open: "reconstruct the active formatting elements" opens
-    /// it again.
+    // Takes the last entry, if it is of an element that is not open.
     #[tactic(auto, unfolding(tree_construction::specs::Formatting::to_reopen, tree_construction::specs::Formatting::still_listed))]
-    pub fn pop_lost(&mut self, opened: &OpenElements<H, A>) -> Option<Formatting<H, T, A>>
+    fn pop_lost(&mut self, opened: &OpenElements<H, A>) -> Option<Formatting<H, T, A>>
         ensures lost { to_reopen opened.now self.old ≡ before_lost (option_map (listed_of H.node T.said) result) (to_reopen opened.now self.new) }
         ensures kept { still_listed opened.now self.new ≡ still_listed opened.now self.old }
         ensures none { IfNone result ((self.new ≡ self.old) × (to_reopen opened.now self.old ≡ []) × (still_listed opened.now self.old ≡ self.old)) }
@@ -345,6 +344,23 @@ impl<H: NodeHandle, T: TagAttributes, A: Allocator> FormattingList<H, T, A> {
             Some(FormatEntry::Active(element)) => Some(element),
             _ => unreachable!(),
         }
+    }
+
+    /// Takes the last entries up to a marker or an element that is open: "reconstruct the active formatting elements"
+    /// opens them again, the earliest first.
+    pub fn take_lost(
+        &mut self,
+        opened: &OpenElements<H, A>,
+        alloc: A,
+    ) -> Result<Stack<Formatting<H, T, A>, A>, AllocError>
+        ensures list { OnOk result (self.new ≡ still_listed opened.now self.old) }
+        ensures lost { IfOk result (λ lost. reverse (map (listed_of H.node T.said) lost) ≡ to_reopen opened.now self.old) }
+    {
+        let mut lost = Stack::new(alloc);
+        while let Some(element) = self.pop_lost(opened) {
+            lost.push(element)?;
+        }
+        Ok(lost)
     }
 
     // Puts another element in the place of a node's entry.
