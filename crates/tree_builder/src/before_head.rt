@@ -289,7 +289,7 @@ impl<S: TreeSink<T> + Drop, T: TagAttributes, A: Allocator + Copy> Builder<S, T,
         self.ignore()
     }
     // The number of the current node, or of the document.
-    fn current_node(&self) -> S::Handle
+    pub(crate) fn current_node(&self) -> S::Handle
         ensures { S.Handle.node result ≡ current_number self.now.parser.page.opened }
     {
         match self.opened.top() {
@@ -299,7 +299,7 @@ impl<S: TreeSink<T> + Drop, T: TagAttributes, A: Allocator + Copy> Builder<S, T,
     }
 
     // Sets the "already started" flag of the current node, a script.
-    fn mark_current(&mut self) -> Result<(), TreeBuilderError>
+    pub(crate) fn mark_current(&mut self) -> Result<(), TreeBuilderError>
         ensures { OnOk result (self.new ≡ on_parser (mark_current) self.old) }
     {
         let node = self.current_node();

@@ -1,10 +1,12 @@
 //! The tree builder: takes tokens, and tells a sink how to build the document.
 #![tactic(auto)]
 
+pub mod after_head;
 pub mod before_head;
 pub mod builder;
 pub mod closing;
 pub mod formatting;
+pub mod in_body;
 pub mod inserting;
 pub mod options;
 pub mod places;
