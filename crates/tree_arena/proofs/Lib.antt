@@ -1,0 +1,2 @@
+pub mod ChildLists
+pub mod NodeRows
