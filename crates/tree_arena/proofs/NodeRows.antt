@@ -3,7 +3,7 @@ use Rattle.std.proofs.Common.{◌≡◌, ℕ, zero, suc, ◌+◌, ◌<◌, ◌�
 use Rattle.std.specs.Prelude.{reverse, ◌==◌, if◌then◌else◌}
 use Rattle.std.proofs.Math.ListN.{get_or-map, set}
 use Rattle.std.proofs.lemmas.Bool.Decides.{nat_tests}
-use Rattle.std.proofs.lemmas.List.{length-append, length-map, length-reverse, length-set, length-take-le, map-append, map-set, reverse-append, set-get_or, set_split}
+use Rattle.std.proofs.lemmas.List.{append-nil, drop_all, length-append, length-map, length-reverse, length-set, length-take-le, map-append, map-set, reverse-append, set-get_or, set_split, take_all}
 use Rattle.tree_construction.specs.Document.{Row, changed, is_child_of, moved, new_row, row_of}
 use Rattle.tree_construction.specs.Document.What.{TemplateContents}
 use Rattle.tree_arena.specs.declared.row.Node.{Node}
@@ -151,3 +151,10 @@ pub moved-rows : {Z : Type 0} (source target : ℕ) (xs ys : List (Node Z)) → 
 moved-rows source target xs ys e =
     ap (λ l. numbered (reverse l)) e ∙ (ap numbered (reverse-map (moved source target) (map plain_row xs))
     ∙ sym (moved-numbered source target (reverse (map plain_row xs))))
+
+-- a loop over all nodes has come to the end
+pub moved-all : {Z : Type 0} (f : Row → Row) (xs ys : List (Node Z)) (i : ℕ)
+    → map plain_row ys ≡ map f (map plain_row (take i xs)) ++ map plain_row (drop i xs) → length xs ≤ i → map plain_row ys ≡ map f (map plain_row xs)
+moved-all f xs ys i e h =
+    e ∙ (ap (λ l. map f (map plain_row l) ++ map plain_row (drop i xs)) (take_all i xs h)
+    ∙ (ap (λ l. map f (map plain_row xs) ++ map plain_row l) (drop_all i xs h) ∙ append-nil (map f (map plain_row xs))))

@@ -1,8 +1,11 @@
 //! A document as an arena of nodes: a sink of a tree that keeps what it is told.
 #![tactic(auto)]
 
+mod attributes;
 mod children;
+mod moves;
 pub mod node;
 mod numbers;
+mod places;
 pub mod row;
 mod rows;
