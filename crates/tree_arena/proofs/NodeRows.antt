@@ -3,11 +3,11 @@ use Rattle.std.proofs.Common.{◌≡◌, ℕ, zero, suc, ◌+◌, ◌<◌, ◌�
 use Rattle.std.specs.Prelude.{reverse, ◌==◌, if◌then◌else◌}
 use Rattle.std.proofs.Math.ListN.{get_or-map, set}
 use Rattle.std.proofs.lemmas.Bool.Decides.{nat_tests}
-use Rattle.std.proofs.lemmas.List.{append-nil, drop_all, length-append, length-map, length-reverse, length-set, length-take-le, map-append, map-set, reverse-append, set-get_or, set_split, take_all}
-use Rattle.tree_construction.specs.Document.{Row, changed, is_child_of, moved, new_row, row_of}
+use Rattle.std.proofs.lemmas.List.{append-nil, drop_all, length-append, length-map, length-reverse, length-set, length-take-le, length_push, map-append, map-set, reverse-append, set-get_or, set_split, take_all}
+use Rattle.tree_construction.specs.Document.{Row, What, changed, is_child_of, moved, new_row, row_of}
 use Rattle.tree_construction.specs.Document.What.{TemplateContents}
 use Rattle.tree_arena.specs.declared.row.Node.{Node}
-use Rattle.tree_arena.specs.Rows.{IsAbsent, IsAt, number_at, numbered, plain_row, rows_of, with_number}
+use Rattle.tree_arena.specs.Rows.{IsAbsent, IsAt, IsMade, number_at, numbered, plain_row, rows_of, with_number}
 
 test-false : (a b : ℕ) → (a ≡ b → ⊥) → (a == b) ≡ false
 test-false a b h = grind (arith, nat_tests)
@@ -158,3 +158,28 @@ pub moved-all : {Z : Type 0} (f : Row → Row) (xs ys : List (Node Z)) (i : ℕ)
 moved-all f xs ys i e h =
     e ∙ (ap (λ l. map f (map plain_row l) ++ map plain_row (drop i xs)) (take_all i xs h)
     ∙ (ap (λ l. map f (map plain_row xs) ++ map plain_row l) (drop_all i xs h) ∙ append-nil (map f (map plain_row xs))))
+
+-- ---- a node is made
+
+number-later : (k : ℕ) → 0 < k → number_at k ≡ suc (suc k)
+number-later zero h = absurd (omega (arith, h))
+number-later (suc k) h = refl
+
+pub made : {Z : Type 0} (xs ys : List (Node Z)) (node : Node Z) (n : ℕ) (what : What) → 0 < length xs → n ≡ length xs + 2 → ys ≡ xs ++ node ∷ []
+    → plain_row node ≡ new_row 0 what → IsMade n what xs ys
+made xs ys node n what some e is plain =
+    let number : number_at (length xs) ≡ n = number-later (length xs) some ∙ omega (arith, e) in
+    record {
+      number = omega (arith, e);
+      rows =
+          ap rows_of is ∙ (pushed-row xs node ∙ (ap (λ r. with_number (number_at (length xs)) r ∷ rows_of xs) plain
+          ∙ ap (λ m. new_row m what ∷ rows_of xs) number));
+      count = ap length is ∙ omega (arith, length_push xs node);
+    }
+
+-- the first node, the document
+pub made-first : {Z : Type 0} (xs ys : List (Node Z)) (node : Node Z) (what : What) → xs ≡ [] → ys ≡ xs ++ node ∷ [] → plain_row node ≡ new_row 0 what
+    → rows_of ys ≡ new_row 0 what ∷ []
+unfolding numbered
+made-first xs ys node what none is plain =
+    ap rows_of (is ∙ ap (λ l. l ++ node ∷ []) none) ∙ ap (λ r. numbered (reverse (r ∷ []))) plain

@@ -1,7 +1,7 @@
 -- The nodes of an arena, as the rows of the definition.
 use Rattle.std.specs.Prelude.{◌≡◌, ℕ, zero, suc, ◌<◌, List, [], ◌∷◌, Option, length, map, reverse, option_map, string_bytes}
 use Rattle.markup5ever.specs.Names.{attribute_of}
-use Rattle.tree_construction.specs.Document.{Row, What}
+use Rattle.tree_construction.specs.Document.{Row, What, new_row}
 use Rattle.tree_construction.specs.Document.What.{Document as DocumentRow, Element as ElementRow, TemplateContents as ContentsRow, Comment as CommentRow}
 use Rattle.tree_arena.specs.Children.{children_of, number}
 use Rattle.tree_arena.specs.declared.row.Node.{Node}
@@ -49,3 +49,9 @@ pub record IsAt (n at count : ℕ) : Type 0 where
 -- no node has a number
 pub record IsAbsent (n count : ℕ) : Type 0 where
   pub other : (k : ℕ) → k < count → number_at k ≡ n → ⊥
+
+-- a node is made, with the next number
+pub record IsMade {Z : Type 0} (n : ℕ) (what : What) (before after : List (Node Z)) : Type 0 where
+  pub number : n ≡ suc (suc (length before))
+  pub rows : rows_of after ≡ new_row n what ∷ rows_of before
+  pub count : length after ≡ suc (length before)

@@ -150,20 +150,20 @@ fn insert_text<A: Allocator + Copy>(
 }
 
 /// Adds a doctype.
-pub fn add_doctype<A: Allocator>(
+pub fn add_doctype<A: Allocator + Copy>(
     children: &mut Vec<Child<A>, A>,
-    name: String<A>,
-    public_id: String<A>,
-    system_id: String<A>,
+    alloc: A,
+    name: &str,
+    public_id: &str,
+    system_id: &str,
 ) -> Result<(), AllocError>
     ensures { OnOk result (children_of children.new.items
-        ≡ added (DocumentDoctype (string_bytes name) (string_bytes public_id) (string_bytes system_id))
-        (children_of children.old.items)) }
+        ≡ added (DocumentDoctype name.now public_id.now system_id.now) (children_of children.old.items)) }
 {
     children.push(Child::Doctype {
-        name,
-        public_id,
-        system_id,
+        name: String::from_str(alloc, name)?,
+        public_id: String::from_str(alloc, public_id)?,
+        system_id: String::from_str(alloc, system_id)?,
     })?;
     Ok(())
 }

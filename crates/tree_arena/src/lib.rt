@@ -1,8 +1,10 @@
 //! A document as an arena of nodes: a sink of a tree that keeps what it is told.
 #![tactic(auto)]
 
+pub mod arena;
 mod attributes;
 mod children;
+mod making;
 mod moves;
 pub mod node;
 mod numbers;
