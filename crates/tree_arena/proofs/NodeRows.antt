@@ -183,3 +183,13 @@ pub made-first : {Z : Type 0} (xs ys : List (Node Z)) (node : Node Z) (what : Wh
 unfolding numbered
 made-first xs ys node what none is plain =
     ap rows_of (is ∙ ap (λ l. l ++ node ∷ []) none) ∙ ap (λ r. numbered (reverse (r ∷ []))) plain
+
+-- ---- how many
+
+length-numbered : (rows : List Row) → length (numbered rows) ≡ length rows
+unfolding numbered
+length-numbered [] = refl
+length-numbered (r ∷ rows) = ap suc (length-numbered rows)
+
+pub length-rows : {Z : Type 0} (xs : List (Node Z)) → length (rows_of xs) ≡ length xs
+length-rows xs = length-numbered (reverse (map plain_row xs)) ∙ (length-reverse (map plain_row xs) ∙ length-map xs plain_row)

@@ -1,8 +1,9 @@
 -- The nodes of an arena, as the rows of the definition.
 use Rattle.std.specs.Prelude.{◌≡◌, ℕ, zero, suc, ◌<◌, List, [], ◌∷◌, Option, length, map, reverse, option_map, string_bytes}
 use Rattle.markup5ever.specs.Names.{attribute_of}
-use Rattle.tree_construction.specs.Document.{Row, What, new_row}
+use Rattle.tree_construction.specs.Document.{Row, What, applied, new_row}
 use Rattle.tree_construction.specs.Document.What.{Document as DocumentRow, Element as ElementRow, TemplateContents as ContentsRow, Comment as CommentRow}
+use Rattle.tree_construction.specs.Page.Edit.{MakeContents}
 use Rattle.tree_arena.specs.Children.{children_of, number}
 use Rattle.tree_arena.specs.declared.row.Node.{Node}
 use Rattle.tree_arena.specs.declared.row.NodeKind.{NodeKind}
@@ -54,4 +55,10 @@ pub record IsAbsent (n count : ℕ) : Type 0 where
 pub record IsMade {Z : Type 0} (n : ℕ) (what : What) (before after : List (Node Z)) : Type 0 where
   pub number : n ≡ suc (suc (length before))
   pub rows : rows_of after ≡ new_row n what ∷ rows_of before
+  pub count : length after ≡ suc (length before)
+
+-- a template that was made last gets its contents
+pub record HasContents {Z : Type 0} (template : ℕ) (before after : List (Node Z)) : Type 0 where
+  pub number : template ≡ suc (length before)
+  pub rows : rows_of after ≡ applied (MakeContents template (suc template)) (rows_of before)
   pub count : length after ≡ suc (length before)

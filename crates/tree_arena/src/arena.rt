@@ -1,13 +1,15 @@
 //! A document as an arena: a sink of a tree that keeps its nodes, and answers for them.
-ghost use Rattle.std.specs.Prelude.{◌≡◌, suc, ◌+◌, [], map, IfOk, OnErr, OnOk};
+ghost use Rattle.std.specs.Prelude.{◌≡◌, suc, ◌+◌, [], length, map, IfOk, IfSome, OnErr, OnOk};
 ghost use Rattle.markup5ever.specs.Names.{attribute_of};
-ghost use Rattle.tree_construction.specs.Document.{first_rows};
+ghost use Rattle.tree_construction.specs.Document.{first_rows, row_of};
 ghost use Rattle.tree_construction.specs.Page.Edit.{AddAttributes, MakeComment, MakeContents, MakeElement, MoveChildren, PutDoctype, Remove};
 ghost use Rattle.tree_sink.specs.Places.{place_of, put_of};
 ghost use Rattle.tree_arena.specs.Children.{number};
 ghost use Rattle.tree_arena.specs.Grown.{document_after, document_of};
+ghost use Rattle.tree_arena.specs.Rows.{plain_row, with_number};
 
 use crate::node::NodeId;
+use crate::numbers::index_of;
 use crate::row::{Node, NodeKind};
 use crate::{making, moves, places, rows};
 use ghost_counts::Count;
@@ -159,5 +161,74 @@ impl<A: Allocator + Copy> Arena<A> {
             return Err(self.fault());
         };
         Ok(id)
+    }
+
+    // Makes an element without attributes.
+    pub(crate) fn make_bare_element(
+        &mut self,
+        namespace: Namespace,
+        name: &str,
+    ) -> Result<NodeId, SinkFault>
+        ensures names { IfOk result (λ id. id.0 ≡ self.old.next) }
+        ensures steps { OnOk result (document_of self.new ≡ document_after (document_of self.old)
+            (MakeElement self.old.next namespace name.now [])) }
+        ensures no_fault { OnOk result (self.new.faults ≡ self.old.faults) }
+        ensures one_fault { OnErr result (self.new.faults ≡ self.old.faults + 1) }
+    {
+        let Ok(id) = making::make_bare_element(&mut self.nodes, self.alloc, namespace, name) else {
+            return Err(self.fault());
+        };
+        Ok(id)
+    }
+
+    // Makes a comment.
+    pub(crate) fn make_comment(&mut self, text: &str) -> Result<NodeId, SinkFault>
+        ensures names { IfOk result (λ id. id.0 ≡ self.old.next) }
+        ensures steps { OnOk result (document_of self.new
+            ≡ document_after (document_of self.old) (MakeComment self.old.next text.now)) }
+        ensures no_fault { OnOk result (self.new.faults ≡ self.old.faults) }
+        ensures one_fault { OnErr result (self.new.faults ≡ self.old.faults + 1) }
+    {
+        let Ok(id) = making::make_comment(&mut self.nodes, self.alloc, text) else {
+            return Err(self.fault());
+        };
+        Ok(id)
+    }
+
+    // Makes the contents of a template that was made last. Those of another are refused.
+    pub(crate) fn make_contents(&mut self, template: NodeId) -> Result<(), SinkFault>
+        ensures steps { OnOk result (document_of self.new
+            ≡ document_after (document_of self.old) (MakeContents template.0 (suc template.0))) }
+        ensures no_fault { OnOk result (self.new.faults ≡ self.old.faults) }
+        ensures one_fault { OnErr result (self.new.faults ≡ self.old.faults + 1) }
+    {
+        let Ok(true) = making::make_contents(&mut self.nodes, self.alloc, template) else {
+            return Err(self.fault());
+        };
+        Ok(())
+    }
+
+    /// The document.
+    pub fn document(&self) -> NodeId
+        ensures { result.0 ≡ 0 }
+    {
+        NodeId(0)
+    }
+
+    /// How many nodes there are, with the document.
+    pub fn len(&self) -> usize
+        ensures { result ≡ length self.now.rows }
+    {
+        self.nodes.len()
+    }
+
+    /// A node, if it was made.
+    pub fn node(&self, id: NodeId) -> Option<&Node<A>>
+        ensures { IfSome result (λ node. row_of id.0 self.now.rows ≡ with_number id.0 (plain_row node.now)) }
+    {
+        match index_of(id, self.nodes.len()) {
+            Some(at) => Some(&self.nodes[at]),
+            None => None,
+        }
     }
 }

@@ -1,12 +1,13 @@
 //! Nodes that are made. They stand nowhere yet.
-ghost use Rattle.std.specs.Prelude.{◌≡◌, suc, ◌+◌, ◌<◌, [], length, map, vec_len, IfOk, OnErr};
+ghost use Rattle.std.specs.Prelude.{◌≡◌, Some, suc, ◌+◌, ◌<◌, [], length, map, true, vec_len, IfOk, OnErr};
 ghost use Rattle.markup5ever.specs.Names.{attribute_of};
-ghost use Rattle.tree_construction.specs.Document.{new_row};
+ghost use Rattle.tree_construction.specs.Document.{changed, new_row};
 ghost use Rattle.tree_construction.specs.Document.What.{Element, Comment};
-ghost use Rattle.tree_arena.specs.Rows.{IsMade, rows_of, what_of};
+ghost use Rattle.tree_arena.specs.Rows.{HasContents, IsMade, rows_of, what_of};
 
 use crate::node::NodeId;
 use crate::row::{Node, NodeKind};
+use crate::rows;
 use markup5ever::interface::Attribute;
 use std::alloc::{AllocError, Allocator};
 use tree_construction::kinds::Namespace;
@@ -93,4 +94,31 @@ pub fn make_comment<A: Allocator + Copy>(
 {
     let text = String::from_str(alloc, text)?;
     make(nodes, alloc, NodeKind::Comment(text))
+}
+
+/// Makes the contents of a template, if it was made last.
+pub fn make_contents<A: Allocator + Copy>(
+    nodes: &mut Vec<Node<A>, A>,
+    alloc: A,
+    template: NodeId,
+) -> Result<bool, AllocError>
+    requires { 0 < vec_len nodes.old }
+    ensures ok { IfOk result (λ made. made ≡ true → HasContents template.0 nodes.old.items nodes.new.items) }
+    ensures count { 0 < length nodes.new.items }
+{
+    if nodes.len() + 1 != template.0 {
+        return Ok(false);
+    }
+    give_contents(nodes, template, NodeId(template.0 + 1));
+    make(nodes, alloc, NodeKind::TemplateContents)?;
+    Ok(true)
+}
+
+// Gives a template its contents.
+fn give_contents<A: Allocator>(nodes: &mut Vec<Node<A>, A>, template: NodeId, contents: NodeId)
+    ensures rows { rows_of nodes.new.items
+        ≡ changed template.0 (λ r. record r { contents = Some contents.0 }) (rows_of nodes.old.items) }
+    ensures count { vec_len nodes.new ≡ vec_len nodes.old }
+{
+    rows::set_contents(nodes, template, contents);
 }
