@@ -1,8 +1,8 @@
 -- Where a node stands among children that are kept in order.
-use Rattle.std.proofs.Common.{◌≡◌, ℕ, suc, ◌+◌, ◌-◌, ◌<◌, ◌≤◌, Bool, true, false, List, [], ◌∷◌, ◌++◌, length, get_or, take, drop, map, refl, ap, sym, ◌∙◌, arith, append_assoc}
+use Rattle.std.proofs.Common.{◌≡◌, ℕ, suc, ◌+◌, ◌<◌, ◌≤◌, Bool, true, false, List, [], ◌∷◌, ◌++◌, length, get_or, take, drop, map, refl, ap, sym, ◌∙◌, arith, append_assoc}
 use Rattle.std.specs.Prelude.{reverse, if◌then◌else◌}
 use Rattle.std.proofs.Math.ListN.{set}
-use Rattle.std.proofs.lemmas.List.{append-nil, drop_all, drop_more, length-set, map-append, reverse-append, set_split, take-append-drop, take_more}
+use Rattle.std.proofs.lemmas.List.{append-nil, drop_all, drop_more, map-append, reverse-append, set_split, take-append-drop, take_more}
 use Rattle.tree_construction.specs.Document.{Child as DocumentChild, added, added_before, without_node, is_node}
 use Rattle.tree_arena.specs.declared.row.Child.{Child}
 use Rattle.tree_arena.specs.Children.{IsLastAt, IsNowhere, child_of, children_of, has_node, put_in}

@@ -1,9 +1,9 @@
 -- Rows of nodes that are kept in order: one that is changed or read by its number, or added.
-use Rattle.std.proofs.Common.{◌≡◌, ℕ, zero, suc, ◌+◌, ◌<◌, ◌≤◌, Bool, true, false, List, [], ◌∷◌, ◌++◌, Some, length, get_or, take, drop, map, refl, ap, sym, ◌∙◌, arith, append_assoc}
+use Rattle.std.proofs.Common.{◌≡◌, ℕ, zero, suc, ◌+◌, ◌<◌, ◌≤◌, true, false, List, [], ◌∷◌, ◌++◌, Some, length, get_or, take, drop, map, refl, ap, sym, ◌∙◌, arith, append_assoc}
 use Rattle.std.specs.Prelude.{reverse, ◌==◌, if◌then◌else◌}
 use Rattle.std.proofs.Math.ListN.{get_or-map, set}
 use Rattle.std.proofs.lemmas.Bool.Decides.{nat_tests}
-use Rattle.std.proofs.lemmas.List.{append-nil, drop_all, length-append, length-map, length-reverse, length-set, length-take-le, length_push, map-append, map-set, reverse-append, set-get_or, set_split, take_all}
+use Rattle.std.proofs.lemmas.List.{append-nil, drop_all, length-append, length-map, length-reverse, length-take-le, length_push, map-append, map-set, reverse-append, set-get_or, set_split, take_all}
 use Rattle.tree_construction.specs.Document.{Row, What, changed, is_child_of, moved, new_row, row_of}
 use Rattle.tree_construction.specs.Document.What.{TemplateContents}
 use Rattle.tree_arena.specs.declared.row.Node.{Node}

@@ -1,5 +1,5 @@
 -- What stands in a node, in the words of the definition.
-use Rattle.std.specs.Prelude.{◌≡◌, ℕ, suc, ◌+◌, ◌<◌, ◌≤◌, Bool, true, false, Option, List, [], ◌∷◌, ◌++◌, length, take, drop, map, reverse, string_bytes, if◌then◌else◌}
+use Rattle.std.specs.Prelude.{◌≡◌, ℕ, ◌+◌, ◌<◌, ◌≤◌, Bool, true, false, Option, List, [], ◌∷◌, ◌++◌, length, take, drop, map, reverse, string_bytes, if◌then◌else◌}
 use Rattle.tree_construction.specs.Document.{Child as DocumentChild, added, added_before, without_node, is_node, put_among}
 use Rattle.tree_construction.specs.Document.Child.{Node as DocumentNode, Text as DocumentText, Doctype as DocumentDoctype}
 use Rattle.tree_arena.specs.declared.node.NodeId.{NodeId}

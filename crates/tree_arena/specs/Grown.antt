@@ -1,6 +1,6 @@
 -- What an arena has become.
 use Rattle.std.specs.Prelude.{ℕ, List}
-use Rattle.tree_construction.specs.Document.{Row, applied}
+use Rattle.tree_construction.specs.Document.{Row, applied, first_rows}
 use Rattle.tree_construction.specs.Page.{Edit}
 use Rattle.tree_sink.specs.Sinks.{TreeMeans, next_after}
 
@@ -24,3 +24,7 @@ document_after document edit = record { rows = applied edit document.rows; next 
 -- what an arena means as a sink
 abbrev pub arena_means : TreeMeans Grown Document
 arena_means = record { state = document_of; step = document_after; next = λ document. document.next }
+
+-- the document that an arena begins with
+abbrev pub empty_document : Document
+empty_document = record { rows = first_rows; next = 3 }

@@ -1,6 +1,6 @@
 -- Laws of the rows that edits make: two texts at one place are as one.
-use Rattle.std.specs.Prelude.{◌≡◌, ℕ, Bool, true, false, List, [], ◌∷◌, ◌++◌, ◌==◌, Option, Some, None, if◌then◌else◌, refl}
-use Rattle.std.proofs.Common.{ap, sym, ◌∙◌, append_assoc}
+use Rattle.std.specs.Prelude.{◌≡◌, ℕ, true, false, List, [], ◌∷◌, ◌++◌, ◌==◌, Option, Some, None, if◌then◌else◌, refl}
+use Rattle.std.proofs.Common.{ap, ◌∙◌, append_assoc}
 use Rattle.tree_construction.specs.Document.{Child, Row, Spot, added, added_before, changed, is_node, parent_of, put_among, put_at, row_of, spot_of, with_children}
 use Rattle.tree_construction.specs.Document.Child.{Node, Text, Doctype}
 use Rattle.tree_construction.specs.Page.{Place}

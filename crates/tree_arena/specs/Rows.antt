@@ -1,5 +1,5 @@
 -- The nodes of an arena, as the rows of the definition.
-use Rattle.std.specs.Prelude.{◌≡◌, ℕ, zero, suc, ◌<◌, List, [], ◌∷◌, Option, length, map, reverse, option_map, string_bytes}
+use Rattle.std.specs.Prelude.{◌≡◌, ℕ, zero, suc, ◌<◌, List, [], ◌∷◌, length, map, reverse, option_map, string_bytes}
 use Rattle.markup5ever.specs.Names.{attribute_of}
 use Rattle.tree_construction.specs.Document.{Row, What, applied, new_row}
 use Rattle.tree_construction.specs.Document.What.{Document as DocumentRow, Element as ElementRow, TemplateContents as ContentsRow, Comment as CommentRow}

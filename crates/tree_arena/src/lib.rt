@@ -4,6 +4,7 @@
 pub mod arena;
 mod attributes;
 mod children;
+pub mod laws;
 mod making;
 mod moves;
 pub mod node;
@@ -11,3 +12,4 @@ mod numbers;
 mod places;
 pub mod row;
 mod rows;
+mod sink;

@@ -1,4 +1,4 @@
-use Rattle.std.proofs.Common.{◌≡◌, ◌≤◌, ◌<◌, length, map, arith, rules, vec_len}
+use Rattle.std.proofs.Common.{◌≡◌, length, map, arith, rules, vec_len}
 use Rattle.markup5ever.specs.Names.{attribute_of}
 use Rattle.tree_arena.proofs.Lacking.{adding-all, adding-next, adding-none}
 use Rattle.tree_arena.proofs.attributes.add_lacking.Goals as goal

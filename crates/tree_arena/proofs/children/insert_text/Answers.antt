@@ -1,4 +1,4 @@
-use Rattle.std.proofs.Common.{◌≡◌, ◌+◌, ◌-◌, ◌≤◌, length, arith, rules, vec_len}
+use Rattle.std.proofs.Common.{◌≡◌, ◌-◌, length, arith, rules, vec_len}
 use Rattle.std.proofs.lemmas.Result.{on_ok_weaker}
 use Rattle.tree_construction.specs.Document.Child.{Text as DocumentText}
 use Rattle.tree_arena.proofs.ChildLists.{joined-before}

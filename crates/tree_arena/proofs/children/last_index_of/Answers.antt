@@ -1,4 +1,4 @@
-use Rattle.std.proofs.Common.{◌≡◌, ◌+◌, ◌-◌, ◌≤◌, false, true, length, ap, arith, drop, sym, ◌∙◌}
+use Rattle.std.proofs.Common.{◌≡◌, ◌-◌, ap, arith, drop, sym, ◌∙◌}
 use Rattle.tree_arena.specs.Children.{children_of, has_node}
 use Rattle.tree_arena.proofs.ChildLists.{passed-more, passed-none, stands-last, stands-nowhere}
 use Rattle.tree_arena.proofs.children.last_index_of.Goals as goal

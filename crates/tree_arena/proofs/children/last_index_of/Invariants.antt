@@ -1,4 +1,4 @@
-use Rattle.std.proofs.Common.{◌≡◌, ℕ, ◌≤◌, false, length, drop}
+use Rattle.std.proofs.Common.{◌≡◌, ◌≤◌, false, length, drop}
 use Rattle.tree_arena.specs.Children.{children_of, has_node}
 use Rattle.tree_arena.proofs.children.last_index_of.Given as goal
 

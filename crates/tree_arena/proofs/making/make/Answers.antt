@@ -1,4 +1,4 @@
-use Rattle.std.proofs.Common.{◌≡◌, ◌+◌, ◌<◌, List, None, ap, arith, length, rules, vec_len}
+use Rattle.std.proofs.Common.{◌≡◌, ◌+◌, List, None, ap, arith, length, rules, vec_len}
 use Rattle.tree_construction.specs.Document.{Child, Row}
 use Rattle.tree_arena.specs.Children.{children_of}
 use Rattle.tree_arena.specs.Rows.{what_of}

@@ -1,4 +1,4 @@
-use Rattle.std.proofs.Common.{◌≡◌, ◌+◌, suc, Some, ap, arith, length, rules, vec_len, ◌∷◌, ◌∙◌}
+use Rattle.std.proofs.Common.{◌≡◌, suc, Some, ap, arith, length, rules, vec_len, ◌∷◌, ◌∙◌}
 use Rattle.tree_construction.specs.Document.{Row, changed, new_row}
 use Rattle.tree_construction.specs.Document.What.{TemplateContents}
 use Rattle.tree_arena.specs.Rows.{rows_of}

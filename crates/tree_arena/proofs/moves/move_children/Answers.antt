@@ -1,4 +1,4 @@
-use Rattle.std.proofs.Common.{[], map, ap, ◌∙◌}
+use Rattle.std.proofs.Common.{map, ap, ◌∙◌}
 use Rattle.tree_construction.specs.Document.{changed, moved, row_of, with_children}
 use Rattle.tree_arena.specs.Rows.{rows_of}
 use Rattle.tree_arena.proofs.moves.move_children.Goals as goal

@@ -1,5 +1,4 @@
-use Rattle.std.proofs.Common.{◌≡◌, ◌<◌, ◌+◌, ◌++◌, List, [], length, map, take, drop, get_or, refl, ap, sym, ◌∙◌, arith}
-use Rattle.std.proofs.lemmas.List.{append-nil, drop_all, take_all}
+use Rattle.std.proofs.Common.{arith}
 use Rattle.tree_construction.specs.Document.{moved}
 use Rattle.tree_names.proofs.Loops.{adjusts-next}
 use Rattle.tree_arena.specs.Rows.{plain_row}

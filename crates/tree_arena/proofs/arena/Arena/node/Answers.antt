@@ -1,4 +1,4 @@
-use Rattle.std.proofs.Common.{◌≡◌, ◌<◌, ap, arith, length, rules, sym, vec_len, ◌∙◌}
+use Rattle.std.proofs.Common.{◌≡◌, ap, arith, length, rules, sym, vec_len, ◌∙◌}
 use Rattle.tree_construction.specs.Document.{row_of}
 use Rattle.tree_arena.specs.Rows.{IsAt, plain_row, with_number}
 use Rattle.tree_arena.proofs.NodeRows.{read-row}
