@@ -1,5 +1,5 @@
 //! "The appropriate place for inserting a node".
-ghost use Rattle.std.specs.Prelude.{◌≡◌, ◌<◌, ◌≤◌, drop, length};
+ghost use Rattle.std.specs.Prelude.{◌≡◌, ◌<◌, ◌≤◌, drop, length, IfOk};
 ghost use Rattle.tree_construction.specs.Page.{foster_place, inside, inside_first};
 ghost use Rattle.tree_construction.specs.Parser.{is_fostered, is_too_deep, last_child_of, place_in, place_of, within_depth};
 ghost use Rattle.tree_lists.specs.Opened.{open_of};
@@ -9,52 +9,55 @@ use crate::builder::Builder;
 use std::alloc::Allocator;
 use tree_lists::opened::OpenElement;
 use tree_sink::attributes::TagAttributes;
+use tree_sink::error::TreeBuilderError;
 use tree_sink::place::InsertionPoint;
 use tree_sink::sink::TreeSink;
 
 impl<S: TreeSink<T> + Drop, T: TagAttributes, A: Allocator> Builder<S, T, A> {
     // What stands in an element is put into its template contents, if it is a template.
-    fn inside(&self, element: &OpenElement<S::Handle, A>) -> S::Handle
-        ensures { S.Handle.node result ≡ inside (open_of S.Handle.node element.now) }
+    fn inside(&self, element: &OpenElement<S::Handle, A>) -> Result<S::Handle, TreeBuilderError>
+        ensures { IfOk result (λ handle. S.Handle.node handle ≡ inside (open_of S.Handle.node element.now)) }
     {
         if element.kind.is_template() {
             self.editor.contents_of(element.handle)
         } else {
-            element.handle
+            Ok(element.handle)
         }
     }
 
     // The same of the element at a depth, or else the document.
-    fn inside_at(&self, depth: usize) -> S::Handle
-        ensures { S.Handle.node result ≡ inside_first (drop depth self.now.parser.page.opened) }
+    fn inside_at(&self, depth: usize) -> Result<S::Handle, TreeBuilderError>
+        ensures { IfOk result
+            (λ handle. S.Handle.node handle ≡ inside_first (drop depth self.now.parser.page.opened)) }
     {
         if depth < self.opened.len() {
             self.inside(self.opened.at(depth))
         } else {
-            self.editor.document()
+            Ok(self.editor.document())
         }
     }
 
     // "Foster parenting": before the last table, or in the last template.
     #[tactic(auto, unfolding(tree_construction::specs::Page::foster_place_in))]
-    fn foster_place(&self) -> InsertionPoint<S::Handle>
-        ensures { sink_place S.Handle.node result ≡ foster_place self.now.parser.page.opened }
+    fn foster_place(&self) -> Result<InsertionPoint<S::Handle>, TreeBuilderError>
+        ensures { IfOk result
+            (λ place. sink_place S.Handle.node place ≡ foster_place self.now.parser.page.opened) }
     {
         let mut passed = self.editor.document();
         for depth in 0..self.open_len() {
             let element = self.opened.at(depth);
             if element.kind.is_template() {
-                return InsertionPoint::LastChild(self.inside(element));
+                return Ok(InsertionPoint::LastChild(self.inside(element)?));
             }
             if element.kind.is_table() {
-                return InsertionPoint::TableFosterParenting {
+                return Ok(InsertionPoint::TableFosterParenting {
                     element: element.handle,
-                    prev_element: self.inside_at(depth + 1),
-                };
+                    prev_element: self.inside_at(depth + 1)?,
+                });
             }
-            passed = self.inside(element);
+            passed = self.inside(element)?;
         }
-        InsertionPoint::LastChild(passed)
+        Ok(InsertionPoint::LastChild(passed))
     }
 
     // Whether what is put into the element at a depth is foster parented.
@@ -65,13 +68,14 @@ impl<S: TreeSink<T> + Drop, T: TagAttributes, A: Allocator> Builder<S, T, A> {
     }
 
     /// The appropriate place for inserting a node, in the element at a depth.
-    pub fn place_in(&self, depth: usize) -> InsertionPoint<S::Handle>
-        ensures { sink_place S.Handle.node result ≡ place_in self.now.parser (drop depth self.now.parser.page.opened) }
+    pub fn place_in(&self, depth: usize) -> Result<InsertionPoint<S::Handle>, TreeBuilderError>
+        ensures { IfOk result (λ place. sink_place S.Handle.node place
+            ≡ place_in self.now.parser (drop depth self.now.parser.page.opened)) }
     {
         if self.is_fostered(depth) {
             self.foster_place()
         } else {
-            InsertionPoint::LastChild(self.inside_at(depth))
+            Ok(InsertionPoint::LastChild(self.inside_at(depth)?))
         }
     }
 
@@ -86,25 +90,25 @@ impl<S: TreeSink<T> + Drop, T: TagAttributes, A: Allocator> Builder<S, T, A> {
     }
 
     // In the current node, or beside it where it is too deep.
-    fn within_depth(&self, extra: usize) -> InsertionPoint<S::Handle>
-        ensures { sink_place S.Handle.node result
-            ≡ within_depth extra self.now.parser.options.depth_limit self.now.parser.page.opened }
+    fn within_depth(&self, extra: usize) -> Result<InsertionPoint<S::Handle>, TreeBuilderError>
+        ensures { IfOk result (λ place. sink_place S.Handle.node place
+            ≡ within_depth extra self.now.parser.options.depth_limit self.now.parser.page.opened) }
     {
         match self.opened.top() {
-            None => InsertionPoint::LastChild(self.editor.document()),
+            None => Ok(InsertionPoint::LastChild(self.editor.document())),
             Some(element) => {
                 if self.is_too_deep(extra) {
-                    InsertionPoint::BesideNode(element.handle)
+                    Ok(InsertionPoint::BesideNode(element.handle))
                 } else {
-                    InsertionPoint::LastChild(self.inside(element))
+                    Ok(InsertionPoint::LastChild(self.inside(element)?))
                 }
             }
         }
     }
 
     /// The appropriate place for inserting a node, within the limit of the depth and so many elements more.
-    pub fn place(&self, extra: usize) -> InsertionPoint<S::Handle>
-        ensures { sink_place S.Handle.node result ≡ place_of extra self.now.parser }
+    pub fn place(&self, extra: usize) -> Result<InsertionPoint<S::Handle>, TreeBuilderError>
+        ensures { IfOk result (λ place. sink_place S.Handle.node place ≡ place_of extra self.now.parser) }
     {
         if self.is_fostered(0) {
             self.foster_place()

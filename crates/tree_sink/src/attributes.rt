@@ -1,6 +1,8 @@
-//! The attributes of a tag, as a builder keeps them and a sink is given them.
-use std::alloc::AllocError;
+//! The attributes of a tag, as a builder keeps them and a sink is given them. Lists of them are such.
+use markup5ever::interface::Attribute;
+use std::alloc::{AllocError, Allocator};
 use tree_construction::kinds::{Kind, Namespace};
+use tree_names::{adjusting, attributes};
 
 /// The attributes of a start tag.
 pub trait TagAttributes: Drop {
@@ -33,4 +35,32 @@ pub trait TagAttributes: Drop {
     /// The kind of an element of MathML that has them.
     fn math_kind(&self, name: &str) -> Kind
         ensures { result ≡ math_kind_of name.now (said self.now) };
+}
+
+/// A list means its attributes in order.
+impl<A: Allocator + Copy> TagAttributes for Vec<Attribute<A>, A> {
+    ghost use Rattle.std.specs.Prelude.{map};
+    ghost use Rattle.markup5ever.specs.Names.{attribute_of};
+
+    ghost said = { λ attributes. map attribute_of attributes.items };
+
+    fn is_same(&self, other: &Self) -> bool {
+        attributes::has_same_attributes(self, other)
+    }
+
+    fn share(&self) -> Result<Self, AllocError> {
+        attributes::clone_attributes(self)
+    }
+
+    fn value_of(&self, name: &str) -> Option<&str> {
+        attributes::value_of(self, name)
+    }
+
+    fn adjust(&mut self, namespace: Namespace) -> Result<(), AllocError> {
+        adjusting::adjust_attributes(self, namespace)
+    }
+
+    fn math_kind(&self, name: &str) -> Kind {
+        adjusting::math_kind(name, self)
+    }
 }

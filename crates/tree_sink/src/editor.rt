@@ -310,10 +310,10 @@ impl<S: TreeSink<T> + Drop, T: TagAttributes> Editor<S, T> {
     }
 
     /// The template contents of a template.
-    pub fn contents_of(&self, template: S::Handle) -> S::Handle
-        ensures { S.Handle.node result ≡ suc (S.Handle.node template) }
+    pub fn contents_of(&self, template: S::Handle) -> Result<S::Handle, TreeBuilderError>
+        ensures { IfOk result (λ handle. S.Handle.node handle ≡ suc (S.Handle.node template)) }
     {
-        self.sink.get_template_contents(template)
+        Ok(self.sink.get_template_contents(template)?)
     }
 
     /// Makes a comment.

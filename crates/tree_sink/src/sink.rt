@@ -3,6 +3,7 @@ use crate::attributes::TagAttributes;
 use crate::handle::NodeHandle;
 use crate::place::{InsertionPoint, NodeOrText};
 use html5ever_interface::interface::token::SinkFault;
+use std::alloc::AllocError;
 use tree_construction::kinds::Namespace;
 use tree_construction::mistakes::Mistake;
 use tree_construction::modes::QuirksMode;
@@ -62,9 +63,10 @@ pub trait TreeSink<T: TagAttributes> {
         ensures no_fault { OnOk result (faults self.new ≡ faults self.old) }
         ensures one_fault { OnErr result (faults self.new ≡ faults self.old + 1) };
 
-    /// The template contents of a template. They were made just after it.
-    fn get_template_contents(&self, template: Self::Handle) -> Self::Handle
-        ensures { Self.Handle.node result ≡ suc (Self.Handle.node template) };
+    /// The template contents of a template. They were made just after it. A sink has so many handles at most: it may
+    /// refuse one.
+    fn get_template_contents(&self, template: Self::Handle) -> Result<Self::Handle, AllocError>
+        ensures { IfOk result (λ handle. Self.Handle.node handle ≡ suc (Self.Handle.node template)) };
 
     /// Makes a comment.
     fn create_comment(&mut self, text: &str) -> Result<Self::Handle, SinkFault>

@@ -1,0 +1,3 @@
+pub mod ChildLists
+pub mod NodeRows
+pub mod Lacking

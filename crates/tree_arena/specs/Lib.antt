@@ -1,0 +1,5 @@
+pub mod Rows
+pub mod Children
+pub mod Spots
+pub mod Grown
+pub mod GrownLaws
