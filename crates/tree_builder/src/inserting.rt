@@ -176,7 +176,7 @@ impl<S: TreeSink<T> + Drop, T: TagAttributes, A: Allocator + Copy> Builder<S, T,
         ensures ok { OnOk result (self.new ≡ on_parser (inserted kind (name_bytes name.now) (T.said attributes.now)) self.old) }
         ensures node { IfOk result (λ handle. S.Handle.node handle ≡ self.old.parser.page.next) }
     {
-        self.insert_at(self.place(0), kind, name, attributes)
+        self.insert_at(self.place(0)?, kind, name, attributes)
     }
 
     /// "Insert an HTML element for the token".
@@ -232,14 +232,14 @@ impl<S: TreeSink<T> + Drop, T: TagAttributes, A: Allocator + Copy> Builder<S, T,
         ensures ok { OnOk result (self.new ≡ on_parser (insert (bare_tag (name_of name))) self.old) }
         ensures node { IfOk result (λ handle. S.Handle.node handle ≡ self.old.parser.page.next) }
     {
-        self.insert_bare_at(self.place(0), name)
+        self.insert_bare_at(self.place(0)?, name)
     }
 
     /// Inserts a void element without attributes.
     pub fn insert_void_bare(&mut self, name: KnownName) -> Result<(), TreeBuilderError>
         ensures { OnOk result (self.new ≡ on_parser (insert_void (bare_tag (name_of name))) self.old) }
     {
-        self.insert_bare_at(self.place(1), name)?;
+        self.insert_bare_at(self.place(1)?, name)?;
         self.pop()?;
         self.acknowledge();
         Ok(())
@@ -249,7 +249,7 @@ impl<S: TreeSink<T> + Drop, T: TagAttributes, A: Allocator + Copy> Builder<S, T,
     pub fn insert_void(&mut self, tag: &StartTag<T, A>) -> Result<(), TreeBuilderError>
         ensures { OnOk result (self.new ≡ on_parser (insert_void (tag_of T.said tag.now)) self.old) }
     {
-        self.insert_at(self.place(1), tag.kind(), &tag.name, &tag.attributes)?;
+        self.insert_at(self.place(1)?, tag.kind(), &tag.name, &tag.attributes)?;
         self.pop()?;
         self.acknowledge();
         Ok(())
@@ -265,7 +265,7 @@ impl<S: TreeSink<T> + Drop, T: TagAttributes, A: Allocator + Copy> Builder<S, T,
     {
         let name = self.adjusted_name(namespace, tag)?;
         let kind = foreign_kind(namespace, &name, &tag.attributes);
-        let place = self.place(usize::from(tag.self_closing));
+        let place = self.place(usize::from(tag.self_closing))?;
         self.insert_at(place, kind, &name, &tag.attributes)?;
         Ok(())
     }

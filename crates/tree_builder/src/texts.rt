@@ -17,7 +17,7 @@ impl<S: TreeSink<T> + Drop, T: TagAttributes, A: Allocator> Builder<S, T, A> {
     pub fn insert_text(&mut self, text: &str) -> Result<(), TreeBuilderError>
         ensures { OnOk result (self.new ≡ on_parser (texted text.now) self.old) }
     {
-        let place = self.place_in(0);
+        let place = self.place_in(0)?;
         self.editor.put_text(place, text)
     }
 
@@ -37,7 +37,7 @@ impl<S: TreeSink<T> + Drop, T: TagAttributes, A: Allocator> Builder<S, T, A> {
     pub fn insert_comment(&mut self, text: &str) -> Result<(), TreeBuilderError>
         ensures { OnOk result (self.new ≡ on_parser (insert_comment text.now) self.old) }
     {
-        self.put_comment(self.place(1), text)
+        self.put_comment(self.place(1)?, text)
     }
 
     /// "Insert a comment as the last child of the Document object".
