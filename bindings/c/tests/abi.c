@@ -1,5 +1,5 @@
 /*
- * What crosses between this header and the library: sizes and offsets of structs, as crates/html5c has them, and numbers. The
+ * What crosses between this header and the library: sizes and offsets of structs, as crates/html5handle has them, and numbers. The
  * library's handle is a pointer and a `bool`; `page` stands where the library has nothing. `bindings/check.sh` runs it.
  */
 #include "../firnuubal.h"

@@ -1,17 +1,13 @@
 //! The calls of the cleaner. `html5_free` closes its handles too.
 ghost use Rattle.std.specs.Prelude.{◌≡◌};
-ghost use Rattle.html5c.specs.CleanerCalls.{NewCleanerSays, Restarts, CleanerFeeds, CleanerEnds, CleanerTakes, cleaner_error_place, cleaner_over_in};
-ghost use Rattle.html5c.specs.Slots.{cleaner_of, placed_of, policy_of, session_of};
+ghost use Rattle.html5handle.specs.CleanerCalls.{NewCleanerSays, Restarts, CleanerFeeds, CleanerEnds, CleanerTakes, cleaner_error_place, cleaner_over_in};
+ghost use Rattle.html5handle.specs.Slots.{cleaner_of, placed_of, policy_of, session_of};
 
-use crate::calls::html5_free;
-use crate::cleaner_opening::cleaner_slot_of;
-use crate::handle::Handle;
-use crate::status;
+use html5handle::Handle;
 use std::alloc::Global;
 
 /// Opens a handle at the start of a page, which is cleaned by the policy of a text or, if it has no bytes, by the
-/// standard one. What the handle held before is freed. `place` is then where the policy has a fault: its line, or the
-/// byte that is not UTF-8.
+/// standard one.
 #[unsafe(no_mangle)]
 pub extern "C" fn html5_cleaner_new(
     alloc: Global,
@@ -21,21 +17,10 @@ pub extern "C" fn html5_cleaner_new(
 ) -> u32
     ensures { NewCleanerSays h.new.owned.value policy.now place.new result }
 {
-    html5_free(alloc, h);
-    match cleaner_slot_of(alloc, policy) {
-        Ok(slot) => {
-            h.put(slot);
-            *place = 0;
-            status::DONE
-        }
-        Err(fault) => {
-            *place = fault.place();
-            fault.status()
-        }
-    }
+    html5handle::cleaner_new(alloc, h, policy, place)
 }
 
-/// Begins another page, by the same policy. Kept bytes that were not taken are gone.
+/// Begins another page, by the same policy.
 #[unsafe(no_mangle)]
 pub extern "C" fn html5_cleaner_restart(alloc: Global, h: &mut Handle) -> u32
     ensures restarts { Restarts (cleaner_of h.old.owned.value) (cleaner_of h.new.owned.value) result }
@@ -43,12 +28,7 @@ pub extern "C" fn html5_cleaner_restart(alloc: Global, h: &mut Handle) -> u32
     ensures placed { placed_of h.new.owned.value ≡ placed_of h.old.owned.value }
     ensures policy { policy_of h.new.owned.value ≡ policy_of h.old.owned.value }
 {
-    let Some(mut slot) = h.take(alloc) else {
-        return status::CLOSED;
-    };
-    let status = slot.restart_cleaner();
-    h.put(slot);
-    status
+    html5handle::cleaner_restart(alloc, h)
 }
 
 /// Takes a piece of the page, cut anywhere, and reads on.
@@ -59,15 +39,10 @@ pub extern "C" fn html5_cleaner_feed(alloc: Global, h: &mut Handle, bytes: &[u8]
     ensures placed { placed_of h.new.owned.value ≡ placed_of h.old.owned.value }
     ensures policy { policy_of h.new.owned.value ≡ policy_of h.old.owned.value }
 {
-    let Some(mut slot) = h.take(alloc) else {
-        return status::CLOSED;
-    };
-    let status = slot.feed_cleaner(bytes);
-    h.put(slot);
-    status
+    html5handle::cleaner_feed(alloc, h, bytes)
 }
 
-/// Ends the page. The rest of its kept part can then be taken.
+/// Ends the page.
 #[unsafe(no_mangle)]
 pub extern "C" fn html5_cleaner_end(alloc: Global, h: &mut Handle) -> u32
     ensures ends { CleanerEnds (cleaner_of h.old.owned.value) (cleaner_of h.new.owned.value) result }
@@ -75,16 +50,11 @@ pub extern "C" fn html5_cleaner_end(alloc: Global, h: &mut Handle) -> u32
     ensures placed { placed_of h.new.owned.value ≡ placed_of h.old.owned.value }
     ensures policy { policy_of h.new.owned.value ≡ policy_of h.old.owned.value }
 {
-    let Some(mut slot) = h.take(alloc) else {
-        return status::CLOSED;
-    };
-    let status = slot.end_cleaner();
-    h.put(slot);
-    status
+    html5handle::cleaner_end(alloc, h)
 }
 
-/// Takes the next bytes of the kept part, as many as wait and as there is room for, and says how many: 0 if none wait.
-/// A character may be cut in two: what is left of it comes first at the next call.
+/// Takes the next bytes of the kept part, as many as wait and as there is room for, and says how many: 0 if none
+/// wait.
 #[unsafe(no_mangle)]
 pub extern "C" fn html5_cleaner_take(alloc: Global, h: &mut Handle, out: &mut [u8]) -> usize
     ensures takes { CleanerTakes (cleaner_of h.old.owned.value) (cleaner_of h.new.owned.value) out.old out.new result }
@@ -92,41 +62,24 @@ pub extern "C" fn html5_cleaner_take(alloc: Global, h: &mut Handle, out: &mut [u
     ensures placed { placed_of h.new.owned.value ≡ placed_of h.old.owned.value }
     ensures policy { policy_of h.new.owned.value ≡ policy_of h.old.owned.value }
 {
-    let Some(mut slot) = h.take(alloc) else {
-        return 0;
-    };
-    let count = slot.take_cleaned(out);
-    h.put(slot);
-    count
+    html5handle::cleaner_take(alloc, h, out)
 }
 
-/// The place of the first byte that is not UTF-8, after a feed answered `NOT_UTF8`, counted from the first byte of the
-/// page.
+/// The place of the first byte that is not UTF-8, after a feed answered `NOT_UTF8`, counted from the first byte of
+/// the page.
 #[unsafe(no_mangle)]
 pub extern "C" fn html5_cleaner_error_at(alloc: Global, h: &mut Handle) -> u64
     ensures place { result ≡ cleaner_error_place (cleaner_of h.old.owned.value) }
     ensures kept { h.new.owned.value ≡ h.old.owned.value }
 {
-    let Some(slot) = h.take(alloc) else {
-        return 0;
-    };
-    let place = slot.cleaner_error_at();
-    h.put(slot);
-    place
+    html5handle::cleaner_error_at(alloc, h)
 }
 
-/// Whether nothing more is read: the page has ended, or a call failed for good. Then `html5_cleaner_feed` and
-/// `html5_cleaner_end` answer `OVER`, and the kept bytes can still be taken. It is false where the handle is of no
-/// page.
+/// Whether nothing more is read: the page has ended, or a call failed for good.
 #[unsafe(no_mangle)]
 pub extern "C" fn html5_cleaner_is_over(alloc: Global, h: &mut Handle) -> bool
     ensures over { result ≡ cleaner_over_in (cleaner_of h.old.owned.value) }
     ensures kept { h.new.owned.value ≡ h.old.owned.value }
 {
-    let Some(slot) = h.take(alloc) else {
-        return false;
-    };
-    let is_over = slot.is_cleaner_over();
-    h.put(slot);
-    is_over
+    html5handle::cleaner_is_over(alloc, h)
 }

@@ -1,23 +1,10 @@
-//! The tokenizer and the cleaner for C. A page is fed as its bytes arrive, and the records of its tokens are taken, or what
-//! a policy keeps of it.
+//! The tokenizer and the cleaner for C: each call is one of `html5handle`, with the same clauses.
 #![tactic(auto)]
 
 mod calls;
 mod cleaner_calls;
-mod cleaner_opening;
-mod cleaner_slot;
-mod encoding;
-mod ending;
-mod handle;
 mod names;
-mod opening;
-mod options;
-mod placed_slot;
 mod policy_calls;
-mod policy_slot;
-mod rule_status;
-mod slot;
-pub mod status;
 mod version;
 
 pub use calls::{
@@ -29,8 +16,6 @@ pub use cleaner_calls::{
     html5_cleaner_end, html5_cleaner_error_at, html5_cleaner_feed, html5_cleaner_is_over,
     html5_cleaner_new, html5_cleaner_restart, html5_cleaner_take,
 };
-pub use handle::Handle;
 pub use names::html5_error_code;
-pub use options::Options;
 pub use policy_calls::{html5_cleaner_begin, html5_policy_add, html5_policy_new};
 pub use version::html5_version;

@@ -1,33 +1,22 @@
 //! The calls of a policy, to which rules are added one by one. `html5_free` closes its handles too.
 ghost use Rattle.std.specs.Prelude.{◌≡◌, None};
-ghost use Rattle.html5c.specs.PolicyCalls.{AddsRule, BeginsCleaner, NewPolicySays};
-ghost use Rattle.html5c.specs.Slots.{cleaner_of, placed_of, policy_of, session_of};
+ghost use Rattle.html5handle.specs.PolicyCalls.{AddsRule, BeginsCleaner, NewPolicySays};
+ghost use Rattle.html5handle.specs.Slots.{cleaner_of, placed_of, policy_of, session_of};
 
-use crate::calls::html5_free;
-use crate::handle::Handle;
-use crate::slot::PageSlot;
-use crate::status;
-use html5policy::Policy;
+use html5handle::Handle;
 use std::alloc::Global;
 
-/// Opens a handle as a policy that keeps text alone. What the handle held before is freed.
+/// Opens a handle as a policy that keeps text alone.
 #[unsafe(no_mangle)]
 pub extern "C" fn html5_policy_new(alloc: Global, h: &mut Handle) -> u32
     ensures { NewPolicySays h.new.owned.value result }
 {
-    html5_free(alloc, h);
-    match Box::new(alloc, PageSlot::Policy(Policy::new(alloc))) {
-        Ok(slot) => {
-            h.put(slot);
-            status::DONE
-        }
-        Err(_) => status::NO_MEMORY,
-    }
+    html5handle::policy_new(alloc, h)
 }
 
 /// Adds a rule to a policy. 0: an element that is kept. 1: an attribute that is kept in an element. 2: an attribute
 /// that is kept in each element. 3: a scheme of addresses. 4: an element that is dropped with its content. 5: a word
-/// of `rel`. 6: `balance`. 7: `tree`. 8: `depth`, by decimal digits. Each name is one name, whatever its characters.
+/// of `rel`. 6: `balance`. 7: `tree`. 8: `depth`, by decimal digits.
 #[unsafe(no_mangle)]
 pub extern "C" fn html5_policy_add(
     alloc: Global,
@@ -41,12 +30,7 @@ pub extern "C" fn html5_policy_add(
     ensures other { cleaner_of h.new.owned.value ≡ cleaner_of h.old.owned.value }
     ensures placed { placed_of h.new.owned.value ≡ placed_of h.old.owned.value }
 {
-    let Some(mut slot) = h.take(alloc) else {
-        return status::CLOSED;
-    };
-    let status = slot.add_rule(rule, name, attribute);
-    h.put(slot);
-    status
+    html5handle::policy_add(alloc, h, rule, name, attribute)
 }
 
 /// Begins a page that is cleaned by the policy of a handle, which is of that page from here on.
@@ -56,10 +40,5 @@ pub extern "C" fn html5_cleaner_begin(alloc: Global, h: &mut Handle) -> u32
         (cleaner_of h.new.owned.value) result }
     ensures unchanged { policy_of h.old.owned.value ≡ None → h.new.owned.value ≡ h.old.owned.value }
 {
-    let Some(mut slot) = h.take(alloc) else {
-        return status::CLOSED;
-    };
-    let status = slot.begin_cleaner(alloc);
-    h.put(slot);
-    status
+    html5handle::cleaner_begin(alloc, h)
 }
