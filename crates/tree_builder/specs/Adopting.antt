@@ -1,5 +1,5 @@
 -- The inner loop of the adoption agency algorithm, by what a builder holds. These are words of the proofs: no promise to callers is made of them.
-use Rattle.std.specs.Prelude.{ℕ, suc, List, ◌∷◌, Option, Some, None, reverse}
+use Rattle.std.specs.Prelude.{ℕ, suc, List, [], ◌∷◌, Option, Some, None, reverse}
 use Rattle.tree_construction.specs.Adoption.{Inner, remade, remake, replaced}
 use Rattle.tree_construction.specs.Formatting.{Listed}
 use Rattle.tree_construction.specs.Page.{Open}
@@ -37,3 +37,8 @@ with_inner inner b = record b {
 
 abbrev pub with_opened : {Q : Type 0} → List Open → Built Q → Built Q
 with_opened opened b = record b { parser = record b.parser { page = record b.parser.page { opened = opened } } }
+
+-- elements that are opened one by one, the first one first
+unfoldable pub pushed_back : List Open → List Open → List Open
+pushed_back [] opened = opened
+pushed_back (e ∷ es) opened = pushed_back es (e ∷ opened)

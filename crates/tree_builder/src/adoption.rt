@@ -1,16 +1,18 @@
 //! "The adoption agency algorithm", and "any other end tag".
-ghost use Rattle.std.specs.Prelude.{◌≡◌, ◌==◌, ◌<◌, ◌+◌, ◌++◌, ◌∷◌, [], true, Some, IfOk, IfNone, IfSome, OnOk, drop, length, option_map, reverse, take, if◌then◌else◌};
-ghost use Rattle.tree_construction.specs.Adoption.{Inner, adopted, adoption_agency, any_other_end_tag, at_bookmark, cloned, ended_by, entry_of as entry_in, furthest_block, inner_loop, inner_start, is_unlisted, list_at, nth_open, opened_inside, opened_outside, outer_loop, remade, remade_open, turn, unformatted};
+ghost use Rattle.std.specs.Prelude.{◌≡◌, ◌==◌, ◌<◌, ◌≤◌, ◌+◌, ◌++◌, ◌∷◌, [], suc, true, Some, IfOk, IfNone, IfSome, MatchOption, OnOk, drop, length, option_map, reverse, take, if◌then◌else◌};
+ghost use Rattle.tree_construction.specs.Adoption.{Inner, adopted, adoption_agency, any_other_end_tag, at_bookmark, cloned, ended_by, entry_of as entry_in, furthest_block, inner_loop, inner_start, is_unlisted, list_at, nth_open, opened_inside, opened_outside, outer_loop, remade, remade_open, remake, turn, unformatted};
 ghost use Rattle.tree_construction.specs.Formatting.{last_named, without_entry};
 ghost use Rattle.tree_construction.specs.Page.{Open, current_passes, has_number, has_open};
 ghost use Rattle.tree_construction.specs.Page.Place.{LastChild};
-ghost use Rattle.tree_construction.specs.Page.Edit.{Pop, Put, Remove};
-ghost use Rattle.tree_construction.specs.Parser.{Parser, on_page};
+ghost use Rattle.tree_construction.specs.Page.Edit.{MoveChildren, Pop, Put, Remove};
+ghost use Rattle.tree_construction.specs.Parser.{Parser, on_page, place_in};
 ghost use Rattle.tree_names.specs.ElementNames.{name_bytes};
-ghost use Rattle.tree_builder.specs.Adopting.{inner_of, remade_in, with_inner, with_opened};
+ghost use Rattle.tree_builder.specs.Adopting.{inner_of, pushed_back, remade_in, with_inner, with_opened};
 ghost use Rattle.tree_builder.specs.Built.{on_parser};
 ghost use Rattle.tree_lists.specs.Formatting.{active_of, listed_of};
 ghost use Rattle.tree_lists.specs.Opened.{node_in, open_of, opened_of};
+ghost use Rattle.tree_lists.specs.Places.{IsNotOpen, IsOpenAt};
+ghost use Rattle.tree_sink.specs.Places.{place_of as sink_place};
 
 use crate::builder::Builder;
 use std::alloc::Allocator;
@@ -194,5 +196,149 @@ impl<S: TreeSink<T> + Drop, T: TagAttributes, A: Allocator + Copy> Builder<S, T,
             at = self.adopt_one(block, turn + 1, element.handle, at)?;
         }
         Ok(at)
+    }
+
+    // The appropriate place for inserting a node, in what stands outside the formatting element.
+    fn place_outside(
+        &self,
+        formatting: S::Handle,
+        depth: usize,
+    ) -> Result<InsertionPoint<S::Handle>, TreeBuilderError>
+        requires stands { depth < length self.now.parser.page.opened }
+        requires around { has_open (has_number (S.Handle.node formatting)) (drop (depth + 1) self.now.parser.page.opened) ≡ true }
+        ensures { IfOk result (λ place. sink_place S.Handle.node place ≡ place_in self.now.parser
+            (opened_outside (S.Handle.node formatting) (drop (depth + 1) self.now.parser.page.opened))) }
+    {
+        let count = self.open_len();
+        let Some(inside) = self.find_from(depth + 1, formatting) else {
+            unreachable!()
+        };
+        if inside >= count - depth - 1 {
+            unreachable!()
+        }
+        self.place_in(depth + 1 + inside + 1)
+    }
+
+    // How many elements stand from a depth on inside a node, if it is open there.
+    fn find_from(&self, from: usize, handle: S::Handle) -> Option<usize>
+        requires { from ≤ length self.now.parser.page.opened }
+        ensures { MatchOption result (IsNotOpen (S.Handle.node handle) (drop from self.now.parser.page.opened))
+            (λ count. IsOpenAt (S.Handle.node handle) (drop from self.now.parser.page.opened) count) }
+    {
+        self.opened.find_from(from, handle)
+    }
+
+    // Takes the elements inside the one at a depth from the stack, which the sink isn't told.
+    fn take_within(
+        &mut self,
+        depth: usize,
+    ) -> Result<Stack<OpenElement<S::Handle, A>, A>, TreeBuilderError>
+        requires { depth < length self.old.parser.page.opened }
+        ensures rest { OnOk result (self.new ≡ on_parser (on_page (λ page. record page { opened = drop depth page.opened })) self.old) }
+        ensures front { IfOk result (λ within. opened_of S.Handle.node within ≡ take depth self.old.parser.page.opened) }
+    {
+        let within = self.opened.take_front(depth)?;
+        Ok(within)
+    }
+
+    // Puts the last node at its place.
+    fn put_last(
+        &mut self,
+        place: InsertionPoint<S::Handle>,
+        last: S::Handle,
+    ) -> Result<(), TreeBuilderError>
+        ensures { OnOk result (self.new ≡ on_parser (on_page (λ page. record page {
+          edits =
+              Put (sink_place S.Handle.node place) (S.Handle.node last) ∷ Remove (S.Handle.node last) ∷ page.edits;
+        })) self.old) }
+    {
+        self.editor.remove(last)?;
+        self.editor.put(place, last)
+    }
+
+    // The children of the furthest block go into a new element, and that into the block. The formatting element has left the
+    // stack.
+    fn adopt_children(
+        &mut self,
+        formatting: &Formatting<S::Handle, T, A>,
+        block: S::Handle,
+    ) -> Result<S::Handle, TreeBuilderError>
+        ensures page { OnOk result (self.new ≡ on_parser (on_page (λ page. record page {
+          next = suc page.next;
+          edits = Pop (S.Handle.node formatting.now.handle) ∷ Put (LastChild (S.Handle.node block)) page.next ∷ MoveChildren (S.Handle.node block) page.next
+              ∷ remake page.next (listed_of S.Handle.node T.said formatting.now) ∷ page.edits;
+        })) self.old) }
+        ensures node { IfOk result (λ handle. S.Handle.node handle ≡ self.old.parser.page.next) }
+    {
+        let new = self.editor.create_element(
+            Namespace::Html,
+            formatting.name.as_str(),
+            &formatting.attributes,
+        )?;
+        self.editor.move_children(block, new)?;
+        self.editor.put(InsertionPoint::LastChild(block), new)?;
+        self.editor.pop(formatting.handle)?;
+        Ok(new)
+    }
+
+    // Puts the new element into the list where the bookmark is.
+    fn list_adopted(
+        &mut self,
+        bookmark: Option<S::Handle>,
+        formatting: Formatting<S::Handle, T, A>,
+        new: S::Handle,
+    ) -> Result<(), TreeBuilderError>
+        ensures { OnOk result (self.new ≡ on_parser (λ p. record p {
+          formatting = at_bookmark (node_in S.Handle.node bookmark)
+              (S.Handle.node formatting.handle) (remade (S.Handle.node new) (listed_of S.Handle.node T.said formatting)) p.formatting;
+        }) self.old) }
+    {
+        let handle = formatting.handle;
+        let element = Formatting {
+            handle: new,
+            kind: formatting.kind,
+            name: formatting.name,
+            attributes: formatting.attributes,
+        };
+        self.formatting.put_at_bookmark(bookmark, handle, element)?;
+        Ok(())
+    }
+
+    // Opens an element, which the sink isn't told.
+    fn push_open(&mut self, element: OpenElement<S::Handle, A>) -> Result<(), TreeBuilderError>
+        ensures { OnOk result (self.new ≡ on_parser (on_page (λ page. record page { opened = open_of S.Handle.node element ∷ page.opened })) self.old) }
+    {
+        self.opened.push(element)?;
+        Ok(())
+    }
+
+    // Opens elements, the first one first.
+    #[tactic(auto, unfolding(crate::specs::Adopting::pushed_back))]
+    fn push_all(
+        &mut self,
+        elements: Stack<OpenElement<S::Handle, A>, A>,
+    ) -> Result<(), TreeBuilderError>
+        ensures { OnOk result (self.new ≡ on_parser (on_page (λ page. record page {
+          opened = pushed_back (opened_of S.Handle.node elements) page.opened;
+        })) self.old) }
+    {
+        let mut left = elements;
+        while let Some(element) = left.pop() {
+            self.push_open(element)?;
+        }
+        Ok(())
+    }
+
+    // Opens elements inside the others, in their order.
+    fn put_within(
+        &mut self,
+        within: Stack<OpenElement<S::Handle, A>, A>,
+    ) -> Result<(), TreeBuilderError>
+        ensures { OnOk result (self.new ≡ on_parser (on_page (λ page. record page {
+          opened = opened_of S.Handle.node within ++ page.opened;
+        })) self.old) }
+    {
+        self.opened.put_front(within)?;
+        Ok(())
     }
 }
