@@ -2,3 +2,4 @@ pub mod TagKinds
 pub mod HtmlElements
 pub mod Reopened
 pub mod TemplateModes
+pub mod Clones

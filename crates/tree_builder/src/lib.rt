@@ -1,6 +1,7 @@
 //! The tree builder: takes tokens, and tells a sink how to build the document.
 #![tactic(auto)]
 
+pub mod adoption;
 pub mod after_head;
 pub mod before_head;
 pub mod builder;

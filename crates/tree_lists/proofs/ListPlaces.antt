@@ -1,10 +1,12 @@
 -- A search by node finds where its entry stands in the list of active formatting elements.
 use Rattle.std.proofs.Common.{◌≡◌, ℕ, zero, suc, ◌+◌, ◌<◌, true, false, List, [], ◌∷◌, ◌++◌, Some, length, take, drop, refl, ap, ◌∙◌, arith, add-one}
 use Rattle.std.specs.Prelude.{◌==◌}
+use Rattle.markup5ever.specs.Names.{AttributeOf}
 use Rattle.tree_construction.specs.Adoption.{added_after, entry_of, replaced}
 use Rattle.tree_construction.specs.Formatting.{Listed, has_entry, is_entry_of, without_entry}
 use Rattle.tree_construction.specs.Parser.{Entry}
 use Rattle.tree_construction.specs.Parser.Entry.{Active, Marker}
+use Rattle.tree_construction.specs.declared.kinds.Kind.{Kind}
 use Rattle.tree_lists.proofs.OpenPlaces.{if-false}
 use Rattle.tree_lists.specs.Formatting.{active_of}
 use Rattle.tree_lists.specs.ListPlaces.{IsListedAt, IsNotListed}
@@ -100,3 +102,16 @@ none-listed n (x ∷ list) h =
       replaced = λ new. rw s.0 (ap (λ ys. x ∷ ys) (r.replaced new));
       added = λ new. rw s.0 (ap (λ ys. x ∷ ys) (r.added new));
     }
+
+abbrev listed : ℕ → Kind → List ℕ → List AttributeOf → Listed
+listed n kind name attributes = record { node = n; kind = kind; name = name; attributes = attributes }
+
+pub same-listed : (a b : Listed) (rest others : List Entry) → active_of a ∷ rest ≡ active_of b ∷ others → a ≡ b
+same-listed a b rest others e =
+    let node : a.node ≡ b.node = cc in
+    let kind : a.kind ≡ b.kind = cc in
+    let name : a.name ≡ b.name = cc in
+    let attributes : a.attributes ≡ b.attributes = cc in
+    ap (λ x. listed x a.kind a.name a.attributes) node
+    ∙ (ap (λ x. listed b.node x a.name a.attributes) kind
+    ∙ (ap (λ x. listed b.node b.kind x a.attributes) name ∙ ap (listed b.node b.kind b.name) attributes))

@@ -1,6 +1,7 @@
 -- The list of active formatting elements of code, as that of the definition.
 use Rattle.std.specs.Prelude.{ℕ, Bool, false, not, List, [], ◌∷◌, Option, Some, None, map, nat_le, if◌then◌else◌}
 use Rattle.markup5ever.specs.Names.{AttributeOf}
+use Rattle.tree_construction.specs.Adoption.{remade, replaced}
 use Rattle.tree_construction.specs.Formatting.{Listed, count_alike, without_earliest}
 use Rattle.tree_construction.specs.Page.{Open, has_number, has_open}
 use Rattle.tree_construction.specs.Parser.{Entry}
@@ -42,3 +43,8 @@ is_lost opened (Active n kind name attributes ∷ list) = not (has_open (has_num
 abbrev pub before_lost : Option Listed → List Listed → List Listed
 before_lost None lost = lost
 before_lost (Some e) lost = e ∷ lost
+
+-- the entry of a node for another node, in its place
+abbrev pub renewed : Option Listed → (n new : ℕ) → List Entry → List Entry
+renewed None n new list = list
+renewed (Some e) n new list = replaced n (remade new e) list

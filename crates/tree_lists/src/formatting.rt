@@ -1,10 +1,10 @@
 //! "The list of active formatting elements".
 ghost use Rattle.std.specs.Prelude.{◌≡◌, ◌<◌, ◌+◌, ◌-◌, List, [], ◌∷◌, ◌++◌, drop, length, map, option_map, reverse, take, IfNone, IfOk, IfSome, MatchOption, OnErr, OnOk};
-ghost use Rattle.tree_construction.specs.Adoption.{added_after, at_bookmark, replaced};
+ghost use Rattle.tree_construction.specs.Adoption.{added_after, at_bookmark, entry_of as entry_in, replaced};
 ghost use Rattle.tree_construction.specs.Formatting.{Listed, cleared, count_after_marker, count_alike, has_entry, is_alike, is_entry_of, last_named, still_listed, to_reopen, with_entry, within_limit, without_earliest, without_entry, without_oldest};
 ghost use Rattle.tree_construction.specs.Parser.{Entry};
 ghost use Rattle.tree_names.specs.ElementNames.{name_bytes};
-ghost use Rattle.tree_lists.specs.Formatting.{active_of, before_lost, entry_of, is_lost, listed_of, with_room};
+ghost use Rattle.tree_lists.specs.Formatting.{active_of, before_lost, entry_of, is_lost, listed_of, renewed, with_room};
 ghost use Rattle.tree_lists.specs.Opened.{node_in};
 ghost use Rattle.tree_lists.specs.ListPlaces.{IsEarliest, IsListedAt, IsNotListed, IsOldest};
 
@@ -361,6 +361,43 @@ impl<H: NodeHandle, T: TagAttributes, A: Allocator> FormattingList<H, T, A> {
             lost.push(element)?;
         }
         Ok(lost)
+    }
+
+    /// The entry of a node.
+    #[tactic(auto, unfolding(tree_construction::specs::Adoption::entry_of))]
+    pub fn entry(&self, handle: H) -> Option<&Formatting<H, T, A>>
+        ensures { MatchOption result (entry_in (H.node handle) self.now ≡ None)
+            (λ e. entry_in (H.node handle) self.now ≡ Some (listed_of H.node T.said e.now)) }
+    {
+        for depth in 0..self.len() {
+            if let FormatEntry::Active(element) = self.at(depth) {
+                if element.handle.is(handle) {
+                    return Some(element);
+                }
+            }
+        }
+        None
+    }
+
+    /// Makes the entry of a node that of another node, which was made for the same tag.
+    pub fn renew(&mut self, handle: H, new: H) -> Result<(), AllocError>
+        ensures { OnOk result (self.new ≡ renewed (entry_in (H.node handle) self.old) (H.node handle) (H.node new) self.old) }
+    {
+        let Some(depth) = self.find(handle) else {
+            return Ok(());
+        };
+        match self.remove_at(depth) {
+            FormatEntry::Mark => self.insert_at(depth, FormatEntry::Mark),
+            FormatEntry::Active(element) => self.insert_at(
+                depth,
+                FormatEntry::Active(Formatting {
+                    handle: new,
+                    kind: element.kind,
+                    name: element.name,
+                    attributes: element.attributes,
+                }),
+            ),
+        }
     }
 
     // Puts another element in the place of a node's entry.

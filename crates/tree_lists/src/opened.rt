@@ -6,7 +6,7 @@ ghost use Rattle.tree_construction.specs.Names.{may_stay_open};
 ghost use Rattle.tree_construction.specs.Page.{current_passes, first_open, has_in_scope, has_kind, has_name, has_open, second_body, without_open};
 ghost use Rattle.tree_construction.specs.Parser.{kind_at_top};
 ghost use Rattle.tree_names.specs.ElementNames.{name_bytes};
-ghost use Rattle.tree_lists.specs.Opened.{node_in, open_of};
+ghost use Rattle.tree_lists.specs.Opened.{node_in, open_of, opened_of};
 ghost use Rattle.tree_lists.specs.Places.{IsNotOpen, IsOpenAt};
 ghost use Rattle.tree_lists.specs.Wanted.{ends, is_in, is_wanted};
 
@@ -306,6 +306,13 @@ impl<H: NodeHandle, A: Allocator> OpenElements<H, A> {
         }
         None
     }
+
+    /// Opens elements inside the others, in their order.
+    pub fn put_front(&mut self, front: Stack<OpenElement<H, A>, A>) -> Result<(), AllocError>
+        ensures ok { OnOk result (self.new ≡ opened_of H.node front ++ self.old) }
+    {
+        self.items.put_front(front)
+    }
 }
 
 impl<H: NodeHandle, A: Allocator + Copy> OpenElements<H, A> {
@@ -325,5 +332,15 @@ impl<H: NodeHandle, A: Allocator + Copy> OpenElements<H, A> {
             }
         }
         Ok(None)
+    }
+
+    /// Takes the elements inside the one at a depth.
+    pub fn take_front(&mut self, depth: usize) -> Result<Stack<OpenElement<H, A>, A>, AllocError>
+        requires { depth < length self.old + 1 }
+        ensures front { IfOk result (λ front. opened_of H.node front ≡ take depth self.old) }
+        ensures rest { OnOk result (self.new ≡ drop depth self.old) }
+    {
+        let front = self.items.take_front(depth)?;
+        Ok(front)
     }
 }

@@ -1,5 +1,5 @@
 //! A list whose first item is the one that was added last.
-ghost use Rattle.std.specs.Prelude.{◌≡◌, ◌<◌, ◌+◌, List, [], ◌∷◌, ◌++◌, drop, length, take, IfNone, IfSome, OnErr, OnOk};
+ghost use Rattle.std.specs.Prelude.{◌≡◌, ◌<◌, ◌+◌, List, [], ◌∷◌, ◌++◌, drop, length, take, IfNone, IfOk, IfSome, OnErr, OnOk};
 
 use std::alloc::{AllocError, Allocator};
 use std::marker::Model;
@@ -89,5 +89,27 @@ impl<X: Drop, A: Allocator> Stack<X, A> {
     {
         self.remove_at(depth);
         self.insert_at(depth, item)
+    }
+
+    /// Puts items in front, in their order.
+    pub fn put_front(&mut self, front: Stack<X, A>) -> Result<(), AllocError>
+        ensures ok { OnOk result (self.new ≡ front ++ self.old) }
+    {
+        let mut front = front;
+        self.items.append(&mut front.items)?;
+        Ok(())
+    }
+}
+
+impl<X: Drop, A: Allocator + Copy> Stack<X, A> {
+    /// Takes the first items, down to a depth.
+    pub fn take_front(&mut self, depth: usize) -> Result<Stack<X, A>, AllocError>
+        requires { depth < length self.old + 1 }
+        ensures front { IfOk result (λ front. front ≡ take depth self.old) }
+        ensures rest { OnOk result (self.new ≡ drop depth self.old) }
+    {
+        let at = self.items.len() - depth;
+        let items = self.items.split_off(at)?;
+        Ok(Stack { items })
     }
 }
