@@ -3,3 +3,4 @@ pub mod HtmlElements
 pub mod Reopened
 pub mod TemplateModes
 pub mod Clones
+pub mod Adopted

@@ -341,4 +341,34 @@ impl<S: TreeSink<T> + Drop, T: TagAttributes, A: Allocator + Copy> Builder<S, T,
         self.opened.put_front(within)?;
         Ok(())
     }
+
+    // What is done with the furthest block, by its depth.
+    fn adopt(
+        &mut self,
+        formatting: Formatting<S::Handle, T, A>,
+        depth: usize,
+    ) -> Result<(), TreeBuilderError>
+        requires stands { depth < length self.old.parser.page.opened }
+        requires around { has_open (has_number (S.Handle.node formatting.handle)) (drop (depth + 1) self.old.parser.page.opened) ≡ true }
+        ensures { OnOk result (self.new ≡ on_parser (λ p. adopted p (listed_of S.Handle.node T.said formatting) depth) self.old) }
+    {
+        let place = self.place_outside(formatting.handle, depth)?;
+        let within = self.take_within(depth)?;
+        let Some(block) = self.take_open() else {
+            unreachable!()
+        };
+        let at = self.adopt_up_to(block.handle, formatting.handle)?;
+        self.put_last(place, at.last)?;
+        let new = self.adopt_children(&formatting, block.handle)?;
+        let inside = OpenElement {
+            handle: new,
+            kind: formatting.kind,
+            name: formatting.name.try_clone()?,
+        };
+        self.list_adopted(at.bookmark, formatting, new)?;
+        self.push_all(at.clones)?;
+        self.push_open(block)?;
+        self.push_open(inside)?;
+        self.put_within(within)
+    }
 }
