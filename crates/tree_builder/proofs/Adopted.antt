@@ -63,10 +63,10 @@ adopted-is p f d new block inside within clones place i h here front number rema
     let block_is : nth_open d opened ≡ block = nth-is d opened block (drop 1 (drop d opened)) h here in
     let around : List Open = drop (d + 1) opened in
     let loop_is : i ≡ inner_loop block.node 1 (opened_inside f.node around) (inner_start p block.node) =
-        loop ∙ ap (λ es. inner_loop block.node 1 (opened_inside f.node es) (inner_start p block.node)) after in
+    loop ∙ ap (λ es. inner_loop block.node 1 (opened_inside f.node es) (inner_start p block.node)) after in
     let stack : pushed_back clones (opened_outside f.node (drop 1 (drop d opened))) ≡ i.clones ++ opened_outside f.node around =
-        pushed-back clones (opened_outside f.node (drop 1 (drop d opened)))
-        ∙ (ap (λ es. es ++ opened_outside f.node (drop 1 (drop d opened))) made ∙ ap (λ es. i.clones ++ opened_outside f.node es) after) in
+    pushed-back clones (opened_outside f.node (drop 1 (drop d opened)))
+    ∙ (ap (λ es. es ++ opened_outside f.node (drop 1 (drop d opened))) made ∙ ap (λ es. i.clones ++ opened_outside f.node es) after) in
     rw (front, number, remake_is, at, stack)
     (ap (λ j. adopted_after p f block (take d opened) (opened_outside f.node around) j) loop_is
     ∙ ap (λ (b : Open). adopted_after p f b (take d opened) (opened_outside f.node around) (inner_loop b.node 1 (opened_inside f.node around) (inner_start p b.node))) (sym block_is))

@@ -4,3 +4,4 @@ pub mod Reopened
 pub mod TemplateModes
 pub mod Clones
 pub mod Adopted
+pub mod Turns

@@ -17,10 +17,11 @@ ghost use Rattle.tree_sink.specs.Places.{place_of as sink_place};
 use crate::builder::Builder;
 use std::alloc::Allocator;
 use tree_construction::kinds::Namespace;
+use tree_construction::mistakes::Mistake;
 use tree_lists::formatting::Formatting;
 use tree_lists::opened::OpenElement;
 use tree_lists::stack::Stack;
-use tree_lists::wanted::Wanted;
+use tree_lists::wanted::{Scope, Wanted};
 use tree_names::name::ElementName;
 use tree_sink::attributes::TagAttributes;
 use tree_sink::error::TreeBuilderError;
@@ -370,5 +371,106 @@ impl<S: TreeSink<T> + Drop, T: TagAttributes, A: Allocator + Copy> Builder<S, T,
         self.push_open(block)?;
         self.push_open(inside)?;
         self.put_within(within)
+    }
+
+    // The last element of a name in the list, after the last marker.
+    fn last_listed(
+        &self,
+        name: &ElementName<A>,
+    ) -> Result<Option<Formatting<S::Handle, T, A>>, TreeBuilderError>
+        ensures { IfOk result (λ found. last_named (name_bytes name.now) self.now.parser.formatting
+            ≡ option_map (listed_of S.Handle.node T.said) found) }
+    {
+        let Some(element) = self.formatting.last_named(name) else {
+            return Ok(None);
+        };
+        Ok(Some(Formatting {
+            handle: element.handle,
+            kind: element.kind,
+            name: element.name.try_clone()?,
+            attributes: element.attributes.share()?,
+        }))
+    }
+
+    // "Furthest block": how deep the outermost special element in a node stands.
+    fn furthest_block(&self, handle: S::Handle) -> Option<usize>
+        ensures { furthest_block (opened_inside (S.Handle.node handle) self.now.parser.page.opened) ≡ result }
+    {
+        self.opened.furthest_block(handle)
+    }
+
+    // Takes the entry of a node out of the list.
+    fn unlist(&mut self, handle: S::Handle)
+        ensures { self.new ≡ on_parser (λ p. record p { formatting = without_entry (S.Handle.node handle) p.formatting }) self.old }
+    {
+        self.formatting.remove(handle);
+    }
+
+    // One turn of the outer loop. Whether another one follows.
+    fn adoption_turn(&mut self, name: &ElementName<A>) -> Result<bool, TreeBuilderError>
+        ensures { IfOk result (λ more. (again : Parser → Parser) → on_parser (if more then again else λ p. p) self.new
+            ≡ on_parser (λ p. turn again (name_bytes name.now) (last_named (name_bytes name.now) p.formatting) p) self.old) }
+    {
+        let Some(element) = self.last_listed(name)? else {
+            self.any_other_end_tag(name)?;
+            return Ok(false);
+        };
+        let wanted = Wanted::Node(element.handle);
+        if !self.has_open(&wanted) {
+            self.mistaken(Mistake::FormattingNotOpen)?;
+            self.unlist(element.handle);
+            return Ok(false);
+        }
+        if !self.has_in_scope(Scope::Default, &wanted) {
+            self.mistaken(Mistake::FormattingNotInScope)?;
+            return Ok(false);
+        }
+        let block = self.furthest_block(element.handle);
+        self.expect_current(&wanted)?;
+        let Some(depth) = block else {
+            self.pop_until(&wanted)?;
+            self.unlist(element.handle);
+            return Ok(false);
+        };
+        self.adopt(element, depth)?;
+        Ok(true)
+    }
+
+    // The outer loop, of at most 8 turns.
+    #[tactic(auto, unfolding(tree_construction::specs::Adoption::outer_loop))]
+    fn adoption_turns(&mut self, name: &ElementName<A>) -> Result<(), TreeBuilderError>
+        ensures { OnOk result (self.new ≡ on_parser (outer_loop 8 (name_bytes name.now)) self.old) }
+    {
+        let mut turns = 8u8;
+        while turns > 0 {
+            if !self.adoption_turn(name)? {
+                return Ok(());
+            }
+            turns -= 1;
+        }
+        Ok(())
+    }
+
+    // Whether the current node is an HTML element of a name that is not in the list.
+    fn current_is_unlisted(&self, name: &ElementName<A>) -> bool
+        ensures { result ≡ current_passes (is_unlisted (name_bytes name.now) self.now.parser.formatting) self.now.parser.page.opened }
+    {
+        match self.opened.top() {
+            Some(element) => {
+                element.is(&Wanted::Named(name)) && !self.formatting.has(element.handle)
+            }
+            None => false,
+        }
+    }
+
+    /// "The adoption agency algorithm".
+    pub fn adoption_agency(&mut self, name: &ElementName<A>) -> Result<(), TreeBuilderError>
+        ensures { OnOk result (self.new ≡ on_parser (adoption_agency (name_bytes name.now)) self.old) }
+    {
+        if self.current_is_unlisted(name) {
+            self.pop()
+        } else {
+            self.adoption_turns(name)
+        }
     }
 }

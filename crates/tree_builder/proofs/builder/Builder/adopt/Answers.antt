@@ -28,17 +28,17 @@ returns g c =
     let block : Open = open_of node c.in-Some.block in
     let i : Inner = inner_of node c.adopt_up_to.new.self c.in_ok-at.at in
     let opened : c.take_within.new.self.parser.page.opened ≡ drop d p.page.opened =
-        ap (λ (b : Built g.row.S.Denot). b.parser.page.opened) c.in_ok-within.ensures.rest in
+    ap (λ (b : Built g.row.S.Denot). b.parser.page.opened) c.in_ok-within.ensures.rest in
     let here : drop d p.page.opened ≡ block ∷ drop 1 (drop d p.page.opened) =
-        sym opened ∙ (c.in-Some.ensures.some ∙ ap (λ es. block ∷ drop 1 es) opened) in
+    sym opened ∙ (c.in-Some.ensures.some ∙ ap (λ es. block ∷ drop 1 es) opened) in
     let taken : c.take_open.new.self ≡ on_parser (on_page (λ page. record page { opened = drop 1 (drop d p.page.opened) })) now =
-        c.in-Some.ensures.opened
-        ∙ ap (λ (b : Built g.row.S.Denot). on_parser (on_page (λ page. record page { opened = drop 1 page.opened })) b) c.in_ok-within.ensures.rest in
+    c.in-Some.ensures.opened
+    ∙ ap (λ (b : Built g.row.S.Denot). on_parser (on_page (λ page. record page { opened = drop 1 page.opened })) b) c.in_ok-within.ensures.rest in
     let loop : i ≡ inner_loop block.node 1 (opened_inside f.node (drop 1 (drop d p.page.opened))) (inner_start p block.node) =
-        c.in_ok-at.ensures.inner
-        ∙ ap (λ (b : Built g.row.S.Denot). inner_loop block.node 1 (opened_inside f.node b.parser.page.opened) (inner_start b.parser block.node)) taken in
+    c.in_ok-at.ensures.inner
+    ∙ ap (λ (b : Built g.row.S.Denot). inner_loop block.node 1 (opened_inside f.node b.parser.page.opened) (inner_start b.parser block.node)) taken in
     let new_is : node c.in_ok-new.new ≡ i.next =
-        c.in_ok-new.ensures.node ∙ ap (λ (b : Built g.row.S.Denot). b.parser.page.next) c.in_ok-put_last.ensures in
+    c.in_ok-new.ensures.node ∙ ap (λ (b : Built g.row.S.Denot). b.parser.page.next) c.in_ok-put_last.ensures in
     let inside : Open = record { node = node c.in_ok-new.new; kind = c.args.formatting.kind; name = name_bytes c.in_ok-try_clone.field-0 } in
     let inside_is : inside ≡ remade_open i.next f = rw (new_is, c.in_ok-try_clone.ensures) refl in
     on_ok_weaker c.put_within.result
