@@ -399,8 +399,16 @@ impl<S: TreeSink<T> + Drop, T: TagAttributes, A: Allocator + Copy> Builder<S, T,
         self.opened.furthest_block(handle)
     }
 
-    // Takes the entry of a node out of the list.
-    fn unlist(&mut self, handle: S::Handle)
+    /// The node of the last element of a name in the list, after the last marker.
+    pub fn last_listed_node(&self, name: &ElementName<A>) -> Option<S::Handle>
+        ensures { option_map (λ e. e.node) (last_named (name_bytes name.now) self.now.parser.formatting) ≡ node_in S.Handle.node result }
+    {
+        let element = self.formatting.last_named(name)?;
+        Some(element.handle)
+    }
+
+    /// Takes the entry of a node out of the list.
+    pub fn unlist(&mut self, handle: S::Handle)
         ensures { self.new ≡ on_parser (λ p. record p { formatting = without_entry (S.Handle.node handle) p.formatting }) self.old }
     {
         self.formatting.remove(handle);

@@ -8,6 +8,7 @@ pub mod builder;
 pub mod closing;
 pub mod formatting;
 pub mod in_body;
+pub mod in_body_formatting;
 pub mod inserting;
 pub mod options;
 pub mod places;
