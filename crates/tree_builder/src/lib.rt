@@ -2,6 +2,7 @@
 #![tactic(auto)]
 
 pub mod adoption;
+pub mod adoption_agency;
 pub mod after_head;
 pub mod before_head;
 pub mod builder;
