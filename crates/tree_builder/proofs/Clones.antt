@@ -2,7 +2,6 @@
 use Rattle.std.proofs.Common.{◌≡◌, ℕ, Bool, true, false, List, [], ◌∷◌, ◌++◌, Option, Some, None, refl, ap, sym, ◌∙◌}
 use Rattle.std.proofs.lemmas.Bool.{eqb-true}
 use Rattle.std.specs.Prelude.{◌==◌, option_map, reverse, if◌then◌else◌}
-use Rattle.markup5ever.specs.Names.{AttributeOf}
 use Rattle.tree_construction.specs.Adoption.{Inner, cloned, entry_of, remade_open}
 use Rattle.tree_construction.specs.Formatting.{Listed}
 use Rattle.tree_construction.specs.Page.{Open}
@@ -10,7 +9,6 @@ use Rattle.tree_construction.specs.Page.Place.{LastChild}
 use Rattle.tree_construction.specs.Page.Edit.{Pop, Put, Remove}
 use Rattle.tree_construction.specs.Parser.{Entry, Parser}
 use Rattle.tree_construction.specs.Parser.Entry.{Active, Marker}
-use Rattle.tree_construction.specs.declared.kinds.Kind.{Kind}
 use Rattle.tree_builder.specs.Adopting.{remade_in}
 
 -- the entry of a node is of that node

@@ -1,6 +1,6 @@
 -- Turns of the outer loop of the adoption agency algorithm.
-use Rattle.std.proofs.Common.{◌≡◌, ℕ, zero, suc, ◌+◌, ◌<◌, Bool, true, false, List, [], ◌∷◌, Option, Some, None, length, drop, refl, ap, sym, ◌∙◌, arith, add-one, subst}
-use Rattle.std.specs.Prelude.{◌==◌, if◌then◌else◌}
+use Rattle.std.proofs.Common.{◌≡◌, ℕ, suc, ◌+◌, ◌<◌, Bool, true, false, List, [], ◌∷◌, Option, Some, None, length, drop, refl, sym, ◌∙◌, arith, add-one, subst}
+use Rattle.std.specs.Prelude.{◌==◌}
 use Rattle.tree_construction.specs.declared.mistakes.Mistake.TheVariants.{FormattingNotInScope}
 use Rattle.tree_construction.specs.Adoption.{adopted_by, deeper, furthest_block, opened_inside, turn}
 use Rattle.tree_construction.specs.Formatting.{Listed}

@@ -1,8 +1,8 @@
-use Rattle.std.proofs.Common.{◌≡◌, ℕ, Bool, List, Option, Some, None, ap, drop, length, sym, ◌∙◌}
-use Rattle.std.specs.Prelude.{true, false, option_map}
+use Rattle.std.proofs.Common.{◌≡◌, Some, None, ap, sym, ◌∙◌}
+use Rattle.std.specs.Prelude.{option_map}
 use Rattle.tree_construction.specs.Adoption.{adopted, turn}
 use Rattle.tree_construction.specs.Formatting.{Listed, last_named, without_entry}
-use Rattle.tree_construction.specs.Page.{has_number, has_open}
+use Rattle.tree_construction.specs.Page.{has_number}
 use Rattle.tree_construction.specs.Parser.{Parser, pop_until}
 use Rattle.tree_names.specs.ElementNames.{name_bytes}
 use Rattle.tree_lists.specs.Formatting.{listed_of}

@@ -3,7 +3,6 @@ use Rattle.std.proofs.lemmas.Result.{IfOk-weaker}
 use Rattle.tree_construction.specs.Adoption.{opened_outside}
 use Rattle.tree_construction.specs.Parser.{place_in}
 use Rattle.tree_lists.proofs.OpenPlaces.{drop-twice}
-use Rattle.tree_sink.specs.Places.{place_of}
 use Rattle.tree_builder.proofs.builder.Builder.place_outside.Goals as goal
 
 pub returns : goal.returns
