@@ -1,7 +1,7 @@
 #!/bin/bash
 # Builds the archive and the shared library from sources, and leaves both in bindings/out, with Python's extension where
-# its headers are there, and the program where it is built. What isn't proved yet is proved first, and named as it is: an hour
-# from nothing, and three minutes after `python3 tools/release/stamps.py rt ci`. It wants the Rattle toolchain, ar and gcc.
+# its headers are there, and the program where it is built. What isn't proved yet is proved first, and named as it is.
+# bindings/README.md says what that takes. It wants the Rattle toolchain, ar and gcc.
 set -eu
 cd "$(dirname "$0")"
 here=$PWD
