@@ -67,32 +67,32 @@ enum html5_status {
     HTML5_ENCODING = 2,   /* a pause: a meta tag names an encoding; the rest waits */
     HTML5_NO_MEMORY = 3,  /* a request for memory was refused */
     HTML5_NOT_UTF8 = 4,   /* bytes are not UTF-8, whatever follows them; all before them was read */
-    HTML5_CUT = 5,        /* the input ends within a character */
-    HTML5_WAITING = 6,    /* text waits after a pause: feed first, if only no bytes */
+    HTML5_CUT = 5,        /* the input ends inside a character */
+    HTML5_WAITING = 6,    /* text after a pause was not fed yet: call feed first, even with no bytes */
     HTML5_OVER = 7,       /* the page ended, or an earlier call was refused for good */
     HTML5_CLOSED = 8,     /* the handle is closed */
     HTML5_BAD_OPTION = 9, /* an option has no such value */
     HTML5_BAD_POLICY = 10,      /* no longer answered: the answer is the cause, one of those from HTML5_UNKNOWN_RULE on */
     HTML5_POLICY_NOT_UTF8 = 11, /* the policy is not UTF-8 */
     HTML5_TAG = 12,             /* a pause: a tag to which the caller replies; the rest waits */
-    HTML5_ITEM_OPEN = 13,       /* a tag or another item is open, so no state can be set */
+    HTML5_ITEM_OPEN = 13,       /* a tag or other item is incomplete, so no state can be set */
     HTML5_LIMIT = 14,           /* more bytes would be held than the limit: the piece was not taken */
     HTML5_BEGUN = 15,           /* bytes were fed already, so it can't be set in which encoding they are */
     /* Why a rule of a policy is refused. */
-    HTML5_UNKNOWN_RULE = 16,       /* of a text: the first word of the line names no rule */
-    HTML5_NO_NAME = 17,            /* of a text: the rule wants a name */
+    HTML5_UNKNOWN_RULE = 16,       /* of a text: the first word of the line is not a rule */
+    HTML5_NO_NAME = 17,            /* of a text: missing name after the rule */
     HTML5_WORD_TOO_MANY = 18,      /* a name is given that the rule does not take */
-    HTML5_ELEMENT_NAME = 19,       /* no tag is read with this name: it has capital letters or spaces, or is empty */
-    HTML5_ATTRIBUTE_NAME = 20,     /* no attribute is read with this name */
+    HTML5_ELEMENT_NAME = 19,       /* invalid tag name: it has capital letters or spaces, or is empty */
+    HTML5_ATTRIBUTE_NAME = 20,     /* invalid attribute name */
     HTML5_HIDES_CONTENT = 21,      /* the content of this element is always dropped, as in script or style */
     HTML5_ACTS_ON_PAGE = 22,       /* this element acts on the whole page, as meta or base does */
     HTML5_ALLOWED_AND_HIDDEN = 23, /* an element is allowed and hidden */
-    HTML5_NEVER_KEPT = 24,         /* this attribute runs scripts, or holds no single address, as onclick or srcset */
-    HTML5_SCHEME_NAME = 25,        /* this is no scheme in small letters */
+    HTML5_NEVER_KEPT = 24,         /* this attribute runs scripts, or isn't a single URL, as onclick or srcset */
+    HTML5_SCHEME_NAME = 25,        /* invalid scheme: it must be lower case */
     HTML5_RUNS_ADDRESS = 26,       /* addresses of this scheme run their content, as javascript */
     HTML5_NO_PLACE_IN_TREE = 27,   /* with HTML5_TREE: an element that has no place in the tree */
-    HTML5_BAD_DEPTH = 28,          /* the depth is no number from 1 to 4096 */
-    HTML5_REL_WORD = 29            /* a word of rel has another character than ASCII letters, digits and '-' */
+    HTML5_BAD_DEPTH = 28,          /* the depth must be a number from 1 to 4096 */
+    HTML5_REL_WORD = 29            /* a word of rel has a character that is not a letter, digit or hyphen */
 };
 
 typedef enum html5_status html5_status;
@@ -106,18 +106,18 @@ static inline bool html5_is_rule_fault(html5_status status) {
 static inline const char *html5_status_text(html5_status status) {
     static const char *const texts[] = {
         "done", "paused after a script", "paused after a meta tag that names an encoding", "out of memory",
-        "the page is no UTF-8", "the page ends within a character", "text waits after a pause",
-        "the page has ended, or an earlier call was refused for good", "the handle is closed",
-        "an option has no such value", "a line of the policy is no rule that it takes", "the policy is no UTF-8",
-        "paused after a tag to which the caller replies", "a tag or another item is open",
-        "more bytes would be held than the limit", "bytes were fed already",
-        "the first word names no rule", "the rule wants a name", "a name too many for the rule",
-        "no tag is read with this name", "no attribute is read with this name",
-        "what stands in this element is always dropped", "this element acts on the whole page",
-        "an element is both allowed and hidden", "this attribute runs scripts, or holds no single address",
-        "this is no scheme in small letters", "addresses of this scheme run what stands in them",
-        "an element has no place in the tree", "the depth is no number from 1 to 4096",
-        "a word of rel has another character than ASCII letters, digits and '-'"};
+        "the page is not UTF-8", "the page ends inside a character", "text after a pause was not fed yet",
+        "the page has ended, or an earlier call failed", "the handle is closed", "an option has no such value",
+        "a line of the policy is not a valid rule", "the policy is not UTF-8",
+        "paused after a tag, for the caller's reply", "a tag or other item is incomplete",
+        "more bytes would be held than the limit", "the page has already begun", "unknown rule",
+        "missing name after the rule", "too many words after the rule", "invalid tag name", "invalid attribute name",
+        "the element can't be allowed: its content is always dropped",
+        "the element can't be allowed: it affects the page around it", "the element is both allowed and hidden",
+        "the attribute can't be allowed: it runs scripts or isn't a single URL",
+        "invalid scheme: it must be lower case", "the scheme can't be allowed: its URLs run their content",
+        "the element can't be allowed with the rule tree: it has no place in the tree",
+        "the depth must be a number from 1 to 4096", "words of rel can only have letters, digits and hyphens"};
     return (size_t)status < sizeof texts / sizeof *texts ? texts[status] : "no such status";
 }
 

@@ -198,7 +198,7 @@ def without_permission(folder):
 def of_many_files(folder):
     """200 files, of which three can't be read."""
     names = [f"{number}.html" for number in range(200)]
-    bad = {"7.html": MISSING, "100.html": FOLDER, "199.html": "line 1: the bytes from place 0 on are no UTF-8"}
+    bad = {"7.html": MISSING, "100.html": FOLDER, "199.html": "line 1: invalid UTF-8 at byte 0"}
     for name in names:
         if name not in bad:
             (folder / name).write_bytes(f"<a href={name}>".encode())
@@ -254,7 +254,7 @@ def of_large_things(folder):
     words = ["firnuubal", "clean", "--policy", "long.policy"]
     yield fault("1,000 lines of policy", run(folder, words, input=b"<x1><x999><x1000>"), "<x1><x999>", "", 0)
     (folder / "long.policy").write_text(f"{rules}allow script\n", encoding="utf-8")
-    why = "line 1001: an element that always hides what stands in it can't be allowed"
+    why = "line 1001: the element can't be allowed: its content is always dropped"
     yield fault("a fault on line 1,001", run(folder, words), "", f"firnuubal: long.policy: {why}\n", 2)
     ran = run_by_pieces(folder, ["firnuubal", "links"], [b"<a href=x>"] * 5000)
     yield fault("5,000 reads", ran, "1 x\n" * 5000, "", 0)

@@ -70,8 +70,8 @@ def said(about, why="out of memory"):
 
 # How firnuubal ends out of memory: for its words, a table, or settings.
 NO_WORDS = End(said("words"), 1)
-NO_TABLE = End(said("entities", "the list makes no table: out of memory"), 2)
-NO_OWN_TABLE = (End(said("own"), 2), End(said("own", "the list makes no table: out of memory"), 2))
+NO_TABLE = End(said("entities", "the list is not a valid table: out of memory"), 2)
+NO_OWN_TABLE = (End(said("own"), 2), End(said("own", "the list is not a valid table: out of memory"), 2))
 NO_SETTINGS = End(said("settings"), 2)
 UNPRINTED = said("output", "can't be printed")
 

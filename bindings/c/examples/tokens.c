@@ -125,7 +125,7 @@ int main(int count, char **words) {
     html5_reader reader = {0};
     html5_status status = print_page(&reader, &handle, piece, places);
     if (status == HTML5_NOT_UTF8)
-        fprintf(stderr, "byte %" PRIu64 " is no UTF-8\n", html5_error_at(&handle));
+        fprintf(stderr, "byte %" PRIu64 ": invalid UTF-8\n", html5_error_at(&handle));
     else if (status != HTML5_DONE)
         fprintf(stderr, "status %" PRIu32 "\n", status);
     html5_reader_free(&reader);

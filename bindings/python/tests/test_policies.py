@@ -90,7 +90,7 @@ class Refusals(unittest.TestCase):
     def test_what_a_message_says(self):
         with self.assertRaisesRegex(PolicyError, "^tags: 'svg' can't be allowed: its content is always dropped$"):
             Policy(tags={"b", "svg"})
-        with self.assertRaisesRegex(PolicyError, "^tree: 'video' has no place in the tree"):
+        with self.assertRaisesRegex(PolicyError, "^tree: 'video' can't be allowed: it has no place in the tree"):
             Policy(tags={"video"}, tree=True)
 
     def test_keywords_of_other_types(self):

@@ -13,7 +13,7 @@ pub enum Error {
         /// The place.
         at: u64,
     },
-    /// The input ends within a character.
+    /// The input ends inside a character.
     Cut,
     /// Text waits after a pause: feed first, if only no bytes.
     Waiting,
@@ -51,7 +51,7 @@ pub enum Error {
 #[derive(Clone, Copy, Debug, PartialEq, Eq)]
 #[non_exhaustive]
 pub enum PolicyFault {
-    /// The first word of a line names no rule.
+    /// The first word of a line is not a rule.
     UnknownRule,
     /// The rule wants a name.
     NoName,
@@ -69,13 +69,13 @@ pub enum PolicyFault {
     AllowedAndHidden,
     /// This attribute runs scripts, or holds no single address, as `onclick` or `srcset`.
     NeverKept,
-    /// This is no scheme in small letters.
+    /// Not a scheme in lower case.
     SchemeName,
     /// Addresses of this scheme run their content, as `javascript`.
     RunsAddress,
     /// A page with this element can't be made to fit: it has no place in the tree.
     NoPlaceInTree,
-    /// The depth is no number from 1 to 4096.
+    /// The depth is not a number from 1 to 4096.
     Depth,
     /// A depth is said, and no tree is made.
     DepthWithoutTree,
@@ -109,21 +109,23 @@ impl PolicyFault {
 impl fmt::Display for PolicyFault {
     fn fmt(&self, f: &mut fmt::Formatter<'_>) -> fmt::Result {
         f.write_str(match self {
-            PolicyFault::UnknownRule => "the first word names no rule",
-            PolicyFault::NoName => "the rule wants a name",
-            PolicyFault::WordTooMany => "the rule takes no such name",
-            PolicyFault::ElementName => "no tag is read with this name",
-            PolicyFault::AttributeName => "no attribute is read with this name",
-            PolicyFault::HidesContent => "what stands in this element is always dropped",
-            PolicyFault::ActsOnPage => "this element acts on the whole page",
-            PolicyFault::AllowedAndHidden => "an element is both allowed and hidden",
-            PolicyFault::NeverKept => "this attribute runs scripts, or holds no single address",
-            PolicyFault::SchemeName => "this is no scheme in small letters",
-            PolicyFault::RunsAddress => "addresses of this scheme run what stands in them",
-            PolicyFault::NoPlaceInTree => "an element has no place in the tree",
-            PolicyFault::Depth => "the depth is no number from 1 to 4096",
-            PolicyFault::DepthWithoutTree => "a depth goes with the rule tree alone, and no tree is made",
-            PolicyFault::RelWord => "a word of rel has another character than ASCII letters, digits and hyphens",
+            PolicyFault::UnknownRule => "unknown rule",
+            PolicyFault::NoName => "missing name after the rule",
+            PolicyFault::WordTooMany => "too many words after the rule",
+            PolicyFault::ElementName => "invalid tag name",
+            PolicyFault::AttributeName => "invalid attribute name",
+            PolicyFault::HidesContent => "the element can't be allowed: its content is always dropped",
+            PolicyFault::ActsOnPage => "the element can't be allowed: it affects the page around it",
+            PolicyFault::AllowedAndHidden => "the element is both allowed and hidden",
+            PolicyFault::NeverKept => "the attribute can't be allowed: it runs scripts or isn't a single URL",
+            PolicyFault::SchemeName => "invalid scheme: it must be lower case",
+            PolicyFault::RunsAddress => "the scheme can't be allowed: its URLs run their content",
+            PolicyFault::NoPlaceInTree => {
+                "the element can't be allowed with the rule tree: it has no place in the tree"
+            }
+            PolicyFault::Depth => "the depth must be a number from 1 to 4096",
+            PolicyFault::DepthWithoutTree => "a depth needs the rule tree",
+            PolicyFault::RelWord => "words of rel can only have letters, digits and hyphens",
         })
     }
 }
@@ -149,15 +151,15 @@ impl fmt::Display for Error {
     fn fmt(&self, f: &mut fmt::Formatter<'_>) -> fmt::Result {
         match self {
             Error::NoMemory => f.write_str("out of memory"),
-            Error::NotUtf8 { at } => write!(f, "byte {at} is no UTF-8"),
-            Error::Cut => f.write_str("the input ends within a character"),
-            Error::Waiting => f.write_str("text waits after a pause"),
-            Error::ItemOpen => f.write_str("a tag or another item is open"),
+            Error::NotUtf8 { at } => write!(f, "invalid UTF-8 at byte {at}"),
+            Error::Cut => f.write_str("the input ends inside a character"),
+            Error::Waiting => f.write_str("text after a pause was not fed yet"),
+            Error::ItemOpen => f.write_str("a tag or other item is incomplete"),
             Error::Limit => f.write_str("more bytes would be held than the limit"),
-            Error::Over => f.write_str("the reading is over"),
+            Error::Over => f.write_str("the reading has ended"),
             Error::UnknownEncoding => f.write_str("no encoding has this label"),
-            Error::Begun => f.write_str("bytes were fed already"),
-            Error::NoPlaces => f.write_str("places don't go with the other options"),
+            Error::Begun => f.write_str("the page has already begun"),
+            Error::NoPlaces => f.write_str("places can't be combined with the other options"),
             Error::BadPolicy { line, fault } => write!(f, "line {line} of the policy: {fault}"),
             Error::BadRule { method, word, fault } => write!(f, "{method} {word:?}: {fault}"),
         }

@@ -84,9 +84,12 @@ fn names_are_taken_as_they_are() {
 #[test]
 fn refusals_in_words() {
     let refused = PolicyBuilder::new().tags(["b\nallow img"]).build().unwrap_err();
-    assert_eq!(refused.to_string(), r#"tags "b\nallow img": no tag is read with this name"#);
+    assert_eq!(refused.to_string(), r#"tags "b\nallow img": invalid tag name"#);
     let refused = Policy::parse("allow p\nallow script\n").unwrap_err();
-    assert_eq!(refused.to_string(), "line 2 of the policy: what stands in this element is always dropped");
+    assert_eq!(
+        refused.to_string(),
+        "line 2 of the policy: the element can't be allowed: its content is always dropped"
+    );
     let refused = std::io::Error::from(refused);
     assert_eq!(refused.kind(), std::io::ErrorKind::InvalidInput);
 }

@@ -75,7 +75,7 @@ fn tokens_before_bytes_that_are_refused_are_handed_on() {
     let (found, read) = tokens(&b"<p>one<b>\xff<i>"[..], Some(Encoding::StrictUtf8));
     let refused = read.unwrap_err();
     assert_eq!(refused.kind(), io::ErrorKind::InvalidData);
-    assert_eq!(refused.to_string(), "byte 9 is no UTF-8");
+    assert_eq!(refused.to_string(), "invalid UTF-8 at byte 9");
     let names: Vec<_> = found
         .iter()
         .map(|token| match token {

@@ -7,10 +7,10 @@ use thiserror::Error;
 pub enum AmendError {
     /// No tag is read with this name. It doesn't begin with a small ASCII letter, or has a character that would end it
     /// or come back as another.
-    #[error("a name that no tag is read with")]
+    #[error("invalid tag name")]
     TagName,
     /// No attribute is read with this name: it is empty, or a character stands in it that would end it or come back as another.
-    #[error("a name that no attribute is read with")]
+    #[error("invalid attribute name")]
     AttributeName,
     #[error("out of memory")]
     Memory,

@@ -15,11 +15,11 @@ use thiserror::Error;
 /// Why words say no changes.
 #[derive(Clone, Copy, Debug, PartialEq, Eq, Error)]
 pub enum ChangeError {
-    #[error("--set wants ELEMENT.ATTRIBUTE=VALUE, with names in small letters")]
+    #[error("--set takes ELEMENT.ATTRIBUTE=VALUE, with names in lower case")]
     NoSetting,
-    #[error("--remove wants ELEMENT.ATTRIBUTE, with names in small letters")]
+    #[error("--remove takes ELEMENT.ATTRIBUTE, with names in lower case")]
     NoAttribute,
-    #[error("--drop wants the name of an element, in small letters")]
+    #[error("--drop takes the name of an element, in lower case")]
     NoElement,
     #[error("out of memory")]
     Memory,

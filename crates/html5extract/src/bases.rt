@@ -18,7 +18,7 @@ use url::{ParseError, Url};
 pub enum BaseError {
     #[error("out of memory")]
     Memory,
-    #[error("no absolute URL: {0}")]
+    #[error("not an absolute URL: {0}")]
     NoUrl(ParseError),
 }
 

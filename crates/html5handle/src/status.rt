@@ -15,7 +15,7 @@ pub const NO_MEMORY: u32 = 3;
 /// The bytes are not UTF-8.
 pub const NOT_UTF8: u32 = 4;
 
-/// The page ends within a character.
+/// The page ends inside a character.
 pub const CUT: u32 = 5;
 
 /// The page ends while text waits.
@@ -45,19 +45,19 @@ pub const LIMIT: u32 = 14;
 /// Bytes were fed already, so it can't be set in which encoding they are.
 pub const BEGUN: u32 = 15;
 
-/// The first word of a line names no rule.
+/// The first word of a line is not a rule.
 pub const UNKNOWN_RULE: u32 = 16;
 
-/// A rule that wants a name has none.
+/// A name is missing after the rule.
 pub const NO_NAME: u32 = 17;
 
-/// A rule has a name that it doesn't take.
+/// The rule takes fewer names.
 pub const WORD_TOO_MANY: u32 = 18;
 
-/// No tag is read with this name.
+/// Invalid tag name.
 pub const ELEMENT_NAME: u32 = 19;
 
-/// No attribute is read with this name.
+/// Invalid attribute name.
 pub const ATTRIBUTE_NAME: u32 = 20;
 
 /// The content of such an element is always dropped.
@@ -72,7 +72,7 @@ pub const ALLOWED_AND_HIDDEN: u32 = 23;
 /// Such an attribute runs scripts, or holds no single address.
 pub const NEVER_KEPT: u32 = 24;
 
-/// It is no scheme in small letters.
+/// Not a scheme in lower case.
 pub const SCHEME_NAME: u32 = 25;
 
 /// An address of such a scheme runs its content.
@@ -81,7 +81,7 @@ pub const RUNS_ADDRESS: u32 = 26;
 /// The policy makes a tree, and the element has no place in it.
 pub const NO_PLACE: u32 = 27;
 
-/// How many elements may be open is no number from 1 to 4096.
+/// The depth is not a number from 1 to 4096.
 pub const BAD_DEPTH: u32 = 28;
 
 /// A word of `rel` has another character than letters, digits and hyphens.

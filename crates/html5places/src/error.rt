@@ -14,6 +14,6 @@ pub enum PlaceError {
     #[error("the text is too long")]
     TooLong,
     /// An earlier call was refused, or the end was read. Nothing was read.
-    #[error("the reading is over")]
+    #[error("the reading has ended")]
     Failed,
 }

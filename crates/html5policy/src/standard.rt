@@ -8,9 +8,9 @@ use crate::policy::Policy;
 use std::alloc::{AllocError, Allocator};
 
 const STANDARD: &str = "\
-# The standard policy of firnuubal. A rule a line; lines like this one say nothing.
+# The standard policy of firnuubal: one rule per line. Lines that begin with # are comments.
 
-# The elements that are kept, each with its own attributes.
+# The allowed elements, each with its own attributes.
 allow a href
 allow abbr
 allow address
@@ -87,21 +87,21 @@ allow ul
 allow var
 allow wbr
 
-# The attributes that each of them may have.
+# The attributes that every element may have.
 everywhere title lang dir
 
-# Where addresses may lead, if they are not relative.
+# The schemes of URLs that are not relative.
 schemes http https mailto tel
 
-# What stands in the rel of each link. The page's own is dropped.
+# The value of rel on each link. The page's own is dropped.
 rel noopener noreferrer
 
-# A page is made to fit, so that a browser builds it as it is nested. It may have at most 256
-# elements open at once, or as many as a rule 'depth NUMBER' says, 4096 at most.
+# The nesting is fixed, so that browsers build exactly the tree that the tags show. At most 256
+# elements may be open at once, or as many as a rule 'depth NUMBER' says, 4096 at most.
 tree
 
-# More rules: 'hide ELEMENT..' drops elements with what stands in them. Without 'tree', 'balance'
-# has end tags close what is open, and no more.
+# More rules: 'hide ELEMENT..' drops elements with their content. Instead of 'tree', 'balance' only
+# closes elements that are still open, and drops end tags that match none.
 ";
 
 /// The standard policy as a text, to begin one's own from.

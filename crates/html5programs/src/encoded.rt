@@ -18,7 +18,7 @@ use thiserror::Error;
 
 /// A label names no encoding.
 #[derive(Clone, Copy, Debug, PartialEq, Eq, Error)]
-#[error("no such encoding: labels are those of the Encoding Standard, as utf-8, windows-1252 or shift_jis")]
+#[error("no such encoding: labels are those of the Encoding Standard, such as utf-8, windows-1252 or shift_jis")]
 pub struct UnknownLabel;
 
 /// Why a page was not read to its end.

@@ -28,7 +28,7 @@ enum FileError {
     #[error("{0}")]
     Stream(StreamError),
     // The bytes from this place on, which is on this line, are invalid in the encoding of this name.
-    #[error("line {line}: the bytes from place {place} on are no {name}")]
+    #[error("line {line}: invalid {name} at byte {place}")]
     Bytes {
         name: &'static str,
         place: u64,

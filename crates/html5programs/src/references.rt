@@ -20,9 +20,9 @@ use thiserror::Error;
 pub enum ReferencesError {
     #[error("{0}")]
     Unreadable(io::Error),
-    #[error("the file has no list of entities: entries are NAME=HEX or NAME=HEX+HEX, a line each or joined by commas")]
+    #[error("not a list of entities: entries are NAME=HEX or NAME=HEX+HEX, one per line or separated by commas")]
     NoList,
-    #[error("the list makes no table: {0}")]
+    #[error("the list is not a valid table: {0}")]
     Table(TableError),
 }
 

@@ -10,14 +10,14 @@ pub enum SerializeError {
     NullInText { at: usize },
     /// The name of a tag doesn't begin with a small ASCII letter, or a character stands in it that would
     /// end it or come back as another.
-    #[error("a name that no tag is read with")]
+    #[error("invalid tag name")]
     TagName,
     /// The name of this attribute has a prefix or a namespace.
     #[error("attribute {attribute} has a prefix or a namespace")]
     QualifiedName { attribute: usize },
     /// The name of this attribute is empty, or a character stands in it that would end it or come back as
     /// another.
-    #[error("attribute {attribute} has a name that none is read with")]
+    #[error("attribute {attribute} has an invalid name")]
     AttributeName { attribute: usize },
     /// A NUL stands in the value of this attribute, at this byte of it.
     #[error("a NUL at byte {at} of the value of attribute {attribute}")]
@@ -26,23 +26,23 @@ pub enum SerializeError {
     #[error("attribute {attribute} repeats a name")]
     Repeated { attribute: usize },
     /// The text of a comment begins with `>` or `->`, or has `-->`, `--!>`, a NUL or a CR in it.
-    #[error("a text that no comment is read with")]
+    #[error("a comment can't contain this text")]
     CommentText,
     /// The content of a processing instruction has `>`, a NUL or a CR in it.
-    #[error("a content that no processing instruction is read with")]
+    #[error("a processing instruction can't contain this text")]
     InstructionContent,
     /// A doctype without a name has an identifier, or no quirks.
-    #[error("a doctype without a name that none is read as")]
+    #[error("a doctype without a name can't be written like this")]
     NamelessDoctype,
     /// The name of a doctype is empty, or a character stands in it that would end it or come back as
     /// another.
-    #[error("a name that no doctype is read with")]
+    #[error("invalid doctype name")]
     DoctypeName,
     /// The public identifier of a doctype has both kinds of quotes, or `>`, a NUL or a CR in it.
-    #[error("a public identifier that no doctype is read with")]
+    #[error("invalid public identifier")]
     PublicIdentifier,
     /// The system identifier of a doctype has both kinds of quotes, or `>`, a NUL or a CR in it.
-    #[error("a system identifier that no doctype is read with")]
+    #[error("invalid system identifier")]
     SystemIdentifier,
 }
 
@@ -50,10 +50,10 @@ pub enum SerializeError {
 #[derive(Clone, Copy, Debug, PartialEq, Eq, Error)]
 pub enum RawTextError {
     /// The name of the element is not of small ASCII letters alone, so no end tag of it ends raw text.
-    #[error("a name that no raw text ends with")]
+    #[error("invalid name for a raw text element")]
     Name,
     /// A NUL stands in the text, or a CR where it would be read as a line feed: not in RCDATA.
-    #[error("a character that no raw text is read with")]
+    #[error("raw text can't contain this character")]
     Character,
     /// The end tag of the element begins in the text.
     #[error("an end tag in the text")]

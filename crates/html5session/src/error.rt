@@ -9,18 +9,18 @@ pub enum SessionError {
     Memory,
     /// The bytes stop being UTF-8 at this place, counted in bytes from the first of the first piece. All before it were
     /// taken, and none from it on.
-    #[error("the bytes from place {valid_up_to} on are no UTF-8")]
+    #[error("invalid UTF-8 at byte {valid_up_to}")]
     NotUtf8 { valid_up_to: u64 },
     /// The page ends within a character: its bytes are not all there.
-    #[error("the bytes end within a character")]
+    #[error("the bytes end inside a character")]
     Cut,
     /// The page ends while text waits after a pause.
-    #[error("text waits to be fed")]
+    #[error("text after a pause was not fed yet")]
     Waiting,
     /// No state can be set within a tag or another item.
-    #[error("a tag or another item is open")]
+    #[error("a tag or other item is incomplete")]
     ItemOpen,
     /// The page has ended, or an earlier call failed.
-    #[error("the session is over")]
+    #[error("the session has ended")]
     Over,
 }

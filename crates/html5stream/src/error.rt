@@ -10,7 +10,7 @@ pub enum StreamError {
     Read,
     /// The bytes stop being UTF-8 at this place, counted in bytes from the first, which is at 0. A place
     /// past `u64::MAX` counts as `u64::MAX`.
-    #[error("the bytes from place {valid_up_to} on are no UTF-8")]
+    #[error("invalid UTF-8 at byte {valid_up_to}")]
     NotUtf8 { valid_up_to: u64 },
     /// A growth was refused.
     #[error("out of memory")]
@@ -19,7 +19,7 @@ pub enum StreamError {
     #[error("the sink could not take a token")]
     Sink,
     /// `u64::MAX` reads gave bytes, and the end did not come.
-    #[error("the source does not end")]
+    #[error("too many reads")]
     TooLong,
 }
 

@@ -13,11 +13,11 @@ pub enum WriteError {
     NullInText { at: usize },
     /// The name of a tag doesn't begin with a small ASCII letter, or a character stands in it that would
     /// end it or come back as another.
-    #[error("a name that no tag is read with")]
+    #[error("invalid tag name")]
     TagName,
     /// The name of this attribute is empty, or has a character that would end it, come back as another or
     /// be an error.
-    #[error("attribute {attribute} has a name that none is read with")]
+    #[error("attribute {attribute} has an invalid name")]
     AttributeName { attribute: usize },
     /// A NUL stands in the value of this attribute, at this byte of it.
     #[error("a NUL at byte {at} of the value of attribute {attribute}")]
@@ -26,7 +26,7 @@ pub enum WriteError {
     #[error("attribute {attribute} repeats a name")]
     Repeated { attribute: usize },
     /// The text of a comment begins with `>` or `-`, ends with `-`, or has `--`, NUL or CR in it.
-    #[error("a text that no comment is read with")]
+    #[error("a comment can't contain this text")]
     CommentText,
     /// A growth was refused.
     #[error("out of memory")]

@@ -27,7 +27,7 @@ fn check_texts<E: Display>(
 
 const NO_TOKEN: &str = "the sink could not take a token";
 
-const NO_UTF8: &str = "the bytes from place 7 on are no UTF-8";
+const NO_UTF8: &str = "invalid UTF-8 at byte 7";
 
 // Rows that name a constant are constants of their own.
 const TOKENIZER: [(TokenizerError, &str); 3] = [
@@ -46,16 +46,16 @@ const DECODER: [(DecodeError, &str); 2] = [
 const STREAM: [(StreamError, &str); 3] = [
     (StreamError::Read, "a read failed"),
     (StreamError::Sink, NO_TOKEN),
-    (StreamError::TooLong, "the source does not end"),
+    (StreamError::TooLong, "too many reads"),
 ];
 
 const SESSION: [(SessionError, &str); 6] = [
     (SessionError::Memory, "out of memory"),
     (SessionError::NotUtf8 { valid_up_to: 7 }, NO_UTF8),
-    (SessionError::Cut, "the bytes end within a character"),
-    (SessionError::Waiting, "text waits to be fed"),
-    (SessionError::ItemOpen, "a tag or another item is open"),
-    (SessionError::Over, "the session is over"),
+    (SessionError::Cut, "the bytes end inside a character"),
+    (SessionError::Waiting, "text after a pause was not fed yet"),
+    (SessionError::ItemOpen, "a tag or other item is incomplete"),
+    (SessionError::Over, "the session has ended"),
 ];
 
 #[test]
@@ -98,10 +98,10 @@ fn of_what_is_written(rt: HostRuntime) -> Result<(), Fail> {
                 WriteError::NullInText { at: 3 },
                 "a NUL at byte 3 of the text",
             ),
-            (WriteError::TagName, "a name that no tag is read with"),
+            (WriteError::TagName, "invalid tag name"),
             (
                 WriteError::AttributeName { attribute: 2 },
-                "attribute 2 has a name that none is read with",
+                "attribute 2 has an invalid name",
             ),
             (
                 WriteError::NullInValue {
@@ -114,10 +114,7 @@ fn of_what_is_written(rt: HostRuntime) -> Result<(), Fail> {
                 WriteError::Repeated { attribute: 5 },
                 "attribute 5 repeats a name",
             ),
-            (
-                WriteError::CommentText,
-                "a text that no comment is read with",
-            ),
+            (WriteError::CommentText, "a comment can't contain this text"),
             (WriteError::Memory, "out of memory"),
         ],
     )

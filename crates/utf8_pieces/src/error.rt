@@ -10,7 +10,7 @@ use thiserror::Error;
 pub enum DecodeError {
     /// The bytes stop being UTF-8 at this place, counted in bytes from the first of the first piece,
     /// which is at 0. A place past `u64::MAX` counts as `u64::MAX`.
-    #[error("the bytes from place {valid_up_to} on are no UTF-8")]
+    #[error("invalid UTF-8 at byte {valid_up_to}")]
     NotUtf8 { valid_up_to: u64 },
     /// A growth was refused.
     #[error("out of memory")]

@@ -81,5 +81,5 @@ def _name(argument: str, given: Any, example: str) -> str:
 def tag_name(argument: str, name: str) -> str:
     """The name of a tag, as in a token: no tag has another."""
     if not _TAG.fullmatch(name):
-        raise ValueError(f"{argument}: {name!r} is never the name of a tag, which has small letters and no spaces")
+        raise ValueError(f"{argument}: {name!r} is not the name of a tag: it must be lower case, without spaces")
     return name

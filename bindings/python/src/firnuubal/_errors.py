@@ -22,15 +22,15 @@ class Status(enum.IntEnum):
 
 _SAID = {
     Status.NO_MEMORY: "out of memory",
-    Status.NOT_UTF8: "the page is no UTF-8",
-    Status.CUT: "the page ends within a character",
-    Status.WAITING: "text waits after a pause: feed first, if only no bytes",
-    Status.OVER: "the page has ended, or an earlier call was refused for good",
+    Status.NOT_UTF8: "the page is not UTF-8",
+    Status.CUT: "the page ends inside a character",
+    Status.WAITING: "text after a pause was not fed yet: call feed first, even with no bytes",
+    Status.OVER: "the page has ended, or an earlier call failed",
     Status.CLOSED: "it is closed",
     Status.BAD_OPTION: "an option has no such value",
-    Status.ITEM_OPEN: "a tag or another item is open, so no state can be set",
+    Status.ITEM_OPEN: "a tag or other item is incomplete, so no state can be set",
     Status.LIMIT: "more bytes would be held than the limit",
-    Status.BEGUN: "bytes were fed already",
+    Status.BEGUN: "the page has already begun",
 }
 
 
@@ -69,38 +69,38 @@ class PolicyFault(enum.IntEnum):
 
 # What each fault says of the word.
 FAULTS = {
-    PolicyFault.UNKNOWN_RULE: "names no rule",
-    PolicyFault.NO_NAME: "has no name after it",
-    PolicyFault.WORD_TOO_MANY: "is a word too many",
-    PolicyFault.ELEMENT_NAME: "is not the name of an element, which has small letters and no spaces",
-    PolicyFault.ATTRIBUTE_NAME: "is not the name of an attribute, which has small letters and no spaces, and is no pattern",
+    PolicyFault.UNKNOWN_RULE: "is not a rule",
+    PolicyFault.NO_NAME: "needs a name after it",
+    PolicyFault.WORD_TOO_MANY: "is one word too many",
+    PolicyFault.ELEMENT_NAME: "is not an element's name: it must be lower case, without spaces",
+    PolicyFault.ATTRIBUTE_NAME: "is not an attribute's name: it must be lower case, without spaces, and no pattern",
     PolicyFault.HIDES_CONTENT: "can't be allowed: its content is always dropped",
-    PolicyFault.ACTS_ON_PAGE: "can't be allowed: it acts on more of the page than its place",
-    PolicyFault.ALLOWED_AND_HIDDEN: "is both kept and dropped with its content",
-    PolicyFault.NEVER_KEPT: "can't be kept: it runs scripts, or holds no single address",
-    PolicyFault.SCHEME_NAME: "is not a scheme, which has small letters and no colon",
-    PolicyFault.RUNS_ADDRESS: "can't be allowed: such an address runs or holds what a page made",
-    PolicyFault.NO_PLACE: "has no place in the tree, so that the page can't be made to fit",
-    PolicyFault.BAD_DEPTH: "is no whole number from 1 to 4096",
-    PolicyFault.REL_WORD: "is no word of rel, which has ASCII letters, digits and '-' alone",
+    PolicyFault.ACTS_ON_PAGE: "can't be allowed: it affects the page around it",
+    PolicyFault.ALLOWED_AND_HIDDEN: "is both allowed and dropped with its content",
+    PolicyFault.NEVER_KEPT: "can't be allowed: it runs scripts or isn't a single URL",
+    PolicyFault.SCHEME_NAME: "is not a scheme: it must be lower case, without a colon",
+    PolicyFault.RUNS_ADDRESS: "can't be allowed: its URLs run their content, or name what a page made",
+    PolicyFault.NO_PLACE: "can't be allowed: it has no place in the tree, so nesting can't be fixed",
+    PolicyFault.BAD_DEPTH: "is not a whole number from 1 to 4096",
+    PolicyFault.REL_WORD: "is not a word of rel: it can only have ASCII letters, digits and hyphens",
 }
 
 # The same of a line of a text, whose word isn't told.
 _OF_LINES = {
-    PolicyFault.UNKNOWN_RULE: "no rule has this name",
-    PolicyFault.NO_NAME: "a name is missing",
-    PolicyFault.WORD_TOO_MANY: "the rule takes fewer words",
-    PolicyFault.ELEMENT_NAME: "a word is not the name of an element, which has small letters",
-    PolicyFault.ATTRIBUTE_NAME: "a word is not the name of an attribute, which has small letters",
+    PolicyFault.UNKNOWN_RULE: "unknown rule",
+    PolicyFault.NO_NAME: "missing name after the rule",
+    PolicyFault.WORD_TOO_MANY: "too many words after the rule",
+    PolicyFault.ELEMENT_NAME: "a word is not an element's name: it must be lower case",
+    PolicyFault.ATTRIBUTE_NAME: "a word is not an attribute's name: it must be lower case",
     PolicyFault.HIDES_CONTENT: "an element can't be allowed: its content is always dropped",
-    PolicyFault.ACTS_ON_PAGE: "an element can't be allowed: it acts on more of the page than its place",
-    PolicyFault.ALLOWED_AND_HIDDEN: "an element is both kept and dropped with its content",
-    PolicyFault.NEVER_KEPT: "an attribute can't be kept: it runs scripts, or holds no single address",
-    PolicyFault.SCHEME_NAME: "a word is not a scheme, which has small letters and no colon",
-    PolicyFault.RUNS_ADDRESS: "a scheme can't be allowed: such an address runs or holds what a page made",
-    PolicyFault.NO_PLACE: "an element has no place in the tree",
-    PolicyFault.BAD_DEPTH: "the depth is no number from 1 to 4096",
-    PolicyFault.REL_WORD: "a word of rel has other characters than ASCII letters, digits and '-'",
+    PolicyFault.ACTS_ON_PAGE: "an element can't be allowed: it affects the page around it",
+    PolicyFault.ALLOWED_AND_HIDDEN: "an element is both allowed and dropped with its content",
+    PolicyFault.NEVER_KEPT: "an attribute can't be allowed: it runs scripts or isn't a single URL",
+    PolicyFault.SCHEME_NAME: "a word is not a scheme: it must be lower case, without a colon",
+    PolicyFault.RUNS_ADDRESS: "a scheme can't be allowed: its URLs run their content, or name what a page made",
+    PolicyFault.NO_PLACE: "the element can't be allowed with the rule tree: it has no place in the tree",
+    PolicyFault.BAD_DEPTH: "the depth must be a number from 1 to 4096",
+    PolicyFault.REL_WORD: "words of rel can only have letters, digits and hyphens",
 }
 
 
