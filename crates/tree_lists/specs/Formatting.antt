@@ -7,12 +7,22 @@ use Rattle.tree_construction.specs.Page.{Open, has_number, has_open}
 use Rattle.tree_construction.specs.Parser.{Entry}
 use Rattle.tree_construction.specs.Parser.Entry.{Marker, Active}
 use Rattle.tree_names.specs.ElementNames.{name_bytes}
+use Rattle.tree_construction.specs.declared.kinds.Kind.{Kind}
+use Rattle.tree_construction.specs.declared.kinds.Kind.TheVariants.{Anchor, Font, Formatting as FormattingElement, NoBreak}
 use Rattle.tree_lists.specs.declared.formatting.Formatting.{Formatting}
+use Rattle.tree_lists.specs.declared.formatting.FormattingKind.{FormattingKind}
+use Rattle.tree_lists.specs.declared.formatting.FormattingKind.TheVariants.{Anchor as AnchorOf, Font as FontOf, Formatting as FormattingOf, NoBreak as NoBreakOf}
 use Rattle.tree_lists.specs.declared.formatting.FormatEntry.{FormatEntry}
 use Rattle.tree_lists.specs.declared.formatting.FormatEntry.TheVariants.{Mark, Active as ActiveEntry}
 
+abbrev pub formatting_kind : FormattingKind → Kind
+formatting_kind AnchorOf = Anchor
+formatting_kind FontOf = Font
+formatting_kind FormattingOf = FormattingElement
+formatting_kind NoBreakOf = NoBreak
+
 abbrev pub listed_of : {H T Z : Type 0} → (H → ℕ) → (T → List AttributeOf) → Formatting H T Z → Listed
-listed_of node said e = record { node = node e.handle; kind = e.kind; name = name_bytes e.name; attributes = said e.attributes }
+listed_of node said e = record { node = node e.handle; kind = formatting_kind e.kind; name = name_bytes e.name; attributes = said e.attributes }
 
 -- the entry of an element
 abbrev pub active_of : Listed → Entry

@@ -4,7 +4,7 @@ ghost use Rattle.tree_construction.specs.Adoption.{added_after, at_bookmark, ent
 ghost use Rattle.tree_construction.specs.Formatting.{Listed, cleared, count_after_marker, count_alike, has_entry, is_alike, is_entry_of, last_named, still_listed, to_reopen, with_entry, within_limit, without_earliest, without_entry, without_oldest};
 ghost use Rattle.tree_construction.specs.Parser.{Entry};
 ghost use Rattle.tree_names.specs.ElementNames.{name_bytes};
-ghost use Rattle.tree_lists.specs.Formatting.{active_of, before_lost, entry_of, is_lost, listed_of, renewed, with_room};
+ghost use Rattle.tree_lists.specs.Formatting.{active_of, before_lost, entry_of, formatting_kind, is_lost, listed_of, renewed, with_room};
 ghost use Rattle.tree_lists.specs.Opened.{node_in};
 ghost use Rattle.tree_lists.specs.ListPlaces.{IsEarliest, IsListedAt, IsNotListed, IsOldest};
 
@@ -18,11 +18,35 @@ use tree_names::name::ElementName;
 use tree_sink::attributes::TagAttributes;
 use tree_sink::handle::NodeHandle;
 
+/// A kind of formatting elements.
+#[derive(Clone, Copy, Debug, PartialEq, Eq)]
+pub enum FormattingKind {
+    Anchor,
+    Font,
+    /// `b`, `big`, `code`, and so on.
+    Formatting,
+    NoBreak,
+}
+
+impl FormattingKind {
+    /// The kind of such an element.
+    pub fn kind(self) -> Kind
+        ensures { result ≡ formatting_kind self }
+    {
+        match self {
+            FormattingKind::Anchor => Kind::Anchor,
+            FormattingKind::Font => Kind::Font,
+            FormattingKind::Formatting => Kind::Formatting,
+            FormattingKind::NoBreak => Kind::NoBreak,
+        }
+    }
+}
+
 /// An active formatting element, with the attributes of the tag for which it was created.
 #[derive(Drop)]
 pub struct Formatting<H, T, A: Allocator> {
     pub handle: H,
-    pub kind: Kind,
+    pub kind: FormattingKind,
     pub name: ElementName<A>,
     pub attributes: T,
 }

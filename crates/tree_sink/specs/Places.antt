@@ -1,5 +1,5 @@
 -- Places and what is put there, in the words of the definition.
-use Rattle.std.specs.Prelude.{ℕ, List}
+use Rattle.std.specs.Prelude.{ℕ}
 use Rattle.tree_construction.specs.Page.{Edit, Place}
 use Rattle.tree_construction.specs.Page.Place.{LastChild, BeforeTable, BesideNode}
 use Rattle.tree_construction.specs.Page.Edit.{Put, PutText}

@@ -1,12 +1,13 @@
 //! Tells a sink edits, and keeps for contracts which ones.
-ghost use Rattle.std.specs.Prelude.{◌≡◌, suc, ◌+◌, false, [], Some, IfOk, OnErr, OnOk};
-ghost use Rattle.tree_construction.specs.Page.Edit.{MakeElement, MakeContents, MakeComment, PutDoctype, Put, Remove, MoveChildren, AddAttributes, SetQuirksMode, MarkStarted, AssociateForm, Pop, ParseError};
-ghost use Rattle.tree_sink.specs.Edited.{IsTold, edited, faults_of, text_edited};
+ghost use Rattle.std.specs.Prelude.{◌≡◌, ◌<◌, suc, ◌+◌, ◌-◌, false, [], length, Some, IfOk, OnErr, OnOk};
+ghost use Rattle.tree_construction.specs.Page.Edit.{MakeElement, MakeContents, MakeComment, PutDoctype, Put, Remove, MoveChildren, AddAttributes, SetQuirksMode, MarkStarted, AssociateForm, Pop, PutText, ParseError};
+ghost use Rattle.tree_sink.specs.Edited.{IsTold, edited, faults_of, parted_text_edited, text_edited};
+ghost use Rattle.tree_sink.specs.Sinks.{erred};
 ghost use Rattle.tree_sink.specs.Places.{place_of, put_of};
 
 use crate::attributes::TagAttributes;
 use crate::error::TreeBuilderError;
-use crate::noted::{Change, EditLog, First, TextPut};
+use crate::noted::{Change, EditLog, First, PartedText, TextPut};
 use crate::place::{InsertionPoint, NodeOrText};
 use crate::sink::TreeSink;
 use ghost_counts::{Noted, note};
@@ -62,6 +63,39 @@ fn put<S: TreeSink<T> + Drop, T: TagAttributes>(
         } => sink.append_based_on_parent_node(element, prev_element, child),
         InsertionPoint::BesideNode(node) => sink.append_to_parent_of(node, child),
     }
+}
+
+// Takes note of so many parse errors.
+#[tactic(auto, unfolding(crate::specs::Sinks::erred))]
+fn tell_mistakes<S: TreeSink<T> + Drop, T: TagAttributes>(
+    sink: &mut S,
+    mistake: Mistake,
+    count: usize,
+) -> Result<(), SinkFault>
+    ensures steps { OnOk result (S.means.state sink.new ≡ erred S.means.step mistake count (S.means.state sink.old)) }
+    ensures no_fault { OnOk result (S.faults sink.new ≡ S.faults sink.old) }
+    ensures one_fault { OnErr result (S.faults sink.new ≡ S.faults sink.old + 1) }
+{
+    for _ in 0..count {
+        sink.parse_error(mistake)?;
+    }
+    Ok(())
+}
+
+// Puts a text at a place, after a parse error for each of its bytes but one.
+fn put_parted<S: TreeSink<T> + Drop, T: TagAttributes>(
+    sink: &mut S,
+    put_at: &PartedText<'_, S::Handle>,
+) -> Result<(), SinkFault>
+    requires { 0 < length put_at.now.text.now }
+    ensures steps { OnOk result (S.means.state sink.new ≡ S.means.step
+        (erred S.means.step put_at.now.mistake (length put_at.now.text.now - 1) (S.means.state sink.old))
+        (PutText (place_of S.Handle.node put_at.now.place) put_at.now.text.now)) }
+    ensures no_fault { OnOk result (S.faults sink.new ≡ S.faults sink.old) }
+    ensures one_fault { OnErr result (S.faults sink.new ≡ S.faults sink.old + 1) }
+{
+    tell_mistakes(sink, put_at.mistake, put_at.text.len() - 1)?;
+    put(sink, put_at.place, NodeOrText::AppendText(put_at.text))
 }
 
 impl<S: TreeSink<T> + Drop, T: TagAttributes> Editor<S, T> {
@@ -329,6 +363,51 @@ impl<S: TreeSink<T> + Drop, T: TagAttributes> Editor<S, T> {
         self.log
             .note(&Change::<'_, S::Handle, T>::MakeComment(handle, text));
         Ok(handle)
+    }
+
+    /// Puts a text that is not empty at a place, as one edit.
+    pub fn put_whole_text(
+        &mut self,
+        place: InsertionPoint<S::Handle>,
+        text: &str,
+    ) -> Result<(), TreeBuilderError>
+        ensures ok { OnOk result (self.new ≡ edited (PutText (place_of S.Handle.node place) text.now) self.old) }
+        ensures faults { self.new.faults ≡ self.old.faults + faults_of result }
+    {
+        let Ok(()) = put(&mut self.sink, place, NodeOrText::AppendText(text)) else {
+            self.failed = true;
+            return Err(TreeBuilderError::Sink);
+        };
+        self.log
+            .note(&Change::<'_, S::Handle, T>::PutText(place, text));
+        Ok(())
+    }
+
+    /// Puts a text at a place, and takes note of a parse error before each of its bytes but the first.
+    pub fn put_parted_text(
+        &mut self,
+        mistake: Mistake,
+        place: InsertionPoint<S::Handle>,
+        text: &str,
+    ) -> Result<(), TreeBuilderError>
+        ensures ok { OnOk result
+            (self.new ≡ parted_text_edited mistake (place_of S.Handle.node place) text.now self.old) }
+        ensures faults { self.new.faults ≡ self.old.faults + faults_of result }
+    {
+        if text.is_empty() {
+            return Ok(());
+        }
+        let put_at = PartedText {
+            mistake,
+            place,
+            text,
+        };
+        let Ok(()) = put_parted(&mut self.sink, &put_at) else {
+            self.failed = true;
+            return Err(TreeBuilderError::Sink);
+        };
+        self.log.note_parted_text(&put_at);
+        Ok(())
     }
 
     /// Puts a text at a place.

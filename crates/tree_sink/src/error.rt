@@ -12,6 +12,9 @@ pub enum TreeBuilderError {
     /// The sink could not take an edit.
     #[error("the sink could not take an edit")]
     Sink,
+    /// Parsing has stopped: no element is open any more.
+    #[error("parsing has stopped")]
+    Stopped,
 }
 
 impl From<AllocError> for TreeBuilderError {

@@ -17,6 +17,7 @@ pub enum Change<'a, H, T> {
     MakeComment(H, &'a str),
     PutDoctype(&'a str, &'a str, &'a str),
     Put(InsertionPoint<H>, H),
+    PutText(InsertionPoint<H>, &'a str),
     Remove(H),
     MoveChildren(H, H),
     AddAttributes(H, &'a T),
@@ -30,6 +31,14 @@ pub enum Change<'a, H, T> {
 /// A text that is put at a place.
 #[derive(Clone, Copy)]
 pub struct TextPut<'a, H> {
+    pub place: InsertionPoint<H>,
+    pub text: &'a str,
+}
+
+/// A text that is put at a place, with a parse error before each of its bytes but the first.
+#[derive(Clone, Copy)]
+pub struct PartedText<'a, H> {
+    pub mistake: Mistake,
     pub place: InsertionPoint<H>,
     pub text: &'a str,
 }
@@ -80,11 +89,18 @@ impl<'a, H: NodeHandle> Follows<EditLog, TextPut<'a, H>> for Edits {
     ghost follows = { λ log put. text_put (place_of H.node put.place) put.text.now log.edits };
 }
 
+impl<'a, H: NodeHandle> Follows<EditLog, PartedText<'a, H>> for Edits {
+    ghost use Rattle.tree_sink.specs.Places.{place_of};
+    ghost use Rattle.tree_sink.specs.Sinks.{parted_text_put};
+
+    ghost follows = { λ log put. parted_text_put put.mistake (place_of H.node put.place) put.text.now log.edits };
+}
+
 impl EditLog {
     ghost use Rattle.std.specs.Prelude.{◌≡◌, [], ◌∷◌};
     ghost use Rattle.tree_sink.specs.Changes.{edit_of};
     ghost use Rattle.tree_sink.specs.Places.{place_of};
-    ghost use Rattle.tree_sink.specs.Sinks.{text_put};
+    ghost use Rattle.tree_sink.specs.Sinks.{parted_text_put, text_put};
 
     /// A log of no edits.
     pub fn new() -> EditLog
@@ -100,6 +116,13 @@ impl EditLog {
         ensures { self.new.edits ≡ edit_of H.node T.said change.now ∷ self.old.edits }
     {
         self.noted = note(self, change);
+    }
+
+    /// Notes the edits of a text with parse errors.
+    pub fn note_parted_text<H: NodeHandle>(&mut self, put: &PartedText<'_, H>)
+        ensures { self.new.edits ≡ parted_text_put put.now.mistake (place_of H.node put.now.place) put.now.text.now self.old.edits }
+    {
+        self.noted = note(self, put);
     }
 
     /// Notes the edits of a text.

@@ -1,4 +1,3 @@
-use Rattle.std.proofs.Common.{ap, sym, ◌∙◌}
 use Rattle.tree_sink.proofs.Texts.{told_first}
 use Rattle.tree_sink.proofs.editor.Editor.new.Goals as goal
 
