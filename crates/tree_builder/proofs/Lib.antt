@@ -5,3 +5,11 @@ pub mod TemplateModes
 pub mod Clones
 pub mod Adopted
 pub mod Turns
+pub mod CharacterRows
+pub mod RunActions
+pub mod RunSteps
+pub mod ToFirst
+pub mod Foreign
+pub mod Boundaries
+pub mod Processing
+pub mod Pending

@@ -1,5 +1,5 @@
 -- What a builder holds, as a parser of the definition.
-use Rattle.std.specs.Prelude.{ℕ, suc, Bool, true, not, List, [], ◌∷◌, ◌&&◌, Option, Some, None, codes, option_map, string_bytes, if◌then◌else◌}
+use Rattle.std.specs.Prelude.{ℕ, suc, Bool, true, false, not, List, [], ◌∷◌, ◌&&◌, Option, Some, None, codes, option_map, string_bytes, if◌then◌else◌}
 use Rattle.markup5ever.specs.Names.{AttributeOf}
 use Rattle.tree_construction.specs.Names.{ends_table_scope, is_body_context, is_implied, is_implied_thoroughly, is_row_context, is_template, namespace_of}
 use Rattle.tree_construction.specs.ForeignContent.{stays_foreign}
@@ -22,7 +22,7 @@ use Rattle.tree_builder.specs.declared.request.Request.{Request as RequestOf}
 use Rattle.tree_builder.specs.declared.request.Request.TheVariants.{GoOn as GoOnOf, ReadRaw as ReadRawOf, ReadPlain as ReadPlainOf, Run as RunOf, UseCharset as UseCharsetOf, UseContent as UseContentOf}
 use Rattle.tree_builder.specs.declared.tag.StartTag.{StartTag as TagOf}
 use Rattle.tree_builder.specs.declared.tag.Step.{Step}
-use Rattle.tree_builder.specs.declared.tag.Step.TheVariants.{Done, Again as AgainStep, AsImage}
+use Rattle.tree_builder.specs.declared.tag.Step.TheVariants.{Done, Again as AgainStep, AsImage, FosteredAgain, FosteredAsImage}
 use Rattle.tree_builder.specs.declared.closing.PopTest.{PopTest}
 use Rattle.tree_builder.specs.declared.closing.PopTest.TheVariants.{Implied, ImpliedBut, Thoroughly, OutsideTable, OutsideTableBody, OutsideTableRow, Foreign, Any}
 
@@ -67,11 +67,17 @@ abbrev pub as_image : Token → Token
 as_image (StartTag tag) = StartTag (record tag { name = codes "img" })
 as_image token = token
 
+-- "disable foster parenting"
+abbrev pub unfostered : Parser → Parser
+unfostered p = record p { fostering = false }
+
 -- what follows a row
 abbrev pub followed : Again → Step → Parser → Token → Parser
 followed again Done p token = p
 followed again AgainStep p token = again p token
 followed again AsImage p token = again p (as_image token)
+followed again FosteredAgain p token = unfostered (again p token)
+followed again FosteredAsImage p token = unfostered (again p (as_image token))
 
 -- which elements are popped while they are the current node
 abbrev pub is_popped : {H Z : Type 0} → (H → ℕ) → PopTest H Z → Open → Bool

@@ -1,2 +1,5 @@
 pub mod Built
 pub mod Adopting
+pub mod Characters
+pub mod Foreign
+pub mod Taking

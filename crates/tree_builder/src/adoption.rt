@@ -72,7 +72,7 @@ impl<S: TreeSink<T> + Drop, T: TagAttributes, A: Allocator + Copy> Builder<S, T,
         )?;
         let open = OpenElement {
             handle: new,
-            kind: element.kind,
+            kind: element.kind.kind(),
             name: element.name.try_clone()?,
         };
         self.formatting.renew(handle, new)?;
@@ -338,7 +338,7 @@ impl<S: TreeSink<T> + Drop, T: TagAttributes, A: Allocator + Copy> Builder<S, T,
         let new = self.adopt_children(&formatting, block.handle)?;
         let inside = OpenElement {
             handle: new,
-            kind: formatting.kind,
+            kind: formatting.kind.kind(),
             name: formatting.name.try_clone()?,
         };
         self.list_adopted(at.bookmark, formatting, new)?;

@@ -45,7 +45,7 @@ impl<S: TreeSink<T> + Drop, T: TagAttributes, A: Allocator + Copy> Builder<S, T,
     }
 
     // Opens a body without attributes.
-    fn insert_bare_body(&mut self) -> Result<(), TreeBuilderError>
+    pub(crate) fn insert_bare_body(&mut self) -> Result<(), TreeBuilderError>
         ensures { OnOk result (self.new ≡ on_parser (insert_body (bare_tag (codes "body"))) self.old) }
     {
         self.insert_bare(KnownName::BODY)?;

@@ -13,10 +13,11 @@ ghost use Rattle.tree_construction.specs.declared.mistakes.Mistake.TheVariants.{
 ghost use Rattle.tree_construction.specs.declared.modes.QuirksMode.TheVariants.{Quirks};
 ghost use Rattle.tree_construction.specs.Parser.Request.{UseCharset, UseContent};
 ghost use Rattle.tree_construction.specs.Tokens.{Token, bare_tag, value_of};
-ghost use Rattle.tree_construction.specs.declared.modes.Mode.TheVariants.{AfterHead, InHead, InTemplate};
+ghost use Rattle.tree_construction.specs.declared.modes.Mode.TheVariants.{AfterHead, BeforeHtml, InHead, InHeadNoscript, InTemplate, Initial};
 ghost use Rattle.tree_construction.specs.Tokens.Token.{StartTag as StartToken, EndTag, EndOfFile};
 ghost use Rattle.tree_names.specs.ElementNames.{name_bytes};
 ghost use Rattle.tree_builder.specs.Built.{followed, on_parser, tag_of};
+ghost use Rattle.tree_builder.specs.Characters.{moved_on};
 
 use crate::builder::Builder;
 use crate::request::Request;
@@ -122,14 +123,22 @@ impl<S: TreeSink<T> + Drop, T: TagAttributes, A: Allocator + Copy> Builder<S, T,
         self.set_quirks_mode(QuirksMode::Quirks)
     }
 
+    // "Initial", anything else: "switch the insertion mode to "before html"".
+    pub(crate) fn leave_initial(&mut self) -> Result<(), TreeBuilderError>
+        ensures { OnOk result (self.new ≡ on_parser (moved_on Initial) self.old) }
+    {
+        self.lack_doctype()?;
+        self.set_mode(Mode::BeforeHtml);
+        Ok(())
+    }
+
     /// "Initial": anything else.
     pub fn initial_other(&mut self) -> Result<Step, TreeBuilderError>
         ensures parser { IfOk result (λ step. (again : Again) (token : Token)
             → followed again step self.new.parser token ≡ initial_other again token self.old.parser) }
         ensures telling { OnOk result (self.new.telling ≡ self.old.telling) }
     {
-        self.lack_doctype()?;
-        self.set_mode(Mode::BeforeHtml);
+        self.leave_initial()?;
         Ok(Step::Again)
     }
 
@@ -173,14 +182,22 @@ impl<S: TreeSink<T> + Drop, T: TagAttributes, A: Allocator + Copy> Builder<S, T,
         self.push_root(document, handle)
     }
 
+    // "Before html", anything else: "switch the insertion mode to "before head"".
+    pub(crate) fn leave_before_html(&mut self) -> Result<(), TreeBuilderError>
+        ensures { OnOk result (self.new ≡ on_parser (moved_on BeforeHtml) self.old) }
+    {
+        self.push_bare_root()?;
+        self.set_mode(Mode::BeforeHead);
+        Ok(())
+    }
+
     /// "Before html": anything else.
     pub fn before_html_other(&mut self) -> Result<Step, TreeBuilderError>
         ensures parser { IfOk result (λ step. (again : Again) (token : Token)
             → followed again step self.new.parser token ≡ before_html_other again token self.old.parser) }
         ensures telling { OnOk result (self.new.telling ≡ self.old.telling) }
     {
-        self.push_bare_root()?;
-        self.set_mode(Mode::BeforeHead);
+        self.leave_before_html()?;
         Ok(Step::Again)
     }
 
@@ -198,7 +215,7 @@ impl<S: TreeSink<T> + Drop, T: TagAttributes, A: Allocator + Copy> Builder<S, T,
     }
 
     // A tag that is not expected is ignored.
-    fn ignore(&mut self) -> Result<Step, TreeBuilderError>
+    pub(crate) fn ignore(&mut self) -> Result<Step, TreeBuilderError>
         ensures parser { IfOk result (λ step. (again : Again) (token : Token)
             → followed again step self.new.parser token ≡ unexpected self.old.parser) }
         ensures telling { OnOk result (self.new.telling ≡ self.old.telling) }
@@ -232,7 +249,7 @@ impl<S: TreeSink<T> + Drop, T: TagAttributes, A: Allocator + Copy> Builder<S, T,
 
     // Opens a head without attributes, and notes it.
     #[tactic(auto, unfolding(tree_construction::specs::Names::kind_of, tree_construction::specs::Names::kind_in, tree_construction::specs::Names::all_names, tree_construction::specs::Names::is_among))]
-    fn insert_bare_head(&mut self) -> Result<(), TreeBuilderError>
+    pub(crate) fn insert_bare_head(&mut self) -> Result<(), TreeBuilderError>
         ensures { OnOk result (self.new ≡ on_parser (insert_head (bare_tag (codes "head"))) self.old) }
     {
         let handle = self.insert_bare(KnownName::HEAD)?;
@@ -413,8 +430,7 @@ impl<S: TreeSink<T> + Drop, T: TagAttributes, A: Allocator + Copy> Builder<S, T,
             → followed again step self.new.parser token ≡ in_head_other again token self.old.parser) }
         ensures telling { OnOk result (self.new.telling ≡ self.old.telling) }
     {
-        self.pop()?;
-        self.set_mode(Mode::AfterHead);
+        self.close_head()?;
         Ok(Step::Again)
     }
 
@@ -454,7 +470,7 @@ impl<S: TreeSink<T> + Drop, T: TagAttributes, A: Allocator + Copy> Builder<S, T,
     }
 
     // The head is closed.
-    fn close_head(&mut self) -> Result<(), TreeBuilderError>
+    pub(crate) fn close_head(&mut self) -> Result<(), TreeBuilderError>
         ensures { OnOk result (self.new ≡ on_parser (λ p. in_mode AfterHead (pop p)) self.old) }
     {
         self.pop()?;
@@ -476,15 +492,23 @@ impl<S: TreeSink<T> + Drop, T: TagAttributes, A: Allocator + Copy> Builder<S, T,
         Ok(Step::Done)
     }
 
+    // "In head noscript", anything else: "switch the insertion mode to "in head"".
+    pub(crate) fn leave_noscript(&mut self) -> Result<(), TreeBuilderError>
+        ensures { OnOk result (self.new ≡ on_parser (moved_on InHeadNoscript) self.old) }
+    {
+        self.unexpected()?;
+        self.pop()?;
+        self.set_mode(Mode::InHead);
+        Ok(())
+    }
+
     /// "In head noscript": anything else.
     pub fn noscript_other(&mut self) -> Result<Step, TreeBuilderError>
         ensures parser { IfOk result (λ step. (again : Again) (token : Token)
             → followed again step self.new.parser token ≡ noscript_other again token self.old.parser) }
         ensures telling { OnOk result (self.new.telling ≡ self.old.telling) }
     {
-        self.unexpected()?;
-        self.pop()?;
-        self.set_mode(Mode::InHead);
+        self.leave_noscript()?;
         Ok(Step::Again)
     }
 

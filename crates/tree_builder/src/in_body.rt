@@ -578,7 +578,7 @@ impl<S: TreeSink<T> + Drop, T: TagAttributes, A: Allocator + Copy> Builder<S, T,
 }
 
 // Whether an `input` is hidden.
-fn is_hidden<T: TagAttributes>(attributes: &T) -> bool
+pub(crate) fn is_hidden<T: TagAttributes>(attributes: &T) -> bool
     ensures { result ≡ is_hidden_type (value_of (codes "type") (T.said attributes.now)) }
 {
     match attributes.value_of("type") {

@@ -8,7 +8,7 @@ ghost use Rattle.tree_builder.specs.Built.{on_parser, tag_of};
 use crate::builder::Builder;
 use crate::tag::StartTag;
 use std::alloc::Allocator;
-use tree_construction::kinds::Kind;
+use tree_lists::formatting::FormattingKind;
 use tree_lists::wanted::{KindSet, Scope, Wanted};
 use tree_names::name::ElementName;
 use tree_sink::attributes::TagAttributes;
@@ -21,7 +21,7 @@ impl<S: TreeSink<T> + Drop, T: TagAttributes, A: Allocator + Copy> Builder<S, T,
         ensures { OnOk result (self.new ≡ on_parser (start_formatting (tag_of T.said tag.now)) self.old) }
     {
         self.reconstruct()?;
-        self.insert_formatting(Kind::Formatting, tag)
+        self.insert_formatting(FormattingKind::Formatting, tag)
     }
 
     /// `font`.
@@ -29,7 +29,7 @@ impl<S: TreeSink<T> + Drop, T: TagAttributes, A: Allocator + Copy> Builder<S, T,
         ensures { OnOk result (self.new ≡ on_parser (start_font (tag_of T.said tag.now)) self.old) }
     {
         self.reconstruct()?;
-        self.insert_formatting(Kind::Font, tag)
+        self.insert_formatting(FormattingKind::Font, tag)
     }
 
     // Takes a node out of the stack, if it is open.
@@ -61,7 +61,7 @@ impl<S: TreeSink<T> + Drop, T: TagAttributes, A: Allocator + Copy> Builder<S, T,
     {
         self.end_anchor(&tag.name)?;
         self.reconstruct()?;
-        self.insert_formatting(Kind::Anchor, tag)
+        self.insert_formatting(FormattingKind::Anchor, tag)
     }
 
     // Ends a `nobr` that is in scope.
@@ -82,6 +82,6 @@ impl<S: TreeSink<T> + Drop, T: TagAttributes, A: Allocator + Copy> Builder<S, T,
     {
         self.reconstruct()?;
         self.end_no_break(&tag.name)?;
-        self.insert_formatting(Kind::NoBreak, tag)
+        self.insert_formatting(FormattingKind::NoBreak, tag)
     }
 }

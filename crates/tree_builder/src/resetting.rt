@@ -57,7 +57,7 @@ impl<S: TreeSink<T> + Drop, T: TagAttributes, A: Allocator> Builder<S, T, A> {
     }
 
     // The kind by which the first element on the stack is judged: that of the context element of a fragment.
-    fn last_kind(&self, kind: Kind) -> Kind
+    pub(crate) fn last_kind(&self, kind: Kind) -> Kind
         ensures { result ≡ last_kind self.now.parser.options.context kind }
     {
         match self.context {
@@ -111,7 +111,7 @@ impl<S: TreeSink<T> + Drop, T: TagAttributes, A: Allocator> Builder<S, T, A> {
 
     // "Pop the current template insertion mode off the stack of template insertion modes".
     #[tactic(auto, using(crate::proofs::TemplateModes::without_first))]
-    fn pop_template_mode(&mut self)
+    pub(crate) fn pop_template_mode(&mut self)
         ensures { self.new ≡ on_parser (λ p. record p { template_modes = without_template_mode p.template_modes }) self.old }
     {
         self.template_modes.pop();

@@ -46,4 +46,7 @@ pub enum Step {
     Again,
     /// "Change the token's tag name to img and reprocess it".
     AsImage,
+    /// The same two, with foster parenting enabled until the token is done with.
+    FosteredAgain,
+    FosteredAsImage,
 }

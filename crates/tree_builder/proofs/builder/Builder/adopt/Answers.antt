@@ -39,8 +39,8 @@ returns g c =
     ∙ ap (λ (b : Built g.row.S.Denot). inner_loop block.node 1 (opened_inside f.node b.parser.page.opened) (inner_start b.parser block.node)) taken in
     let new_is : node c.in_ok-new.new ≡ i.next =
     c.in_ok-new.ensures.node ∙ ap (λ (b : Built g.row.S.Denot). b.parser.page.next) c.in_ok-put_last.ensures in
-    let inside : Open = record { node = node c.in_ok-new.new; kind = c.args.formatting.kind; name = name_bytes c.in_ok-try_clone.field-0 } in
-    let inside_is : inside ≡ remade_open i.next f = rw (new_is, c.in_ok-try_clone.ensures) refl in
+    let inside : Open = record { node = node c.in_ok-new.new; kind = c.kind.result; name = name_bytes c.in_ok-try_clone.field-0 } in
+    let inside_is : inside ≡ remade_open i.next f = rw (new_is, c.kind.ensures, c.in_ok-try_clone.ensures) refl in
     on_ok_weaker c.put_within.result
     (λ e. e ∙ rw (c.in_ok-push_open-2.ensures, c.in_ok-push_open.ensures, c.in_ok-push_all.ensures, c.in_ok-list_adopted.ensures, c.in_ok-new.ensures.page, c.in_ok-put_last.ensures, c.in_ok-at.ensures.rest, taken)
     (ap (λ q. record now { parser = q })
