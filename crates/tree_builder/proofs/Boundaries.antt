@@ -1,5 +1,5 @@
 -- A text may be cut where a run of characters of one class ends.
-use Rattle.std.specs.Prelude.{ℕ, zero, suc, Bool, true, false, List, [], ◌∷◌, ◌<◌, ◌≤◌, ◌+◌, ◌-◌, ◌==◌, length, take, get_or}
+use Rattle.std.specs.Prelude.{ℕ, zero, suc, Bool, true, false, List, [], ◌∷◌, ◌<◌, ◌≤◌, ◌+◌, ◌-◌, ◌==◌, length, take, drop, get_or}
 use Rattle.std.specs.Str.{IsCharBoundary, IsUtf8}
 use Rattle.std.proofs.Common.{◌≡◌, ◌≢◌, refl, arith, inl, inr, subst, sym, take_all, ne_eqb, eq-eqb, eqb-true, ◌∙◌}
 use Rattle.std.proofs.lemmas.Bool.{and_right, cases_lt}
@@ -8,7 +8,7 @@ use Rattle.std.proofs.lemmas.List.Elements.{All-get_or, All-head, All-more, All-
 use Rattle.std.proofs.lemmas.Str.{IsCharBoundary-after_ascii, IsCharBoundary-before_ascii, IsCharBoundary-end}
 use Rattle.tree_construction.specs.Tokens.{is_null, is_space}
 use Rattle.tree_construction.specs.Tables.{is_all_space}
-use Rattle.tree_builder.specs.Characters.{AllOf, IsOf}
+use Rattle.tree_builder.specs.Characters.{AllOf, BeginsOther, IsOf}
 use Rattle.tree_builder.specs.declared.characters.TextClass.{TextClass}
 use Rattle.tree_builder.specs.declared.characters.TextClass.TheVariants.{Null, Space, Other}
 
@@ -89,6 +89,16 @@ run-some class bs zero some is ends =
     let e = ends some in
     absurd (e.1.1 (one-class e.0 class (get_or bs 0 0) e.1.0 is))
 run-some class bs (suc n) some is ends = omega arith
+
+-- what follows it
+pub begins-other : (class : TextClass) (bs : List ℕ) (n : ℕ)
+    → (n < length bs → (other : TextClass) × ((IsOf other (get_or bs n 0)) × (other ≢ class))) → BeginsOther class (drop n bs)
+begins-other class [] zero ends c more e = cc
+begins-other class [] (suc n) ends c more e = cc
+begins-other class (b ∷ bs) zero ends c more e =
+    let same : b ≡ c = cc in
+    subst (λ x. (other : TextClass) × ((IsOf other x) × (other ≢ class))) same (ends (omega arith))
+begins-other class (b ∷ bs) (suc n) ends c more e = begins-other class bs n (λ less. ends (omega (arith, less))) c more e
 
 -- ---- white space alone
 

@@ -9,10 +9,26 @@ use Rattle.tree_construction.specs.ForeignContent.{foreign_character}
 use Rattle.tree_construction.specs.Names.{is_column_group, takes_table_text}
 use Rattle.tree_construction.specs.Parser.{Again, Parser, adjusted_kind, is_current}
 use Rattle.tree_construction.specs.Tokens.Token.{Character}
-use Rattle.tree_builder.specs.Characters.{IsOf, action_of, acted, foreign_action, fresh, html_action, is_done, moved_on, rank, takes_characters}
+use Rattle.tree_builder.specs.Characters.{IsOf, action_of, acted, foreign_action, fresh, html_action, is_done, moved_on, takes_characters}
 use Rattle.tree_builder.specs.declared.characters.TextClass.{TextClass}
 use Rattle.tree_builder.specs.declared.characters.TextClass.TheVariants.{Null, Space, Other}
 use Rattle.tree_builder.specs.declared.characters.TextAction.TheVariants.{Reprocess}
+
+-- how often a character is processed again at most, by the mode
+abbrev pub rank : Mode → ℕ
+rank Initial = 5
+rank BeforeHtml = 4
+rank BeforeHead = 3
+rank InHeadNoscript = 3
+rank InHead = 2
+rank InColumnGroup = 2
+rank AfterHead = 1
+rank InTable = 1
+rank InTableBody = 1
+rank InRow = 1
+rank AfterBody = 1
+rank AfterAfterBody = 1
+rank other = 0
 
 html-row : (again : Again) (mode : Mode) (class : TextClass) (t g : Bool) (c : ℕ) (p : Parser) → IsOf class c
     → is_done (html_action class mode t g) ≡ true → t ≡ is_current takes_table_text p → g ≡ is_current is_column_group p

@@ -8,6 +8,7 @@ pub mod Turns
 pub mod CharacterRows
 pub mod RunActions
 pub mod RunSteps
+pub mod TextRuns
 pub mod ToFirst
 pub mod Foreign
 pub mod Boundaries

@@ -3,12 +3,15 @@ use Rattle.std.specs.Prelude.{ℕ, zero, suc, Bool, true, false, List, Option, S
 use Rattle.std.proofs.Common.{◌≡◌, refl, ap, arith, sym, ◌∙◌}
 use Rattle.tree_construction.specs.Construction.{dispatched, enough, expects_acknowledged, is_ignored_newline, process, step}
 use Rattle.tree_construction.specs.Parser.{Again, Parser}
-use Rattle.html5ever_interface.specs.Token.{DoctypeOf}
+use Rattle.html5ever_interface.specs.Token.{doctype_of}
+use Rattle.tree_names.specs.ElementNames.{name_bytes}
 use Rattle.tree_construction.specs.Tokens.{StartTagOf, Token}
 use Rattle.tree_construction.specs.Tokens.Token.{Doctype, StartTag, EndTag, Comment, EndOfFile}
-use Rattle.tree_builder.specs.Built.{Built, on_parser}
+use Rattle.tree_builder.specs.Built.{Built, as_image, on_parser}
 use Rattle.tree_builder.specs.Characters.{fresh}
-use Rattle.tree_builder.specs.Taking.{after_turn, unfostered_if}
+use Rattle.tree_builder.specs.Taking.{after_turn, other_token, unfostered_if}
+use Rattle.tree_builder.specs.declared.tokens.OtherToken.{OtherToken}
+use Rattle.tree_builder.specs.declared.tokens.OtherToken.TheVariants.{EndTag as EndTagOf, Comment as CommentOf, Doctype as DoctypeOf, EndOfFile as EndOfFileOf}
 
 -- after so many rows this token is left, with this parser
 pub record Processes (first : Token) (p : Parser) (rows : ℕ) (token : Token) (fostered : Bool) (q : Parser) : Type 0 where
@@ -68,41 +71,40 @@ pub built_is : {Q : Type 0} (b was : Built Q) (q : Parser) → b.parser ≡ q �
 built_is b was q e t = ap (λ p. record b { parser = p }) e ∙ ap (λ told. record { parser = q; telling = told }) t
 
 -- what is set before a token, and that no newline is ignored
-pub step_end : (name : List ℕ) (p : Parser) → step (EndTag name) p ≡ process (enough p) (EndTag name) (fresh p)
+pub step_other : {Z : Type 0} (token : OtherToken Z) (p : Parser) → step (other_token token) p ≡ process (enough p) (other_token token) (fresh p)
 unfolding step
-step_end name p = by p.ignores_newline
+step_other (EndTagOf name) p = by p.ignores_newline
   where
-    by : (b : Bool) → (if is_ignored_newline b (EndTag name) then fresh p else process (enough p) (EndTag name) (fresh p))
-        ≡ process (enough p) (EndTag name) (fresh p)
+    by : (b : Bool) → (if is_ignored_newline b (EndTag (name_bytes name.now)) then fresh p else process (enough p) (EndTag (name_bytes name.now)) (fresh p))
+        ≡ process (enough p) (EndTag (name_bytes name.now)) (fresh p)
     by true = refl
     by false = refl
-
-pub step_comment : (text : List ℕ) (p : Parser) → step (Comment text) p ≡ process (enough p) (Comment text) (fresh p)
-unfolding step
-step_comment text p = by p.ignores_newline
+step_other (CommentOf text) p = by p.ignores_newline
   where
-    by : (b : Bool) → (if is_ignored_newline b (Comment text) then fresh p else process (enough p) (Comment text) (fresh p))
-        ≡ process (enough p) (Comment text) (fresh p)
+    by : (b : Bool) → (if is_ignored_newline b (Comment text.now) then fresh p else process (enough p) (Comment text.now) (fresh p))
+        ≡ process (enough p) (Comment text.now) (fresh p)
     by true = refl
     by false = refl
-
-pub step_doctype : (doctype : DoctypeOf) (p : Parser) → step (Doctype doctype) p ≡ process (enough p) (Doctype doctype) (fresh p)
-unfolding step
-step_doctype doctype p = by p.ignores_newline
+step_other (DoctypeOf doctype) p = by p.ignores_newline
   where
-    by : (b : Bool) → (if is_ignored_newline b (Doctype doctype) then fresh p else process (enough p) (Doctype doctype) (fresh p))
-        ≡ process (enough p) (Doctype doctype) (fresh p)
+    by : (b : Bool)
+        → (if is_ignored_newline b (Doctype (doctype_of doctype.now)) then fresh p else process (enough p) (Doctype (doctype_of doctype.now)) (fresh p))
+        ≡ process (enough p) (Doctype (doctype_of doctype.now)) (fresh p)
     by true = refl
     by false = refl
-
-pub step_end_of_file : (p : Parser) → step EndOfFile p ≡ process (enough p) EndOfFile (fresh p)
-unfolding step
-step_end_of_file p = by p.ignores_newline
+step_other EndOfFileOf p = by p.ignores_newline
   where
     by : (b : Bool) → (if is_ignored_newline b EndOfFile then fresh p else process (enough p) EndOfFile (fresh p))
         ≡ process (enough p) EndOfFile (fresh p)
     by true = refl
     by false = refl
+
+-- no start tag, so no image
+pub other_as_image : {Z : Type 0} (token : OtherToken Z) → as_image (other_token token) ≡ other_token token
+other_as_image (EndTagOf name) = refl
+other_as_image (CommentOf text) = refl
+other_as_image (DoctypeOf doctype) = refl
+other_as_image EndOfFileOf = refl
 
 pub step_start : (tag : StartTagOf) (p : Parser)
     → step (StartTag tag) p ≡ expects_acknowledged (StartTag tag) (process (enough p) (StartTag tag) (fresh p))

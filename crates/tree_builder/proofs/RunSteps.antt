@@ -16,12 +16,12 @@ use Rattle.tree_construction.specs.Parser.{Again, Context, Options, Parser, adju
 use Rattle.tree_construction.specs.Tokens.{Token}
 use Rattle.tree_construction.specs.Tokens.Token.{Character}
 use Rattle.tree_builder.specs.Built.{unfostered}
-use Rattle.tree_builder.specs.Characters.{AllOf, IsOf, action_in, action_of, acted, acted_all, fostering, foreign_action, fresh, has_root, html_action, is_done, is_formatting_element, is_formatting_kind, TakesRun, is_reopening, moved_on, rank, reopens_formatting, takes_characters}
+use Rattle.tree_builder.specs.Characters.{AllOf, IsOf, action_in, action_of, acted, acted_all, fostering, foreign_action, fresh, has_root, html_action, is_done, is_formatting_element, is_formatting_kind, TakesRun, is_reopening, moved_on, reopens_formatting, takes_characters}
 use Rattle.tree_builder.specs.declared.characters.TextClass.{TextClass}
 use Rattle.tree_builder.specs.declared.characters.TextClass.TheVariants.{Null, Space, Other}
 use Rattle.tree_builder.specs.declared.characters.TextAction.{TextAction}
 use Rattle.tree_builder.specs.declared.characters.TextAction.TheVariants.{Ignore, Refuse, Insert, InsertInBody, Collect, Foster, Replace, InsertForeign, Reprocess}
-use Rattle.tree_builder.proofs.CharacterRows.{moved-clean, moved-lower, row-acts, row-again}
+use Rattle.tree_builder.proofs.CharacterRows.{moved-clean, moved-lower, rank, row-acts, row-again}
 use Rattle.tree_builder.proofs.RunActions.{IsStill, still-after, still-is}
 
 -- ---- the action is the same for each byte
@@ -340,6 +340,24 @@ run-taken class action c text p q n all ignores reached takes =
     ap (λ b. if b then fresh p else process (enough p) (Character c) (fresh p)) ignores ∙ (reached ∙ acts) in
     ap (run (map (λ c. Character c) text)) first
     ∙ run-steady class action text (acted action c q) takes.done (All-tail (IsOf class) c text all) (first-steady class action c q is takes)
+
+-- after a run no newline is ignored
+all-clean : (class : TextClass) (action : TextAction) (text : List ℕ) (p : Parser) → is_done action ≡ true → AllOf class text
+    → IsSteady class action p → fresh (acted_all action text p) ≡ acted_all action text p
+unfolding acted_all
+all-clean class action [] p done all steady = steady.clean
+all-clean class action (c ∷ text) p done all steady =
+    all-clean class action text (acted action c p) done (All-tail (IsOf class) c text all)
+    (stays-steady class action c p done (All-head (IsOf class) c text all) steady)
+
+pub no-newline : (class : TextClass) (action : TextAction) (text : List ℕ) (p : Parser) → 0 < length text → AllOf class text
+    → TakesRun class action p → (acted_all action text p).ignores_newline ≡ false
+unfolding acted_all
+no-newline class action [] p some all takes = absurd (omega (arith, some))
+no-newline class action (c ∷ text) p some all takes =
+    let steady : IsSteady class action (acted action c p) = first-steady class action c p (All-head (IsOf class) c text all) takes in
+    ap (λ (q : Parser). q.ignores_newline)
+    (sym (all-clean class action text (acted action c p) takes.done (All-tail (IsOf class) c text all) steady))
 
 -- ---- the rows that a character meets before its run is taken
 

@@ -1,6 +1,6 @@
--- What rows do with a character, by its class. A run of characters of one class is handled at once: these are the words by which that is
--- compared with the definition, which takes a byte at a time.
-use Rattle.std.specs.Prelude.{◌≡◌, ℕ, zero, suc, Bool, true, false, List, [], ◌∷◌, ◌++◌, ◌||◌, Option, None, Some, All, codes, if◌then◌else◌}
+-- What rows do with a character, by its class. A run of characters of one class is handled at once. These are words of the proofs: by them
+-- that is compared with the definition, which takes a byte at a time.
+use Rattle.std.specs.Prelude.{◌≡◌, ◌≢◌, ℕ, zero, suc, Bool, true, false, List, [], ◌∷◌, ◌++◌, ◌||◌, Option, None, Some, All, codes, if◌then◌else◌}
 use Rattle.tree_construction.specs.declared.kinds.Kind.{Kind}
 use Rattle.tree_construction.specs.declared.kinds.Kind.TheVariants.{Anchor, Font, Formatting, NoBreak}
 use Rattle.tree_construction.specs.declared.modes.Mode.{Mode}
@@ -134,26 +134,14 @@ has_root None opened = true
 has_root (Some context) [] = false
 has_root (Some context) (e ∷ es) = true
 
--- how often a character is processed again at most, by the mode
-abbrev pub rank : Mode → ℕ
-rank Initial = 5
-rank BeforeHtml = 4
-rank BeforeHead = 3
-rank InHeadNoscript = 3
-rank InHead = 2
-rank InColumnGroup = 2
-rank AfterHead = 1
-rank InTable = 1
-rank InTableBody = 1
-rank InRow = 1
-rank AfterBody = 1
-rank AfterAfterBody = 1
-rank other = 0
-
 -- ---- a run that is put at once
 
 abbrev pub AllOf : TextClass → List ℕ → Type 0
 AllOf class text = All (IsOf class) text
+
+-- a text that does not go on with a class: it is empty, or begins with a byte of another
+abbrev pub BeginsOther : TextClass → List ℕ → Type 0
+BeginsOther class rest = (c : ℕ) (more : List ℕ) → rest ≡ c ∷ more → (other : TextClass) × (IsOf other c × (other ≢ class))
 
 -- after a text with a parse error before each byte, and with one before each byte but the first
 abbrev pub mistaken_text : List ℕ → Parser → Parser

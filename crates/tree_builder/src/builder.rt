@@ -3,7 +3,7 @@ ghost use Rattle.std.specs.Prelude.{◌≡◌, length, Some, None, false, true, 
 ghost use Rattle.tree_construction.specs.Formatting.{cleared_to_marker, with_marker};
 ghost use Rattle.tree_construction.specs.Page.{current_passes, has_in_scope, has_open, popped};
 ghost use Rattle.tree_construction.specs.Parser.{acknowledges, asked, has_template, in_mode, kind_at_top, mistaken, not_frameset_ok, on_page, pop, unexpected};
-ghost use Rattle.tree_builder.specs.Built.{on_parser, request_of};
+ghost use Rattle.tree_builder.specs.Built.{on_parser, request_of, unfostered};
 ghost use Rattle.tree_lists.specs.Opened.{node_in};
 ghost use Rattle.tree_lists.specs.Wanted.{ends, is_wanted};
 
@@ -102,6 +102,13 @@ impl<S: TreeSink<T> + Drop, T: TagAttributes, A: Allocator> Builder<S, T, A> {
         self.frameset_ok = false;
     }
 
+    /// "Disable foster parenting".
+    pub fn disable_fostering(&mut self)
+        ensures { self.new ≡ on_parser unfostered self.old }
+    {
+        self.fostering = false;
+    }
+
     /// "Acknowledge the token's self-closing flag".
     pub fn acknowledge(&mut self)
         ensures { self.new ≡ on_parser acknowledges self.old }
@@ -114,6 +121,13 @@ impl<S: TreeSink<T> + Drop, T: TagAttributes, A: Allocator> Builder<S, T, A> {
         ensures { self.new ≡ on_parser (asked (request_of S.Handle.node request)) self.old }
     {
         self.request = request;
+    }
+
+    /// What the last token asked the tokenizer for.
+    pub fn request(&self) -> &Request<S::Handle, A>
+        ensures { request_of S.Handle.node result.now ≡ self.now.parser.request }
+    {
+        &self.request
     }
 
     // ---- parse errors

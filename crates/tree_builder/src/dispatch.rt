@@ -1,7 +1,7 @@
 //! "The tree construction dispatcher".
 ghost use Rattle.std.specs.Prelude.{◌≡◌, IfOk, OnOk};
 ghost use Rattle.html5ever_interface.specs.Token.{doctype_of};
-ghost use Rattle.tree_construction.specs.Construction.{dispatched};
+ghost use Rattle.tree_construction.specs.Construction.{dispatched, is_foreign};
 ghost use Rattle.tree_construction.specs.Names.{is_html};
 ghost use Rattle.tree_construction.specs.Parser.{Again, adjusted_kind};
 ghost use Rattle.tree_construction.specs.Tokens.Token.{Doctype as DoctypeToken, StartTag as StartToken, EndTag, Comment, EndOfFile};
@@ -36,6 +36,13 @@ impl<S: TreeSink<T> + Drop, T: TagAttributes, A: Allocator + Copy> Builder<S, T,
         ensures { result ≡ is_html (adjusted_kind self.now.parser.options.context self.now.parser.page.opened) }
     {
         self.adjusted_kind().is_html()
+    }
+
+    /// Whether `<![CDATA[` begins a section: the adjusted current node is not an HTML element.
+    pub fn is_foreign(&self) -> bool
+        ensures { result ≡ is_foreign self.now.parser }
+    {
+        !self.is_in_html()
     }
 
     /// A start tag.

@@ -24,14 +24,14 @@ use tree_sink::error::TreeBuilderError;
 use tree_sink::handle::NodeHandle;
 use tree_sink::sink::TreeSink;
 
-/// What an end tag comes to.
+// What an end tag comes to.
 #[derive(Drop)]
-pub enum ForeignEnd<H> {
+enum ForeignEnd<H> {
     Nothing,
-    /// This element is closed.
+    // This element is closed.
     Closed(H),
-    /// "Process the token according to the rules given in the section corresponding to the current insertion mode in HTML
-    /// content".
+    // "Process the token according to the rules given in the section corresponding to the current insertion mode in HTML
+    // content".
     ByHtml,
 }
 

@@ -11,6 +11,7 @@ ghost use Rattle.tree_construction.specs.Tokens.Token.{StartTag as StartToken, E
 ghost use Rattle.tree_construction.specs.declared.modes.Mode.TheVariants.{InCaption, InColumnGroup, InTableBody};
 ghost use Rattle.tree_names.specs.ElementNames.{name_bytes};
 ghost use Rattle.tree_builder.specs.Built.{followed, on_parser, tag_of, unfostered};
+ghost use Rattle.tree_builder.specs.Characters.{fostering};
 
 use crate::builder::Builder;
 use crate::closing::PopTest;
@@ -30,8 +31,8 @@ impl<S: TreeSink<T> + Drop, T: TagAttributes, A: Allocator + Copy> Builder<S, T,
     // ---- anything else, with foster parenting
 
     // "Enable foster parenting", after a parse error.
-    fn begin_fostering(&mut self) -> Result<(), TreeBuilderError>
-        ensures { OnOk result (self.new ≡ on_parser (λ p. record (unexpected p) { fostering = true }) self.old) }
+    pub(crate) fn begin_fostering(&mut self) -> Result<(), TreeBuilderError>
+        ensures { OnOk result (self.new ≡ on_parser (λ p. fostering (unexpected p)) self.old) }
     {
         self.unexpected()?;
         self.fostering = true;
@@ -45,7 +46,7 @@ impl<S: TreeSink<T> + Drop, T: TagAttributes, A: Allocator + Copy> Builder<S, T,
     {
         match step {
             Step::Done => {
-                self.fostering = false;
+                self.disable_fostering();
                 Step::Done
             }
             Step::Again | Step::FosteredAgain => Step::FosteredAgain,

@@ -2,9 +2,9 @@
 ghost use Rattle.std.specs.Prelude.{◌≡◌, ◌<◌, length, reverse, map, true, IfOk, OnOk};
 ghost use Rattle.std.specs.List.{list_all};
 ghost use Rattle.tree_construction.specs.Formatting.{to_reopen};
-ghost use Rattle.tree_builder.specs.Built.{on_parser, unfostered};
+ghost use Rattle.tree_builder.specs.Built.{on_parser};
 ghost use Rattle.tree_builder.specs.declared.characters.TextClass.TheVariants.{Null, Other, Space};
-ghost use Rattle.tree_builder.specs.Characters.{AllOf, acted_all, before_fostered, fostering, is_formatting_element, is_reopening, parted_text, refused_and_replaced, refused_twice, reopens_formatting, repeated};
+ghost use Rattle.tree_builder.specs.Characters.{AllOf, acted_all, before_fostered, is_formatting_element, is_reopening, parted_text, refused_and_replaced, refused_twice, reopens_formatting, repeated};
 ghost use Rattle.tree_construction.specs.Parser.{unexpected};
 ghost use Rattle.tree_builder.specs.declared.characters.TextAction.TheVariants.{Collect, Foster, Insert, InsertForeign, InsertInBody, Refuse, Replace};
 
@@ -141,7 +141,7 @@ impl<S: TreeSink<T> + Drop, T: TagAttributes, A: Allocator + Copy> Builder<S, T,
     {
         self.unexpected()?;
         self.unexpected()?;
-        self.fostering = false;
+        self.disable_fostering();
         Ok(())
     }
 
@@ -161,8 +161,7 @@ impl<S: TreeSink<T> + Drop, T: TagAttributes, A: Allocator + Copy> Builder<S, T,
         ensures parser { OnOk result (self.new ≡ on_parser before_fostered self.old) }
         ensures kinds { OnOk result (list_all is_formatting_element (to_reopen self.old.parser.page.opened self.old.parser.formatting) ≡ true) }
     {
-        self.unexpected()?;
-        self.fostering = true;
+        self.begin_fostering()?;
         self.reopen_lost()
     }
 
@@ -173,13 +172,6 @@ impl<S: TreeSink<T> + Drop, T: TagAttributes, A: Allocator + Copy> Builder<S, T,
         let place = self.place_in(0)?;
         self.editor
             .put_parted_text(Mistake::UnexpectedToken, place, text)
-    }
-
-    // "Disable foster parenting".
-    fn disable_fostering(&mut self)
-        ensures { self.new ≡ on_parser unfostered self.old }
-    {
-        self.fostering = false;
     }
 
     // "In table": a run of U+0000.

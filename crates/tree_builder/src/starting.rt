@@ -52,4 +52,11 @@ impl<S: TreeSink<T> + Drop, T: TagAttributes, A: Allocator + Copy> Builder<S, T,
     {
         self.editor.sink()
     }
+
+    /// The sink, at the end. The same is known of it.
+    pub fn into_sink(self) -> S
+        ensures told { self.telling.failed ≡ false → IsTold S.means self.telling.start self.parser.page.edits result }
+    {
+        self.editor.into_sink()
+    }
 }

@@ -1,7 +1,7 @@
 //! The runs of a text: characters of one class that stand together.
 ghost use Rattle.std.specs.Prelude.{◌≡◌, ◌≢◌, true, false, ◌<◌, ◌≤◌, ◌++◌, [], length, take, get_or, IfNone, IfSome};
 ghost use Rattle.std.specs.Str.{IsUtf8};
-ghost use Rattle.tree_builder.specs.Characters.{AllOf, IsOf};
+ghost use Rattle.tree_builder.specs.Characters.{AllOf, BeginsOther, IsOf};
 ghost use Rattle.tree_builder.specs.declared.characters.TextClass.{TextClass as ClassOf};
 
 use crate::characters::TextClass;
@@ -25,7 +25,6 @@ impl TextClass {
 }
 
 // How many bytes of a class stand at the front.
-#[tactic(auto, using(crate::proofs::Boundaries::all_more))]
 pub(crate) fn run_len(bytes: &[u8], class: TextClass) -> usize
     ensures within { result ≤ length bytes.now }
     ensures all { AllOf class (take result bytes.now) }
@@ -45,6 +44,7 @@ pub fn first_run(text: &str) -> Option<TextRun<'_>>
     ensures some { IfSome result (λ run. 0 < length run.text.now) }
     ensures all { IfSome result (λ run. AllOf run.class run.text.now) }
     ensures whole { IfSome result (λ run. run.text.now ++ run.rest.now ≡ text.now) }
+    ensures ends { IfSome result (λ run. BeginsOther run.class run.rest.now) }
     ensures utf8 { IfSome result (λ run. IsUtf8 run.rest.now) }
 {
     if text.is_empty() {

@@ -11,6 +11,7 @@ ghost use Rattle.tree_construction.specs.declared.modes.Mode.TheVariants.{InTabl
 use crate::builder::Builder;
 use crate::characters::{TextAction, TextClass};
 use crate::request::Request;
+use crate::text_search::first_run;
 use std::alloc::Allocator;
 use tree_construction::modes::Mode;
 use tree_sink::attributes::TagAttributes;
@@ -94,7 +95,8 @@ impl<S: TreeSink<T> + Drop, T: TagAttributes, A: Allocator + Copy> Builder<S, T,
         requires some { 0 < length text.now }
         requires all { AllOf class text.now }
         requires kept { (c : ℕ) (rest : List ℕ) → text.now ≡ c ∷ rest → is_ignored_newline self.old.parser.ignores_newline (Character c) ≡ false }
-        ensures { OnOk result (self.new ≡ on_parser (run (map (λ c. Character c) text.now)) self.old) }
+        ensures parser { OnOk result (self.new ≡ on_parser (run (map (λ c. Character c) text.now)) self.old) }
+        ensures newline { OnOk result (self.new.parser.ignores_newline ≡ false) }
     {
         self.begin_token();
         for _ in 0..ROWS {
@@ -103,5 +105,32 @@ impl<S: TreeSink<T> + Drop, T: TagAttributes, A: Allocator + Copy> Builder<S, T,
             }
         }
         unreachable!()
+    }
+
+    // A text without a newline at its front that is to be ignored.
+    fn ignore_newline<'t>(&mut self, text: &'t str) -> &'t str
+        ensures parser { on_parser (run (map (λ c. Character c) result.now)) self.new ≡ on_parser (run (map (λ c. Character c) text.now)) self.old }
+        ensures kept { (c : ℕ) (rest : List ℕ) → result.now ≡ c ∷ rest → is_ignored_newline self.new.parser.ignores_newline (Character c) ≡ false }
+    {
+        if !self.ignores_newline {
+            return text;
+        }
+        let Some(rest) = text.strip_prefix('\n') else {
+            return text;
+        };
+        self.begin_token();
+        rest
+    }
+
+    /// A text: each of its characters is a token.
+    pub fn take_text(&mut self, text: &str) -> Result<(), TreeBuilderError>
+        ensures { OnOk result (self.new ≡ on_parser (run (map (λ c. Character c) text.now)) self.old) }
+    {
+        let mut rest = self.ignore_newline(text);
+        while let Some(run) = first_run(rest) {
+            self.take_run(run.class, run.text)?;
+            rest = run.rest;
+        }
+        Ok(())
     }
 }

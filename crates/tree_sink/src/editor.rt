@@ -124,6 +124,13 @@ impl<S: TreeSink<T> + Drop, T: TagAttributes> Editor<S, T> {
         &self.sink
     }
 
+    /// The sink, at the end.
+    pub fn into_sink(self) -> S
+        ensures told { self.failed ≡ false → IsTold S.means self.start self.edits result }
+    {
+        self.sink
+    }
+
     /// The document.
     pub fn document(&self) -> S::Handle
         ensures { S.Handle.node result ≡ 0 }
@@ -365,12 +372,13 @@ impl<S: TreeSink<T> + Drop, T: TagAttributes> Editor<S, T> {
         Ok(handle)
     }
 
-    /// Puts a text that is not empty at a place, as one edit.
+    /// Puts a text at a place, as one edit.
     pub fn put_whole_text(
         &mut self,
         place: InsertionPoint<S::Handle>,
         text: &str,
     ) -> Result<(), TreeBuilderError>
+        requires some { 0 < length text.now }
         ensures ok { OnOk result (self.new ≡ edited (PutText (place_of S.Handle.node place) text.now) self.old) }
         ensures faults { self.new.faults ≡ self.old.faults + faults_of result }
     {

@@ -1,0 +1,191 @@
+//! The tree builder: a sink of a tokenizer.
+ghost use Rattle.std.specs.Prelude.{◌≡◌, ℕ, ◌+◌, None, Some, string_bytes, IfOk, OnErr, OnOk};
+ghost use Rattle.html5ever_interface.specs.Token.{reply_of};
+ghost use Rattle.tree_construction.specs.Construction.{start};
+ghost use Rattle.tree_construction.specs.Text.{replied_by};
+ghost use Rattle.tree_sink.specs.Edited.{IsTold};
+ghost use Rattle.tree_builder.specs.Built.{options_of};
+ghost use Rattle.tree_parser.specs.Building.{after_message, sent_by};
+
+use crate::handle::ScriptHandle;
+use crate::taking::{Sent, take};
+use ghost_counts::{Count, Follows, Noted, note};
+use html5ever_interface::interface::sink::TokenSink;
+use html5ever_interface::interface::token::{SinkFault, TextFault, Token, TokenSinkResult};
+use markup5ever::interface::Attribute;
+use std::alloc::Allocator;
+use std::marker::{Model, PhantomData};
+use tree_builder::builder::Builder;
+use tree_builder::options::TreeBuilderOpts;
+use tree_sink::error::TreeBuilderError;
+use tree_sink::sink::TreeSink;
+
+/// Stands for where a builder is.
+pub struct Standing<S> {
+    of: PhantomData<S>,
+}
+
+impl<S> Model for Standing<S> {
+    ghost use Rattle.tree_parser.specs.Building.{Building, nowhere};
+
+    ghost Value = { Building S };
+
+    ghost view = { λ _. nowhere };
+}
+
+impl<S: TreeSink<Vec<Attribute<A>, A>> + Drop, A: Allocator + Copy>
+    Follows<Builder<S, Vec<Attribute<A>, A>, A>, ()> for Standing<S>
+{
+    ghost use Rattle.tree_parser.specs.Building.{standing_of};
+
+    ghost follows = { λ builder _. standing_of builder };
+}
+
+/// Builds a tree of the tokens that it is sent: it tells a sink how. It answers a tokenizer how to read on, so it serves
+/// as the sink of one. If the sink of the tree faults, or memory is lacking, each further token is a fault.
+#[derive(Drop)]
+pub struct TreeBuilder<S: TreeSink<Vec<Attribute<A>, A>> + Drop, A: Allocator + Copy> {
+    alloc: A,
+    builder: Builder<S, Vec<Attribute<A>, A>, A>,
+    standing: Noted<Standing<S>>,
+    foreign: bool,
+    error: Option<TreeBuilderError>,
+    faults: Count,
+}
+
+impl<S: TreeSink<Vec<Attribute<A>, A>> + Drop, A: Allocator + Copy> Model for TreeBuilder<S, A> {
+    ghost use Rattle.tree_parser.specs.Building.{InStep, TreeBuilding};
+
+    ghost Value = { TreeBuilding S };
+
+    ghost view = { λ b. record { state = b.standing.value; faults = b.faults.total } };
+
+    ghost invariant = { λ b. InStep b.builder b.standing.value b.foreign b.error b.faults.total };
+}
+
+impl<S: TreeSink<Vec<Attribute<A>, A>> + Drop, A: Allocator + Copy> TreeBuilder<S, A> {
+    /// Begins a document in a sink that has none yet: its next node is the third.
+    pub fn new(alloc: A, sink: S, opts: TreeBuilderOpts) -> TreeBuilder<S, A>
+        ensures parser { S.means.next (S.means.state sink) ≡ 3 → result.state.parser ≡ start (options_of opts None) }
+        ensures first { result.state.first ≡ Some sink }
+        ensures faults { result.faults ≡ 0 }
+    {
+        let builder = Builder::new(alloc, sink, opts);
+        let standing = note(&builder, &());
+        let foreign = builder.is_foreign();
+        TreeBuilder {
+            alloc,
+            builder,
+            standing,
+            foreign,
+            error: None,
+            faults: Count::new(),
+        }
+    }
+
+    /// The sink of the tree. If no token was a fault, it stands where the edits of the tokens lead from where it stood at
+    /// the start.
+    pub fn sink(&self) -> &S
+        ensures told { self.now.faults ≡ 0 → IsTold S.means self.now.state.first self.now.state.parser.page.edits result.now }
+    {
+        self.builder.sink()
+    }
+
+    /// The sink of the tree, at the end. The same is known of it.
+    pub fn into_sink(self) -> S
+        ensures told { self.faults ≡ 0 → IsTold S.means self.state.first self.state.parser.page.edits result }
+    {
+        self.builder.into_sink()
+    }
+
+    /// Why a token was a fault, if one was.
+    pub fn error(&self) -> Option<TreeBuilderError>
+        ensures none { self.now.faults ≡ 0 → result ≡ None }
+    {
+        self.error
+    }
+
+    // Takes what a tokenizer sends.
+    fn take(
+        &mut self,
+        sent: Sent<'_, A>,
+    ) -> Result<TokenSinkResult<ScriptHandle<S::Handle>, String<A>>, SinkFault>
+        ensures steps { OnOk result ((line : ℕ) → self.new.state ≡ after_message self.old.state (sent_by sent) line) }
+        ensures replies { IfOk result (λ answer. (line : ℕ) → reply_of string_bytes answer ≡ replied_by self.old.state.parser (sent_by sent) line) }
+        ensures fault { OnErr result (self.new.state ≡ self.old.state) }
+        ensures no_fault { OnOk result (self.new.faults ≡ self.old.faults) }
+        ensures one_fault { OnErr result (self.new.faults ≡ self.old.faults + 1) }
+    {
+        if self.error.is_some() {
+            self.faults.add(1);
+            return Err(SinkFault);
+        }
+        match take(&mut self.builder, self.alloc, sent) {
+            Ok(answer) => {
+                self.standing = note(&self.builder, &());
+                self.foreign = self.builder.is_foreign();
+                Ok(answer)
+            }
+            Err(error) => {
+                self.error = Some(error);
+                self.faults.add(1);
+                Err(SinkFault)
+            }
+        }
+    }
+}
+
+impl<S: TreeSink<Vec<Attribute<A>, A>> + Drop, A: Allocator + Copy> TokenSink<Token<A>>
+    for TreeBuilder<S, A>
+{
+    ghost use Rattle.tree_parser.specs.Building.{Building, after_message, answered, replied};
+    ghost use Rattle.tree_parser.specs.BuildingLaws.{any_line, empty_text, keeps_on, texts_join};
+
+    type Handle = ScriptHandle<S::Handle>;
+
+    ghost State = { Building S };
+
+    ghost means = { record {
+      state = λ b. b.state;
+      step = after_message;
+      reply = replied;
+      foreign = answered;
+      finish = λ s. s;
+      faulted = λ s message line. s;
+      end_faulted = λ s. s;
+    } };
+
+    ghost faults = { λ b. b.faults };
+
+    ghost joins = { texts_join };
+
+    ghost empty = { empty_text };
+
+    ghost any_line = { any_line };
+
+    ghost keeps_on = { keeps_on };
+
+    fn process_token(
+        &mut self,
+        token: Token<A>,
+        _line_number: u64,
+    ) -> Result<TokenSinkResult<ScriptHandle<S::Handle>, String<A>>, SinkFault> {
+        self.take(Sent::Token(token))
+    }
+
+    // Takes the text where it lies.
+    fn process_text(&mut self, _alloc: A, text: &str, _line_number: u64) -> Result<(), TextFault> {
+        match self.take(Sent::Text(text)) {
+            Ok(_) => Ok(()),
+            Err(SinkFault) => Err(TextFault::Sink),
+        }
+    }
+
+    fn end(&mut self) -> Result<(), SinkFault> {
+        Ok(())
+    }
+
+    fn adjusted_current_node_present_but_not_in_html_namespace(&self) -> bool {
+        self.foreign
+    }
+}
