@@ -1,12 +1,12 @@
 -- A text may be cut where a run of characters of one class ends.
-use Rattle.std.specs.Prelude.{ℕ, zero, suc, Bool, true, false, List, [], ◌∷◌, ◌<◌, ◌≤◌, ◌+◌, ◌-◌, ◌==◌, length, take, drop, get_or}
+use Rattle.std.specs.Prelude.{ℕ, zero, suc, true, false, List, [], ◌∷◌, ◌<◌, ◌≤◌, ◌+◌, ◌-◌, ◌==◌, length, take, drop, get_or}
 use Rattle.std.specs.Str.{IsCharBoundary, IsUtf8}
 use Rattle.std.proofs.Common.{◌≡◌, ◌≢◌, refl, arith, inl, inr, subst, sym, take_all, ne_eqb, eq-eqb, eqb-true, ◌∙◌}
 use Rattle.std.proofs.lemmas.Bool.{and_right, cases_lt}
 use Rattle.std.proofs.lemmas.List.{get_or-take, length-take-le}
 use Rattle.std.proofs.lemmas.List.Elements.{All-get_or, All-head, All-more, All-tail}
 use Rattle.std.proofs.lemmas.Str.{IsCharBoundary-after_ascii, IsCharBoundary-before_ascii, IsCharBoundary-end}
-use Rattle.tree_construction.specs.Tokens.{is_null, is_space}
+use Rattle.tree_construction.specs.Tokens.{is_space}
 use Rattle.tree_construction.specs.Tables.{is_all_space}
 use Rattle.tree_builder.specs.Characters.{AllOf, BeginsOther, IsOf}
 use Rattle.tree_builder.specs.declared.characters.TextClass.{TextClass}

@@ -1,7 +1,6 @@
 -- What rows do with a character is what its class and the state of the parser say.
-use Rattle.std.specs.Prelude.{ℕ, zero, suc, Bool, true, false, List, [], ◌∷◌, ◌++◌, ◌≤◌, Option, None, Some, if◌then◌else◌}
+use Rattle.std.specs.Prelude.{ℕ, suc, Bool, true, false, ◌≤◌}
 use Rattle.std.proofs.Common.{◌≡◌, refl, ap, sym, arith, ◌∙◌}
-use Rattle.tree_construction.specs.declared.kinds.Kind.{Kind}
 use Rattle.tree_construction.specs.declared.modes.Mode.{Mode}
 use Rattle.tree_construction.specs.declared.modes.Mode.TheVariants.{Initial, BeforeHtml, BeforeHead, InHead, InHeadNoscript, AfterHead, InBody, Text, InTable, InTableText, InCaption, InColumnGroup, InTableBody, InRow, InCell, InTemplate, AfterBody, InFrameset, AfterFrameset, AfterAfterBody, AfterAfterFrameset}
 use Rattle.tree_construction.specs.Construction.{dispatched, in_html_content}

@@ -1,6 +1,6 @@
 -- Table text that was collected: runs of it are inserted one after another, and nothing of that looks at what is collected.
-use Rattle.std.specs.Prelude.{ℕ, Bool, true, false, List, [], ◌∷◌, ◌++◌, if◌then◌else◌}
-use Rattle.std.proofs.Common.{◌≡◌, refl, ap, sym, ◌∙◌}
+use Rattle.std.specs.Prelude.{ℕ, Bool, true, false, List, [], ◌∷◌, ◌++◌}
+use Rattle.std.proofs.Common.{◌≡◌, refl, ap, ◌∙◌}
 use Rattle.tree_construction.specs.Formatting.{Listed, reconstructed, reopened, reopened_one, still_listed, to_reopen}
 use Rattle.tree_construction.specs.InBody.{character_in_body}
 use Rattle.tree_construction.specs.Parser.{Parser, insert_character, not_frameset_ok, unexpected}

@@ -1,6 +1,6 @@
 -- A token is processed row after row, as often as the definition allows.
-use Rattle.std.specs.Prelude.{ℕ, zero, suc, Bool, true, false, List, Option, Some, None, if◌then◌else◌, ◌+◌, ◌<◌, ◌≤◌, length}
-use Rattle.std.proofs.Common.{◌≡◌, refl, ap, arith, sym, ◌∙◌}
+use Rattle.std.specs.Prelude.{ℕ, zero, suc, Bool, true, false, Some, None, if◌then◌else◌, ◌+◌, ◌<◌}
+use Rattle.std.proofs.Common.{◌≡◌, refl, ap, arith, ◌∙◌}
 use Rattle.tree_construction.specs.Construction.{dispatched, enough, expects_acknowledged, is_ignored_newline, process, step}
 use Rattle.tree_construction.specs.Parser.{Again, Parser}
 use Rattle.html5ever_interface.specs.Token.{doctype_of}

@@ -1,12 +1,10 @@
 -- Runs of characters of one class: what is done with a run at once is what the definition does with each of its bytes.
-use Rattle.std.specs.Prelude.{ℕ, zero, suc, Bool, true, false, List, [], ◌∷◌, ◌++◌, ◌==◌, ◌<◌, length, map, Option, None, Some, if◌then◌else◌}
-use Rattle.std.specs.List.{list_all}
+use Rattle.std.specs.Prelude.{ℕ, zero, suc, Bool, true, false, List, [], ◌∷◌, ◌++◌, ◌<◌, length}
 use Rattle.std.proofs.Common.{◌≡◌, refl, ap, sym, append_assoc, append-nil, arith, eq-eqb, ◌∙◌}
 use Rattle.std.proofs.lemmas.List.Elements.{All-head, All-tail}
 use Rattle.markup5ever.specs.Names.{AttributeOf}
 use Rattle.tree_construction.specs.declared.kinds.Kind.{Kind}
-use Rattle.tree_construction.specs.Formatting.{Listed, reconstructed, reopened, reopened_one, still_listed, to_reopen}
-use Rattle.tree_construction.specs.InBody.{character_in_body}
+use Rattle.tree_construction.specs.Formatting.{Listed, reconstructed, reopened, still_listed, to_reopen}
 use Rattle.tree_construction.specs.Page.{Open, has_number, has_open}
 use Rattle.tree_construction.specs.Parser.{Entry, Parser, insert_character, not_frameset_ok, unexpected}
 use Rattle.tree_construction.specs.Parser.Entry.{Marker, Active}

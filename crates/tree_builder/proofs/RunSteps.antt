@@ -13,10 +13,9 @@ use Rattle.tree_construction.specs.Formatting.{Listed, reconstructed, reopened, 
 use Rattle.tree_construction.specs.Names.{is_column_group, is_fostering, namespace_of, takes_table_text}
 use Rattle.tree_construction.specs.Page.{Open, Page, Place, made}
 use Rattle.tree_construction.specs.Parser.{Again, Context, Options, Parser, adjusted_kind, associated_with, place_of, takes_form, insert_character, is_current, not_frameset_ok, unexpected}
-use Rattle.tree_construction.specs.Tokens.{Token}
 use Rattle.tree_construction.specs.Tokens.Token.{Character}
 use Rattle.tree_builder.specs.Built.{unfostered}
-use Rattle.tree_builder.specs.Characters.{AllOf, IsOf, action_in, action_of, acted, acted_all, fostering, foreign_action, fresh, has_root, html_action, is_done, is_formatting_element, is_formatting_kind, TakesRun, is_reopening, moved_on, reopens_formatting, takes_characters}
+use Rattle.tree_builder.specs.Characters.{AllOf, IsOf, action_in, action_of, acted, acted_all, fostering, foreign_action, fresh, has_root, html_action, is_done, is_formatting_element, is_formatting_kind, TakesRun, is_reopening, moved_on, takes_characters}
 use Rattle.tree_builder.specs.declared.characters.TextClass.{TextClass}
 use Rattle.tree_builder.specs.declared.characters.TextClass.TheVariants.{Null, Space, Other}
 use Rattle.tree_builder.specs.declared.characters.TextAction.{TextAction}

@@ -144,7 +144,7 @@ impl<S: TreeSink<T> + Drop, T: TagAttributes, A: Allocator + Copy> Builder<S, T,
 
     // An `html` element without attributes, as the root.
     #[tactic(auto, unfolding(tree_construction::specs::Names::namespace_of, tree_construction::specs::Adjusting::adjusted_attributes))]
-    fn push_bare_root(&mut self) -> Result<(), TreeBuilderError>
+    pub(crate) fn push_bare_root(&mut self) -> Result<(), TreeBuilderError>
         ensures { OnOk result (self.new ≡ on_parser (with_root []) self.old) }
     {
         let document = self.editor.document();

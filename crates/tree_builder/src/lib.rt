@@ -12,6 +12,7 @@ pub mod closing;
 pub mod dispatch;
 pub mod foreign_content;
 pub mod formatting;
+pub mod fragments;
 pub mod framesets;
 pub mod in_body;
 pub mod in_body_formatting;

@@ -1,11 +1,11 @@
 //! The start of a document, and what a builder answers for.
-ghost use Rattle.std.specs.Prelude.{◌≡◌, None, Some, false};
-ghost use Rattle.tree_construction.specs.Construction.{start};
+ghost use Rattle.std.specs.Prelude.{◌≡◌, None, Some, [], false};
+ghost use Rattle.tree_construction.specs.Construction.{empty_parser, start};
 ghost use Rattle.tree_sink.specs.Edited.{IsTold};
 ghost use Rattle.tree_builder.specs.Built.{options_of};
 
 use crate::builder::Builder;
-use crate::options::TreeBuilderOpts;
+use crate::options::{FragmentContext, TreeBuilderOpts};
 use crate::request::Request;
 use std::alloc::Allocator;
 use tree_construction::modes::{Mode, QuirksMode};
@@ -17,16 +17,21 @@ use tree_sink::editor::Editor;
 use tree_sink::sink::TreeSink;
 
 impl<S: TreeSink<T> + Drop, T: TagAttributes, A: Allocator + Copy> Builder<S, T, A> {
-    /// Begins a document in a sink that has none yet: its next node is the third.
-    #[tactic(auto, unfolding(tree_construction::specs::Construction::start))]
-    pub fn new(alloc: A, sink: S, opts: TreeBuilderOpts) -> Builder<S, T, A>
-        ensures parser { S.means.next (S.means.state sink) ≡ 3 → result.parser ≡ start (options_of opts None) }
+    // A builder that was sent nothing yet.
+    pub(crate) fn empty(
+        alloc: A,
+        sink: S,
+        opts: TreeBuilderOpts,
+        context: Option<FragmentContext>,
+    ) -> Builder<S, T, A>
+        ensures parser { S.means.next (S.means.state sink) ≡ 3 → result.parser ≡ empty_parser (options_of opts context) }
+        ensures modes { result.parser.template_modes ≡ [] }
         ensures telling { result.telling ≡ record { start = Some sink; faults = S.faults sink; failed = false } }
     {
         Builder {
             alloc,
             opts,
-            context: None,
+            context,
             editor: Editor::new(sink),
             opened: OpenElements::new(alloc),
             formatting: FormattingList::new(alloc),
@@ -44,6 +49,15 @@ impl<S: TreeSink<T> + Drop, T: TagAttributes, A: Allocator + Copy> Builder<S, T,
             request: Request::GoOn,
             acknowledged: false,
         }
+    }
+
+    /// Begins a document in a sink that has none yet: its next node is the third.
+    #[tactic(auto, unfolding(tree_construction::specs::Construction::start))]
+    pub fn new(alloc: A, sink: S, opts: TreeBuilderOpts) -> Builder<S, T, A>
+        ensures parser { S.means.next (S.means.state sink) ≡ 3 → result.parser ≡ start (options_of opts None) }
+        ensures telling { result.telling ≡ record { start = Some sink; faults = S.faults sink; failed = false } }
+    {
+        Builder::empty(alloc, sink, opts, None)
     }
 
     /// The sink. Unless it faulted, it stands where the edits of the tokens lead from where it stood at the start.

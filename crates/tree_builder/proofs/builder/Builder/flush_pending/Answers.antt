@@ -1,4 +1,3 @@
-use Rattle.std.specs.Prelude.{List, ℕ}
 use Rattle.std.proofs.Common.{◌≡◌, ap, ◌∙◌}
 use Rattle.tree_builder.specs.Built.{on_parser}
 use Rattle.tree_builder.specs.Characters.{flushed_text, uncollected}

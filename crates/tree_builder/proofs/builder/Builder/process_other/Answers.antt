@@ -1,7 +1,6 @@
-use Rattle.std.specs.Prelude.{Option, Some, None, ◌<◌}
+use Rattle.std.specs.Prelude.{◌<◌}
 use Rattle.std.proofs.Common.{◌≡◌, ap, arith, sym, ◌∙◌}
-use Rattle.tree_construction.specs.Construction.{dispatched, enough, process}
-use Rattle.tree_construction.specs.Parser.{Again, Parser}
+use Rattle.tree_construction.specs.Construction.{enough, process}
 use Rattle.tree_construction.specs.Tokens.{Token}
 use Rattle.tree_builder.specs.Taking.{after_turn, other_token}
 use Rattle.tree_builder.proofs.Processing.{built_is, processes_done, processes_end, processes_next}

@@ -1,4 +1,4 @@
-use Rattle.std.specs.Prelude.{Option, Some, None, ◌<◌}
+use Rattle.std.specs.Prelude.{◌<◌}
 use Rattle.std.proofs.Common.{◌≡◌, ap, arith, sym, ◌∙◌}
 use Rattle.tree_construction.specs.Construction.{enough, process}
 use Rattle.tree_construction.specs.Tokens.{Token}

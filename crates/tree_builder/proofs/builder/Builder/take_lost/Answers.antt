@@ -1,4 +1,3 @@
-use Rattle.std.proofs.Common.{◌≡◌}
 use Rattle.tree_builder.proofs.Reopened.{lost-are-formatting}
 use Rattle.tree_builder.proofs.builder.Builder.take_lost.Goals as goal
 
