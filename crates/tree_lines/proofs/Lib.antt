@@ -1,0 +1,4 @@
+mod Appended
+mod Order
+mod Spaces
+mod Trees
