@@ -1,1 +1,1 @@
-pub mod Documents
+pub mod Stepping

@@ -1,9 +1,8 @@
 -- Where a tree builder stands as the sink of a tokenizer.
 use Rattle.std.specs.Prelude.{◌≡◌, ℕ, Bool, false, List, Option, None}
+use Rattle.html5ever_interface.specs.Sink.{Means}
 use Rattle.html5ever_interface.specs.Token.{Reply, Told, told_by}
 use Rattle.html5ever_interface.specs.Token.Told.{Text}
-use Rattle.html5reading.specs.Start.{Rules}
-use Rattle.markup5ever.specs.NamedReferences.{NamedReference}
 use Rattle.tree_construction.specs.Construction.{is_foreign, start}
 use Rattle.tree_construction.specs.Parser.{Parser}
 use Rattle.tree_construction.specs.Text.{replied_by, taken_by}
@@ -34,14 +33,22 @@ replied s message line = replied_by s.parser message line
 abbrev pub answered : {Q : Type 0} → Building Q → Bool
 answered s = is_foreign s.parser
 
+-- a fault leaves the state as it was
+abbrev pub building_means : {Q : Type 0} → Means (TreeBuilding Q) (Building Q) ℕ
+building_means = record {
+  state = λ b. b.state;
+  step = after_message;
+  reply = replied;
+  foreign = answered;
+  finish = λ s. s;
+  faulted = λ s message line. s;
+  end_faulted = λ s. s;
+}
+
 -- the message of what a tokenizer sends
 abbrev pub sent_by : {Z : Type 0} → Sent Z → Told
 sent_by (Token token) = told_by token
 sent_by (TextSent text) = Text text.now
-
--- how a document's text is read: by a table of references, and errors have no details
-abbrev pub is_read_by : List NamedReference → Rules
-is_read_by references = record { exact = false; references = references }
 
 -- ---- words of the proofs
 
@@ -60,3 +67,4 @@ pub record InStep {Q : Type 0} (built : Built Q) (s : Building Q) (foreign : Boo
   pub stands : error ≡ None → standing_of built ≡ s
   pub well : error ≡ None → built.telling.failed ≡ false
   pub counted : faults ≡ 0 → error ≡ None
+  pub unfaulted : error ≡ None → faults ≡ 0

@@ -3,8 +3,8 @@ use std::marker::Model;
 use tree_sink::handle::NodeHandle;
 
 /// The element of a script that is to be run. Contracts see the number of the node.
-#[derive(Clone, Copy, Debug, PartialEq, Eq, Drop)]
-pub struct ScriptHandle<H>(pub H);
+#[derive(Drop)]
+pub struct ScriptHandle<H: NodeHandle>(pub H);
 
 impl<H: NodeHandle> Model for ScriptHandle<H> {
     ghost use Rattle.std.specs.Prelude.{ℕ};

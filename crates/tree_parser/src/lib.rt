@@ -1,11 +1,11 @@
-//! Parses documents: a tokenizer over a tree builder, which tells a sink how to build the tree.
+//! A tree builder as the sink of a tokenizer.
 #![tactic(auto)]
 
-pub mod document;
 pub mod handle;
+pub mod readings;
+pub mod sink;
 pub mod taking;
-pub mod tree_builder;
 
-pub use crate::document::parse_document;
 pub use crate::handle::ScriptHandle;
-pub use crate::tree_builder::TreeBuilder;
+pub use crate::readings::readings_build_trees;
+pub use crate::sink::TreeBuilder;

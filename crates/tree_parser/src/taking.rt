@@ -104,8 +104,8 @@ pub fn take<S: TreeSink<Vec<Attribute<A>, A>> + Drop, A: Allocator + Copy>(
     alloc: A,
     sent: Sent<'_, A>,
 ) -> Result<TokenSinkResult<ScriptHandle<S::Handle>, String<A>>, TreeBuilderError>
-    ensures steps { OnOk result (builder.new ≡ on_parser (told (sent_by sent)) builder.old) }
-    ensures replies { IfOk result (λ answer. (line : ℕ) → reply_of string_bytes answer ≡ replied_by builder.old.parser (sent_by sent) line) }
+    ensures steps { OnOk result (builder.new ≡ on_parser (told (sent_by sent.entry)) builder.old) }
+    ensures replies { IfOk result (λ answer. (line : ℕ) → reply_of string_bytes answer ≡ replied_by builder.old.parser (sent_by sent.entry) line) }
 {
     match sent {
         Sent::Token(Token::TagToken(tag)) => {

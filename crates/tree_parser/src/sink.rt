@@ -1,10 +1,8 @@
 //! The tree builder: a sink of a tokenizer.
-ghost use Rattle.std.specs.Prelude.{◌≡◌, ℕ, ◌+◌, None, Some, string_bytes, IfOk, OnErr, OnOk};
+ghost use Rattle.std.specs.Prelude.{◌≡◌, ◌↔◌, ℕ, ◌+◌, false, None, string_bytes, IfOk, OnErr, OnOk};
 ghost use Rattle.html5ever_interface.specs.Token.{reply_of};
-ghost use Rattle.tree_construction.specs.Construction.{start};
 ghost use Rattle.tree_construction.specs.Text.{replied_by};
 ghost use Rattle.tree_sink.specs.Edited.{IsTold};
-ghost use Rattle.tree_builder.specs.Built.{options_of};
 ghost use Rattle.tree_parser.specs.Building.{after_message, sent_by};
 
 use crate::handle::ScriptHandle;
@@ -16,7 +14,6 @@ use markup5ever::interface::Attribute;
 use std::alloc::Allocator;
 use std::marker::{Model, PhantomData};
 use tree_builder::builder::Builder;
-use tree_builder::options::TreeBuilderOpts;
 use tree_sink::error::TreeBuilderError;
 use tree_sink::sink::TreeSink;
 
@@ -33,9 +30,10 @@ impl<S> Model for Standing<S> {
     ghost view = { λ _. nowhere };
 }
 
-impl<S: TreeSink<Vec<Attribute<A>, A>> + Drop, A: Allocator + Copy>
-    Follows<Builder<S, Vec<Attribute<A>, A>, A>, ()> for Standing<S>
-{
+impl<S: TreeSink<Vec<Attribute<A>, A>> + Drop, A: Allocator + Copy> Follows<
+    Builder<S, Vec<Attribute<A>, A>, A>,
+    (),
+> for Standing<S> {
     ghost use Rattle.tree_parser.specs.Building.{standing_of};
 
     ghost follows = { λ builder _. standing_of builder };
@@ -64,13 +62,13 @@ impl<S: TreeSink<Vec<Attribute<A>, A>> + Drop, A: Allocator + Copy> Model for Tr
 }
 
 impl<S: TreeSink<Vec<Attribute<A>, A>> + Drop, A: Allocator + Copy> TreeBuilder<S, A> {
-    /// Begins a document in a sink that has none yet: its next node is the third.
-    pub fn new(alloc: A, sink: S, opts: TreeBuilderOpts) -> TreeBuilder<S, A>
-        ensures parser { S.means.next (S.means.state sink) ≡ 3 → result.state.parser ≡ start (options_of opts None) }
-        ensures first { result.state.first ≡ Some sink }
+    /// Over a builder that did not fail yet: one at the start of a document or a fragment.
+    pub fn new(alloc: A, builder: Builder<S, Vec<Attribute<A>, A>, A>) -> TreeBuilder<S, A>
+        requires { builder.telling.failed ≡ false }
+        ensures parser { result.state.parser ≡ builder.parser }
+        ensures first { result.state.first ≡ builder.telling.start }
         ensures faults { result.faults ≡ 0 }
     {
-        let builder = Builder::new(alloc, sink, opts);
         let standing = note(&builder, &());
         let foreign = builder.is_foreign();
         TreeBuilder {
@@ -100,7 +98,7 @@ impl<S: TreeSink<Vec<Attribute<A>, A>> + Drop, A: Allocator + Copy> TreeBuilder<
 
     /// Why a token was a fault, if one was.
     pub fn error(&self) -> Option<TreeBuilderError>
-        ensures none { self.now.faults ≡ 0 → result ≡ None }
+        ensures none { (result ≡ None) ↔ (self.now.faults ≡ 0) }
     {
         self.error
     }
@@ -110,8 +108,8 @@ impl<S: TreeSink<Vec<Attribute<A>, A>> + Drop, A: Allocator + Copy> TreeBuilder<
         &mut self,
         sent: Sent<'_, A>,
     ) -> Result<TokenSinkResult<ScriptHandle<S::Handle>, String<A>>, SinkFault>
-        ensures steps { OnOk result ((line : ℕ) → self.new.state ≡ after_message self.old.state (sent_by sent) line) }
-        ensures replies { IfOk result (λ answer. (line : ℕ) → reply_of string_bytes answer ≡ replied_by self.old.state.parser (sent_by sent) line) }
+        ensures steps { OnOk result ((line : ℕ) → self.new.state ≡ after_message self.old.state (sent_by sent.entry) line) }
+        ensures replies { IfOk result (λ answer. (line : ℕ) → reply_of string_bytes answer ≡ replied_by self.old.state.parser (sent_by sent.entry) line) }
         ensures fault { OnErr result (self.new.state ≡ self.old.state) }
         ensures no_fault { OnOk result (self.new.faults ≡ self.old.faults) }
         ensures one_fault { OnErr result (self.new.faults ≡ self.old.faults + 1) }
@@ -136,24 +134,15 @@ impl<S: TreeSink<Vec<Attribute<A>, A>> + Drop, A: Allocator + Copy> TreeBuilder<
 }
 
 impl<S: TreeSink<Vec<Attribute<A>, A>> + Drop, A: Allocator + Copy> TokenSink<Token<A>>
-    for TreeBuilder<S, A>
-{
-    ghost use Rattle.tree_parser.specs.Building.{Building, after_message, answered, replied};
+    for TreeBuilder<S, A> {
+    ghost use Rattle.tree_parser.specs.Building.{Building, building_means};
     ghost use Rattle.tree_parser.specs.BuildingLaws.{any_line, empty_text, keeps_on, texts_join};
 
     type Handle = ScriptHandle<S::Handle>;
 
     ghost State = { Building S };
 
-    ghost means = { record {
-      state = λ b. b.state;
-      step = after_message;
-      reply = replied;
-      foreign = answered;
-      finish = λ s. s;
-      faulted = λ s message line. s;
-      end_faulted = λ s. s;
-    } };
+    ghost means = { building_means };
 
     ghost faults = { λ b. b.faults };
 
@@ -175,10 +164,8 @@ impl<S: TreeSink<Vec<Attribute<A>, A>> + Drop, A: Allocator + Copy> TokenSink<To
 
     // Takes the text where it lies.
     fn process_text(&mut self, _alloc: A, text: &str, _line_number: u64) -> Result<(), TextFault> {
-        match self.take(Sent::Text(text)) {
-            Ok(_) => Ok(()),
-            Err(SinkFault) => Err(TextFault::Sink),
-        }
+        self.take(Sent::Text(text))?;
+        Ok(())
     }
 
     fn end(&mut self) -> Result<(), SinkFault> {
