@@ -17,10 +17,11 @@ from .kinds import Check, Clean, Kind, Peer, Rewrite, Tokens
 from .places import Places
 from .running import SKIPPED
 from .shrinking import smallest
+from .tree import Tree
 from .written import Pages, Written
 
 CRATES = pathlib.Path(__file__).resolve().parents[2] / "crates"
-KINDS = {"tokens": Tokens, "clean": Clean, "check": Check, "rewrite": Rewrite, "places": Places, "written": Written}
+KINDS = {"tokens": Tokens, "clean": Clean, "check": Check, "rewrite": Rewrite, "places": Places, "written": Written, "tree": Tree}
 
 
 class Worker:

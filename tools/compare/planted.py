@@ -115,6 +115,43 @@ CHECKING_CHANGES = (
     checking("no start tag ends an element", "del self.opened[len(self.opened) - count :]", "pass"),
 )
 
+# of the definition of tree construction, in crates/tree_construction/specs
+in_body, tables, foreign, adoption, formatting = map(in_module, ("InBody", "Tables", "ForeignContent", "Adoption", "Formatting"))
+
+RAW_NOSCRIPT, IGNORES_NEWLINE = "then insert_with_text Rawtext tag p", "(start_block tag p) { ignores_newline = true"
+FLUSHED, LATER = "flushed_fostered text (fostered (character_in_body c) p)", "removed_if_open e.node (record later"
+IS_FOREIGN = "not (is_html (adjusted_kind p.options.context p.page.opened))"
+OUTERMOST, IN_ROOT = "deeper special (Some d) = Some (suc d)", "after_body again (Comment text) p = insert_comment_in_root"
+AMONG = "has_attribute_like a others && are_among more others"
+IN_ORDER = "has_attribute_like a (take 1 others) && are_among more (drop 1 others)"
+
+TREE_CHANGES = (
+    in_body("a NUL in a body is kept", "if is_null c then", "if false then"),
+    in_body("a template's body adds attributes to the page's", "has_body p && not (has_template p)", "has_body p"),
+    in_body("a button ends no button", "if in_scope (has_kind is_button) p then", "if false then"),
+    in_body("an anchor stays open", LATER, LATER.replace("removed_if_open e.node ", "")),
+    in_body("a nobr ends no nobr", "if in_scope (has_kind is_no_break) p then", "if false then"),
+    in_body("a table ends a paragraph with quirks, too", "if is_quirks p.quirks_mode then", "if false then"),
+    in_body("a heading stands in a heading", "if is_current is_heading p then", "if false then"),
+    in_body("an item ends the one around its list", "if ends_item_search e.kind then", "if false then"),
+    in_body("a hidden input forbids a frameset", "if is_hidden tag then later", "if false then later"),
+    in_body("a line feed after a pre is kept", IGNORES_NEWLINE, IGNORES_NEWLINE.replace("true", "false")),
+    in_body("a noscript is raw text without scripting", f"if p.options.scripting {RAW_NOSCRIPT}", f"if true {RAW_NOSCRIPT}"),
+    tables("text in a table stays there", FLUSHED, "flushed_fostered text (character_in_body c p)"),
+    tables("white space in a table is fostered", "if is_all_space p.pending then", "if false then"),
+    tables("a caption sets no marker", "insert tag (with_marker (to_table p))", "insert tag (to_table p)"),
+    foreign("a NUL in foreign content is dropped", "insert_text replacement (unexpected p)", "unexpected p"),
+    foreign("a font with a face stays foreign", 'has_attribute (codes "face") tag.attributes || ', ""),
+    foreign("end tags are compared in their case", "bytes_eq (map to_ascii_lowercase e.name) name", "bytes_eq e.name name"),
+    adoption("the innermost block is adopted", OUTERMOST, OUTERMOST.replace("= ", "= if special then Some 0 else ")),
+    formatting("four alike elements stay listed", "if nat_le 3 (count_alike", "if nat_le 4 (count_alike"),
+    formatting("attributes in another order are others", AMONG, IN_ORDER),
+    formatting("formatting elements have no limit", "if nat_lt limit (count_after_marker list) then", "if false then"),
+    Change("depth has no limit", "Parser", "= nat_lt (limit + extra) (length opened)", "= false"),
+    Change("a section is read in HTML", "Construction", IS_FOREIGN, "true"),
+    Change("a comment after the body stands in it", "AfterBody", IN_ROOT, IN_ROOT.replace("_in_root", "")),
+)
+
 STEP = "depth += 1 if is_start else -1"
 
 REWRITING_CHANGES = (

@@ -5,11 +5,12 @@ import unittest
 
 from cases.case import Case, Page
 from cases.worked import worked_cases
+from model import construction
 
 from .command import KINDS
 from .kinds import Check, Rewrite, ended_by, model_of
 from .places import Places, are_places, taken_for_places, tokens_of
-from .planted import load_all
+from .planted import TREE_CHANGES, load_all
 from .shrinking import smallest
 
 
@@ -54,6 +55,12 @@ class Changes(unittest.TestCase):
         for name, kind in KINDS.items():
             with self.subTest(name):
                 self.assertEqual(len(load_all(kind.changes, kind.model)), len(kind.changes))
+
+    def test_what_each_change_of_the_definition_replaces_stands_there_once(self):
+        sources = construction.sources()
+        for change in TREE_CHANGES:
+            with self.subTest(change.name):
+                self.assertEqual(sources[change.module].count(change.right), 1)
 
     def test_each_change_is_seen_in_some_page(self):
         for kind in (Check, Rewrite):

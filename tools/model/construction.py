@@ -13,9 +13,15 @@ PREFIXES = {"Html": "", "MathMl": "math ", "Svg": "svg "}
 NAMESPACES = {"html": "Html", "math": "MathMl", "svg": "Svg"}
 
 
+def sources():
+    """The text of each module of the definition."""
+    folder = TOP / "crates" / "tree_construction" / "specs"
+    return {it: (folder / f"{it}.antt").read_text(encoding="utf-8") for it in MODULES}
+
+
 @functools.lru_cache(maxsize=None)
 def definition():
-    return Definitions([TOP / "crates" / "tree_construction" / "specs" / f"{it}.antt" for it in MODULES])
+    return Definitions(sources().values())
 
 
 def text_of(cells):
@@ -59,10 +65,10 @@ def options_of(scripting, context, limits):
 
 
 class Parser:
-    """A parser by the definition, which is sent messages one after another."""
+    """A parser by the definition, or by another one. It is sent messages one after another."""
 
-    def __init__(self, scripting=False, context=None, limits=(None, None)):
-        self.own = definition()
+    def __init__(self, scripting=False, context=None, limits=(None, None), own=None):
+        self.own = own or definition()
         self.root = 3 if context else 0
         self.state = self.own.start(options_of(scripting, context, limits))
 

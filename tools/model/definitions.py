@@ -309,9 +309,9 @@ def place_of_equals(tokens):
     raise ValueError(" ".join(tokens))
 
 
-def lines_of(file):
-    """The lines of a file without comments, each with what goes on from it."""
-    text = re.sub(r"(?m)^\s*--.*\n", "", file.read_text(encoding="utf-8"))
+def lines_of(source):
+    """The lines of a file's text without comments, each with what goes on from it."""
+    text = re.sub(r"(?m)^\s*--.*\n", "", source)
     return re.sub(r"\n *(?=\}|(?<= )\S)", " ", text).split("\n")
 
 
@@ -338,17 +338,17 @@ def function_of(name, arity, clauses, arities, aliases):
 
 
 class Definitions:
-    """The definitions of some files, by name: `own.start(options)`."""
+    """The definitions of some files, which are given as texts, by name: `own.start(options)`."""
 
-    def __init__(self, files):
-        texts = [(file, lines_of(file)) for file in files]
+    def __init__(self, sources):
+        texts = [lines_of(source) for source in sources]
         heads = re.compile(r"(?:abbrev |unfoldable )?(?:pub )?([a-z][\w\-]*) : (.*)")
         self.arities = dict(ARITIES)
-        for _, lines in texts:
+        for lines in texts:
             for head in filter(None, map(heads.fullmatch, lines)):
                 self.arities[head[1]] = arity_of(head[2])
         self.known = dict(BUILT_IN)
-        for _, lines in texts:
+        for lines in texts:
             self.read(lines, heads)
 
     def read(self, lines, heads):

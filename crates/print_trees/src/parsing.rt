@@ -1,0 +1,101 @@
+//! A page that is parsed whole, or in pieces.
+ghost use Rattle.std.specs.Prelude.{◌≡◌, false};
+
+use crate::words::Settings;
+use devices::Fault;
+use html5entities::standard_references;
+use html5ever::tokenizer::Tokenizer;
+use html5ever::tokenizer::steps::feed_until_done;
+use html5ever_interface::options::TokenizerOpts;
+use html5partial::error::TokenizerError;
+use markup5ever::buffer_queue::BufferQueue;
+use markup5ever::data::NamedReferences;
+use std::alloc::{AllocError, Allocator};
+use tree_arena::arena::Arena;
+use tree_builder::options::TreeBuilderOpts;
+use tree_parser::{TreeBuilder, parse_document};
+
+type Pages<'t, A> = Tokenizer<'t, TreeBuilder<Arena<A>, A>, A>;
+
+// Feeds a piece, and goes on after pauses.
+fn feed_piece<A: Allocator + Copy>(
+    tokenizer: &mut Pages<'_, A>,
+    queue: &mut BufferQueue<A>,
+    piece: &str,
+) -> Result<(), TokenizerError>
+    requires { tokenizer.old.ended ≡ false }
+    ensures { tokenizer.new.ended ≡ false }
+{
+    match queue.push_str(piece) {
+        Ok(()) => feed_until_done(tokenizer, queue),
+        Err(AllocError) => Err(TokenizerError::Memory),
+    }
+}
+
+// Feeds a text in pieces of so many bytes or up to three more, and ends.
+fn feed_pieces<A: Allocator + Copy>(
+    alloc: A,
+    tokenizer: &mut Pages<'_, A>,
+    text: &str,
+    piece: usize,
+) -> Result<(), TokenizerError>
+    requires { tokenizer.old.ended ≡ false }
+{
+    let mut queue = BufferQueue::new(alloc);
+    let mut start = 0;
+    for (at, _) in text.char_indices() {
+        if at.saturating_sub(start) >= piece {
+            feed_piece(tokenizer, &mut queue, text.get(start..at).unwrap_or(""))?;
+            start = at;
+        }
+    }
+    feed_piece(tokenizer, &mut queue, text.get(start..).unwrap_or(""))?;
+    tokenizer.end()
+}
+
+// Parses a page in pieces.
+fn parse_pieces<A: Allocator + Copy>(
+    alloc: A,
+    opts: TreeBuilderOpts,
+    references: &NamedReferences<A>,
+    text: &str,
+    piece: usize,
+) -> Result<Arena<A>, Fault> {
+    let builder = TreeBuilder::new(alloc, Arena::new(alloc)?, opts);
+    let reading = TokenizerOpts {
+        exact_errors: false,
+        discard_bom: false,
+        initial_state: None,
+        last_start_tag_name: None,
+    };
+    let mut tokenizer = Tokenizer::new(alloc, builder, reading, references);
+    match feed_pieces(alloc, &mut tokenizer, text, piece) {
+        Ok(()) => Ok(tokenizer.into_sink().into_sink()),
+        Err(_) => Err(Fault::Memory),
+    }
+}
+
+/// The document of a page. A byte order mark at its front is a character.
+pub fn document_of<A: Allocator + Copy>(
+    alloc: A,
+    settings: Settings,
+    text: String<A>,
+) -> Result<Arena<A>, Fault> {
+    let Ok(references) = standard_references(alloc) else {
+        return Err(Fault::Memory);
+    };
+    if settings.piece > 0 {
+        return parse_pieces(alloc, settings.opts, &references, &text, settings.piece);
+    }
+    let (arena, parsed) = parse_document(
+        alloc,
+        Arena::new(alloc)?,
+        settings.opts,
+        &references,
+        text,
+    );
+    match parsed {
+        Ok(()) => Ok(arena),
+        Err(_) => Err(Fault::Memory),
+    }
+}
