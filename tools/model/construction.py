@@ -96,7 +96,7 @@ def shown_attributes(attributes, pad):
     for it in items_of(attributes):
         prefix = it["name"]["prefix"]
         shown.append(((text_of(prefix[1]) + " " if prefix != "None" else "") + text_of(it["name"]["local"]), text_of(it["value"])))
-    return [f'{pad}{name}="{value}"' for name, value in sorted(shown, key=lambda pair: pair[0].encode("utf-16-be"))]
+    return [f'{pad}{name}="{value}"' for name, value in sorted(shown, key=lambda pair: pair[0].encode())]
 
 
 def lines_of(tree, depth):

@@ -3,11 +3,9 @@
 //! the open elements, and `--formatting N` the formatting elements. tools/compare compares the lines with a model's.
 #![tactic(auto)]
 
-mod lines;
 mod parsing;
 mod words;
 
-use crate::lines::push_tree;
 use crate::parsing::document_of;
 use crate::words::{Settings, settings_of};
 use devices::{
@@ -15,6 +13,7 @@ use devices::{
 };
 use std::alloc::Allocator;
 use std::process::ExitCode;
+use tree_lines::tree::push_tree;
 
 // Prints the tree of a source's page.
 fn print_tree<R: Source, W: Target, A: Allocator + Copy>(
@@ -27,7 +26,7 @@ fn print_tree<R: Source, W: Target, A: Allocator + Copy>(
     let Ok(text) = String::from_utf8(bytes) else {
         return Err(Fault::NotUtf8);
     };
-    let arena = document_of(alloc, settings, text)?;
+    let arena = document_of(alloc, settings, &text)?;
     let mut lines = Vec::new(alloc);
     push_tree(&mut lines, alloc, &arena, arena.document())?;
     write_all(writer, lines.as_slice())

@@ -1,4 +1,4 @@
-//! A page that is parsed whole, or in pieces.
+//! A page that is parsed in pieces.
 ghost use Rattle.std.specs.Prelude.{◌≡◌, false};
 
 use crate::words::Settings;
@@ -9,11 +9,10 @@ use html5ever::tokenizer::steps::feed_until_done;
 use html5ever_interface::options::TokenizerOpts;
 use html5partial::error::TokenizerError;
 use markup5ever::buffer_queue::BufferQueue;
-use markup5ever::data::NamedReferences;
 use std::alloc::{AllocError, Allocator};
 use tree_arena::arena::Arena;
-use tree_builder::options::TreeBuilderOpts;
-use tree_parser::{TreeBuilder, parse_document};
+use tree_builder::builder::Builder;
+use tree_parser::TreeBuilder;
 
 type Pages<'t, A> = Tokenizer<'t, TreeBuilder<Arena<A>, A>, A>;
 
@@ -53,49 +52,26 @@ fn feed_pieces<A: Allocator + Copy>(
     tokenizer.end()
 }
 
-// Parses a page in pieces.
-fn parse_pieces<A: Allocator + Copy>(
+/// The document of a page. A byte order mark at its front is a character.
+pub fn document_of<A: Allocator + Copy>(
     alloc: A,
-    opts: TreeBuilderOpts,
-    references: &NamedReferences<A>,
+    settings: Settings,
     text: &str,
-    piece: usize,
 ) -> Result<Arena<A>, Fault> {
-    let builder = TreeBuilder::new(alloc, Arena::new(alloc)?, opts);
+    let Ok(references) = standard_references(alloc) else {
+        return Err(Fault::Memory);
+    };
+    let builder = Builder::new(alloc, Arena::new(alloc)?, settings.opts);
+    let builder = TreeBuilder::new(alloc, builder);
     let reading = TokenizerOpts {
         exact_errors: false,
         discard_bom: false,
         initial_state: None,
         last_start_tag_name: None,
     };
-    let mut tokenizer = Tokenizer::new(alloc, builder, reading, references);
-    match feed_pieces(alloc, &mut tokenizer, text, piece) {
+    let mut tokenizer = Tokenizer::new(alloc, builder, reading, &references);
+    match feed_pieces(alloc, &mut tokenizer, text, settings.piece) {
         Ok(()) => Ok(tokenizer.into_sink().into_sink()),
-        Err(_) => Err(Fault::Memory),
-    }
-}
-
-/// The document of a page. A byte order mark at its front is a character.
-pub fn document_of<A: Allocator + Copy>(
-    alloc: A,
-    settings: Settings,
-    text: String<A>,
-) -> Result<Arena<A>, Fault> {
-    let Ok(references) = standard_references(alloc) else {
-        return Err(Fault::Memory);
-    };
-    if settings.piece > 0 {
-        return parse_pieces(alloc, settings.opts, &references, &text, settings.piece);
-    }
-    let (arena, parsed) = parse_document(
-        alloc,
-        Arena::new(alloc)?,
-        settings.opts,
-        &references,
-        text,
-    );
-    match parsed {
-        Ok(()) => Ok(arena),
         Err(_) => Err(Fault::Memory),
     }
 }

@@ -6,7 +6,7 @@ use tree_builder::options::TreeBuilderOpts;
 #[derive(Clone, Copy)]
 pub struct Settings {
     pub opts: TreeBuilderOpts,
-    /// How many bytes of the page are fed at once, and 0 for all.
+    /// How many bytes of the page are fed at once: by default all.
     pub piece: usize,
 }
 
@@ -14,7 +14,7 @@ pub struct Settings {
 pub fn settings_of<A: Allocator>(words: &[String<A>]) -> Option<Settings> {
     let mut settings = Settings {
         opts: TreeBuilderOpts::default(),
-        piece: 0,
+        piece: usize::MAX,
     };
     let mut words = words.iter();
     while let Some(word) = words.next() {
