@@ -11,13 +11,13 @@ use crate::words::{Settings, settings_of};
 use devices::{
     Fault, ReadSource, Source, Target, WriteTarget, given_words, read_to_end, write_all,
 };
-use std::alloc::Allocator;
+use std::alloc::Global;
 use std::process::ExitCode;
 use tree_lines::tree::push_tree;
 
 // Prints the tree of a source's page.
-fn print_tree<R: Source, W: Target, A: Allocator + Copy>(
-    alloc: A,
+fn print_tree<R: Source, W: Target>(
+    alloc: Global,
     reader: &mut R,
     writer: &mut W,
     settings: Settings,

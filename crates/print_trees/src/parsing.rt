@@ -9,17 +9,17 @@ use html5ever::tokenizer::steps::feed_until_done;
 use html5ever_interface::options::TokenizerOpts;
 use html5partial::error::TokenizerError;
 use markup5ever::buffer_queue::BufferQueue;
-use std::alloc::{AllocError, Allocator};
+use std::alloc::{AllocError, Global};
 use tree_arena::arena::Arena;
 use tree_builder::builder::Builder;
 use tree_parser::TreeBuilder;
 
-type Pages<'t, A> = Tokenizer<'t, TreeBuilder<Arena<A>, A>, A>;
+type Pages<'t> = Tokenizer<'t, TreeBuilder<Arena<Global>, Global>, Global>;
 
 // Feeds a piece, and goes on after pauses.
-fn feed_piece<A: Allocator + Copy>(
-    tokenizer: &mut Pages<'_, A>,
-    queue: &mut BufferQueue<A>,
+fn feed_piece(
+    tokenizer: &mut Pages<'_>,
+    queue: &mut BufferQueue,
     piece: &str,
 ) -> Result<(), TokenizerError>
     requires { tokenizer.old.ended ≡ false }
@@ -32,9 +32,9 @@ fn feed_piece<A: Allocator + Copy>(
 }
 
 // Feeds a text in pieces of so many bytes or up to three more, and ends.
-fn feed_pieces<A: Allocator + Copy>(
-    alloc: A,
-    tokenizer: &mut Pages<'_, A>,
+fn feed_pieces(
+    alloc: Global,
+    tokenizer: &mut Pages<'_>,
     text: &str,
     piece: usize,
 ) -> Result<(), TokenizerError>
@@ -53,11 +53,7 @@ fn feed_pieces<A: Allocator + Copy>(
 }
 
 /// The document of a page. A byte order mark at its front is a character.
-pub fn document_of<A: Allocator + Copy>(
-    alloc: A,
-    settings: Settings,
-    text: &str,
-) -> Result<Arena<A>, Fault> {
+pub fn document_of(alloc: Global, settings: Settings, text: &str) -> Result<Arena<Global>, Fault> {
     let Ok(references) = standard_references(alloc) else {
         return Err(Fault::Memory);
     };

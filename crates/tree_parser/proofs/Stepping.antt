@@ -1,6 +1,6 @@
 -- The tree of a text, and an option that is none.
 use Rattle.std.specs.Prelude.{ℕ, false, List, [], ◌∷◌, Option, None, Some, is_some, take_while}
-use Rattle.std.proofs.Common.{◌≡◌, refl, ap, sym, ◌∙◌}
+use Rattle.std.proofs.Common.{◌≡◌, refl, ap, ◌∙◌}
 use Rattle.html5ever_interface.specs.Sink.{Message, stepped}
 use Rattle.html5reading.specs.Reading.{Event, is_character, messages, reading, told}
 use Rattle.html5reading.specs.Start.{Rules, Start}

@@ -1,5 +1,5 @@
 -- Where a tree builder stands as the sink of a tokenizer.
-use Rattle.std.specs.Prelude.{◌≡◌, ℕ, Bool, false, List, Option, None}
+use Rattle.std.specs.Prelude.{◌≡◌, ℕ, Bool, false, Option, None}
 use Rattle.html5ever_interface.specs.Sink.{Means}
 use Rattle.html5ever_interface.specs.Token.{Reply, Told, told_by}
 use Rattle.html5ever_interface.specs.Token.Told.{Text}

@@ -1,7 +1,7 @@
 -- A tree builder is a lawful sink.
 use Rattle.std.specs.Prelude.{◌≡◌, ℕ, List, [], ◌++◌, false}
 use Rattle.std.proofs.Common.{refl, ap}
-use Rattle.html5ever_interface.specs.Token.{Reply, Told, is_tag}
+use Rattle.html5ever_interface.specs.Token.{Told, is_tag}
 use Rattle.html5ever_interface.specs.Token.Told.{Text, Null, Error, Tag, Comment, Instruction, Doctype, End}
 use Rattle.html5ever_interface.specs.Token.Reply.{KeepOn}
 use Rattle.tree_laws.proofs.TextLaws.{empty-text, texts-join}
