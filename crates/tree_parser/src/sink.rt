@@ -5,15 +5,16 @@ ghost use Rattle.tree_construction.specs.Text.{replied_by};
 ghost use Rattle.tree_sink.specs.Edited.{IsTold};
 ghost use Rattle.tree_parser.specs.Building.{after_message, sent_by};
 
+use crate::attributes::ListedAttributes;
 use crate::handle::ScriptHandle;
 use crate::taking::{Sent, take};
 use ghost_counts::{Count, Follows, Noted, note};
 use html5ever_interface::interface::sink::TokenSink;
 use html5ever_interface::interface::token::{SinkFault, TextFault, Token, TokenSinkResult};
-use markup5ever::interface::Attribute;
 use std::alloc::Allocator;
 use std::marker::{Model, PhantomData};
 use tree_builder::builder::Builder;
+use tree_sink::attributes::TagAttributes;
 use tree_sink::error::TreeBuilderError;
 use tree_sink::sink::TreeSink;
 
@@ -30,8 +31,8 @@ impl<S> Model for Standing<S> {
     ghost view = { λ _. nowhere };
 }
 
-impl<S: TreeSink<Vec<Attribute<A>, A>> + Drop, A: Allocator + Copy> Follows<
-    Builder<S, Vec<Attribute<A>, A>, A>,
+impl<S: TreeSink<T> + Drop, T: TagAttributes + ListedAttributes<A>, A: Allocator + Copy> Follows<
+    Builder<S, T, A>,
     (),
 > for Standing<S> {
     ghost use Rattle.tree_parser.specs.Building.{standing_of};
@@ -42,29 +43,42 @@ impl<S: TreeSink<Vec<Attribute<A>, A>> + Drop, A: Allocator + Copy> Follows<
 /// Builds a tree of the tokens that it is sent: it tells a sink how. It answers a tokenizer how to read on, so it serves
 /// as the sink of one. If the sink of the tree faults, or memory is lacking, each further token is a fault.
 #[derive(Drop)]
-pub struct TreeBuilder<S: TreeSink<Vec<Attribute<A>, A>> + Drop, A: Allocator + Copy> {
+pub struct TreeBuilder<
+    S: TreeSink<T> + Drop,
+    T: TagAttributes + ListedAttributes<A>,
+    A: Allocator + Copy,
+> {
     alloc: A,
-    builder: Builder<S, Vec<Attribute<A>, A>, A>,
+    builder: Builder<S, T, A>,
     standing: Noted<Standing<S>>,
     foreign: bool,
     error: Option<TreeBuilderError>,
     faults: Count,
 }
 
-impl<S: TreeSink<Vec<Attribute<A>, A>> + Drop, A: Allocator + Copy> Model for TreeBuilder<S, A> {
+impl<S: TreeSink<T> + Drop, T: TagAttributes + ListedAttributes<A>, A: Allocator + Copy> Model
+    for TreeBuilder<S, T, A> {
+    ghost use Rattle.std.specs.Prelude.{◌≡◌};
     ghost use Rattle.tree_parser.specs.Building.{InStep, TreeBuilding};
 
     ghost Value = { TreeBuilding S };
 
     ghost view = { λ b. record { state = b.standing.value; faults = b.faults.total } };
 
-    ghost invariant = { λ b. InStep b.builder b.standing.value b.foreign b.error b.faults.total };
+    ghost invariant = { λ b. InStep b.builder b.standing.value b.foreign b.error b.faults.total
+        × ((own : T) → T.listed own ≡ T.said own) };
 }
 
-impl<S: TreeSink<Vec<Attribute<A>, A>> + Drop, A: Allocator + Copy> TreeBuilder<S, A> {
-    /// Over a builder that did not fail yet: one at the start of a document or a fragment.
-    pub fn new(alloc: A, builder: Builder<S, Vec<Attribute<A>, A>, A>) -> TreeBuilder<S, A>
-        requires { builder.telling.failed ≡ false }
+impl<
+    S: TreeSink<T> + Drop,
+    T: TagAttributes + ListedAttributes<A>,
+    A: Allocator + Copy,
+> TreeBuilder<S, T, A> {
+    /// Over a builder that did not fail yet: one at the start of a document or a fragment. The attributes that it keeps mean
+    /// those of the list of which they are made.
+    pub fn new(alloc: A, builder: Builder<S, T, A>) -> TreeBuilder<S, T, A>
+        requires well { builder.telling.failed ≡ false }
+        requires same { (own : T) → T.listed own ≡ T.said own }
         ensures parser { result.state.parser ≡ builder.parser }
         ensures first { result.state.first ≡ builder.telling.start }
         ensures faults { result.faults ≡ 0 }
@@ -133,8 +147,9 @@ impl<S: TreeSink<Vec<Attribute<A>, A>> + Drop, A: Allocator + Copy> TreeBuilder<
     }
 }
 
-impl<S: TreeSink<Vec<Attribute<A>, A>> + Drop, A: Allocator + Copy> TokenSink<Token<A>>
-    for TreeBuilder<S, A> {
+impl<S: TreeSink<T> + Drop, T: TagAttributes + ListedAttributes<A>, A: Allocator + Copy> TokenSink<
+    Token<A>,
+> for TreeBuilder<S, T, A> {
     ghost use Rattle.tree_parser.specs.Building.{Building, building_means};
     ghost use Rattle.tree_parser.specs.BuildingLaws.{any_line, empty_text, keeps_on, texts_join};
 

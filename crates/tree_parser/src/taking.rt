@@ -7,14 +7,15 @@ ghost use Rattle.tree_construction.specs.Text.{replied_by, reply_of as reply_to}
 ghost use Rattle.tree_builder.specs.Built.{on_parser};
 ghost use Rattle.tree_parser.specs.Building.{sent_by};
 
+use crate::attributes::{ListedAttributes, of_list};
 use crate::handle::ScriptHandle;
 use html5ever_interface::interface::token::{Tag, TagKind, Token, TokenSinkResult};
-use markup5ever::interface::Attribute;
 use std::alloc::Allocator;
 use tree_builder::builder::Builder;
 use tree_builder::request::Request;
 use tree_builder::tag::StartTag;
 use tree_names::name::ElementName;
+use tree_sink::attributes::TagAttributes;
 use tree_sink::error::TreeBuilderError;
 use tree_sink::sink::TreeSink;
 
@@ -27,8 +28,8 @@ pub enum Sent<'t, A: Allocator> {
 
 // What the builder asks for after a tag.
 #[tactic(auto, unfolding(tree_construction::specs::Text::reply_of))]
-fn reply<S: TreeSink<Vec<Attribute<A>, A>> + Drop, A: Allocator + Copy>(
-    builder: &Builder<S, Vec<Attribute<A>, A>, A>,
+fn reply<S: TreeSink<T> + Drop, T: TagAttributes + ListedAttributes<A>, A: Allocator + Copy>(
+    builder: &Builder<S, T, A>,
 ) -> Result<TokenSinkResult<ScriptHandle<S::Handle>, String<A>>, TreeBuilderError>
     ensures { IfOk result (λ answer. reply_of string_bytes answer ≡ reply_to builder.now.parser.request) }
 {
@@ -45,17 +46,18 @@ fn reply<S: TreeSink<Vec<Attribute<A>, A>> + Drop, A: Allocator + Copy>(
 
 // Takes a tag.
 #[tactic(auto, unfolding(tree_construction::specs::Construction::run))]
-fn take_tag<S: TreeSink<Vec<Attribute<A>, A>> + Drop, A: Allocator + Copy>(
-    builder: &mut Builder<S, Vec<Attribute<A>, A>, A>,
+fn take_tag<S: TreeSink<T> + Drop, T: TagAttributes + ListedAttributes<A>, A: Allocator + Copy>(
+    builder: &mut Builder<S, T, A>,
     tag: Tag<A>,
 ) -> Result<(), TreeBuilderError>
+    requires same { (own : T) → T.listed own ≡ T.said own }
     ensures { OnOk result (builder.new ≡ on_parser (told (TagMessage (tag_of tag))) builder.old) }
 {
     let name = ElementName::of(tag.name);
     match tag.kind {
         TagKind::StartTag => builder.take_start_tag(StartTag {
             name,
-            attributes: tag.attrs,
+            attributes: of_list(tag.attrs),
             self_closing: tag.self_closing,
         }),
         TagKind::EndTag => builder.take_end_tag(&name),
@@ -64,11 +66,11 @@ fn take_tag<S: TreeSink<Vec<Attribute<A>, A>> + Drop, A: Allocator + Copy>(
 
 // Takes a processing instruction: it is a comment that begins with a question mark.
 #[tactic(auto, unfolding(tree_construction::specs::Construction::run))]
-fn take_instruction<S: TreeSink<Vec<Attribute<A>, A>> + Drop, A: Allocator + Copy>(
-    builder: &mut Builder<S, Vec<Attribute<A>, A>, A>,
-    alloc: A,
-    text: &str,
-) -> Result<(), TreeBuilderError>
+fn take_instruction<
+    S: TreeSink<T> + Drop,
+    T: TagAttributes + ListedAttributes<A>,
+    A: Allocator + Copy,
+>(builder: &mut Builder<S, T, A>, alloc: A, text: &str) -> Result<(), TreeBuilderError>
     ensures { OnOk result (builder.new ≡ on_parser (told (Instruction text.now)) builder.old) }
 {
     let mut comment = String::new(alloc);
@@ -79,11 +81,12 @@ fn take_instruction<S: TreeSink<Vec<Attribute<A>, A>> + Drop, A: Allocator + Cop
 
 // Takes a token that is no tag. A parse error of the tokenizer is none of the tree's.
 #[tactic(auto, unfolding(tree_construction::specs::Construction::run))]
-fn take_token<S: TreeSink<Vec<Attribute<A>, A>> + Drop, A: Allocator + Copy>(
-    builder: &mut Builder<S, Vec<Attribute<A>, A>, A>,
+fn take_token<S: TreeSink<T> + Drop, T: TagAttributes + ListedAttributes<A>, A: Allocator + Copy>(
+    builder: &mut Builder<S, T, A>,
     alloc: A,
     token: Token<A>,
 ) -> Result<(), TreeBuilderError>
+    requires same { (own : T) → T.listed own ≡ T.said own }
     ensures { OnOk result (builder.new ≡ on_parser (told (told_by token)) builder.old) }
 {
     match token {
@@ -99,11 +102,12 @@ fn take_token<S: TreeSink<Vec<Attribute<A>, A>> + Drop, A: Allocator + Copy>(
 }
 
 /// Takes what a tokenizer sends, and answers what it is to do then.
-pub fn take<S: TreeSink<Vec<Attribute<A>, A>> + Drop, A: Allocator + Copy>(
-    builder: &mut Builder<S, Vec<Attribute<A>, A>, A>,
+pub fn take<S: TreeSink<T> + Drop, T: TagAttributes + ListedAttributes<A>, A: Allocator + Copy>(
+    builder: &mut Builder<S, T, A>,
     alloc: A,
     sent: Sent<'_, A>,
 ) -> Result<TokenSinkResult<ScriptHandle<S::Handle>, String<A>>, TreeBuilderError>
+    requires same { (own : T) → T.listed own ≡ T.said own }
     ensures steps { OnOk result (builder.new ≡ on_parser (told (sent_by sent.entry)) builder.old) }
     ensures replies { IfOk result (λ answer. (line : ℕ) → reply_of string_bytes answer ≡ replied_by builder.old.parser (sent_by sent.entry) line) }
 {
