@@ -9,15 +9,12 @@ use html5ever::tokenizer::steps::feed_until_done;
 use html5ever_interface::options::TokenizerOpts;
 use html5partial::error::TokenizerError;
 use markup5ever::buffer_queue::BufferQueue;
-use markup5ever::interface::Attribute;
 use std::alloc::{AllocError, Global};
 use tree_arena::arena::Arena;
 use tree_builder::builder::Builder;
 use tree_parser::TreeBuilder;
 
-type Attributes = Vec<Attribute<Global>, Global>;
-
-type Pages<'t> = Tokenizer<'t, TreeBuilder<Arena<Global>, Attributes, Global>, Global>;
+type Pages<'t> = Tokenizer<'t, TreeBuilder<Arena<Global>>>;
 
 // Feeds a piece, and goes on after pauses.
 fn feed_piece(

@@ -46,7 +46,7 @@ building_means = record {
 }
 
 -- the message of what a tokenizer sends
-abbrev pub sent_by : {Z : Type 0} → Sent Z → Told
+abbrev pub sent_by : Sent → Told
 sent_by (Token token) = told_by token
 sent_by (TextSent text) = Text text.now
 

@@ -5,16 +5,15 @@ ghost use Rattle.tree_construction.specs.Text.{replied_by};
 ghost use Rattle.tree_sink.specs.Edited.{IsTold};
 ghost use Rattle.tree_parser.specs.Building.{after_message, sent_by};
 
-use crate::attributes::ListedAttributes;
+use crate::attributes::Attributes;
 use crate::handle::ScriptHandle;
 use crate::taking::{Sent, take};
 use ghost_counts::{Count, Follows, Noted, note};
 use html5ever_interface::interface::sink::TokenSink;
 use html5ever_interface::interface::token::{SinkFault, TextFault, Token, TokenSinkResult};
-use std::alloc::Allocator;
+use std::alloc::Global;
 use std::marker::{Model, PhantomData};
 use tree_builder::builder::Builder;
-use tree_sink::attributes::TagAttributes;
 use tree_sink::error::TreeBuilderError;
 use tree_sink::sink::TreeSink;
 
@@ -31,10 +30,7 @@ impl<S> Model for Standing<S> {
     ghost view = { λ _. nowhere };
 }
 
-impl<S: TreeSink<T> + Drop, T: TagAttributes + ListedAttributes<A>, A: Allocator + Copy> Follows<
-    Builder<S, T, A>,
-    (),
-> for Standing<S> {
+impl<S: TreeSink<Attributes> + Drop> Follows<Builder<S, Attributes, Global>, ()> for Standing<S> {
     ghost use Rattle.tree_parser.specs.Building.{standing_of};
 
     ghost follows = { λ builder _. standing_of builder };
@@ -43,42 +39,29 @@ impl<S: TreeSink<T> + Drop, T: TagAttributes + ListedAttributes<A>, A: Allocator
 /// Builds a tree of the tokens that it is sent: it tells a sink how. It answers a tokenizer how to read on, so it serves
 /// as the sink of one. If the sink of the tree faults, or memory is lacking, each further token is a fault.
 #[derive(Drop)]
-pub struct TreeBuilder<
-    S: TreeSink<T> + Drop,
-    T: TagAttributes + ListedAttributes<A>,
-    A: Allocator + Copy,
-> {
-    alloc: A,
-    builder: Builder<S, T, A>,
+pub struct TreeBuilder<S: TreeSink<Attributes> + Drop> {
+    alloc: Global,
+    builder: Builder<S, Attributes, Global>,
     standing: Noted<Standing<S>>,
     foreign: bool,
     error: Option<TreeBuilderError>,
     faults: Count,
 }
 
-impl<S: TreeSink<T> + Drop, T: TagAttributes + ListedAttributes<A>, A: Allocator + Copy> Model
-    for TreeBuilder<S, T, A> {
-    ghost use Rattle.std.specs.Prelude.{◌≡◌};
+impl<S: TreeSink<Attributes> + Drop> Model for TreeBuilder<S> {
     ghost use Rattle.tree_parser.specs.Building.{InStep, TreeBuilding};
 
     ghost Value = { TreeBuilding S };
 
     ghost view = { λ b. record { state = b.standing.value; faults = b.faults.total } };
 
-    ghost invariant = { λ b. InStep b.builder b.standing.value b.foreign b.error b.faults.total
-        × ((own : T) → T.listed own ≡ T.said own) };
+    ghost invariant = { λ b. InStep b.builder b.standing.value b.foreign b.error b.faults.total };
 }
 
-impl<
-    S: TreeSink<T> + Drop,
-    T: TagAttributes + ListedAttributes<A>,
-    A: Allocator + Copy,
-> TreeBuilder<S, T, A> {
-    /// Over a builder that did not fail yet: one at the start of a document or a fragment. The attributes that it keeps mean
-    /// those of the list of which they are made.
-    pub fn new(alloc: A, builder: Builder<S, T, A>) -> TreeBuilder<S, T, A>
-        requires well { builder.telling.failed ≡ false }
-        requires same { (own : T) → T.listed own ≡ T.said own }
+impl<S: TreeSink<Attributes> + Drop> TreeBuilder<S> {
+    /// Over a builder that did not fail yet: one at the start of a document or a fragment.
+    pub fn new(alloc: Global, builder: Builder<S, Attributes, Global>) -> TreeBuilder<S>
+        requires { builder.telling.failed ≡ false }
         ensures parser { result.state.parser ≡ builder.parser }
         ensures first { result.state.first ≡ builder.telling.start }
         ensures faults { result.faults ≡ 0 }
@@ -120,8 +103,8 @@ impl<
     // Takes what a tokenizer sends.
     fn take(
         &mut self,
-        sent: Sent<'_, A>,
-    ) -> Result<TokenSinkResult<ScriptHandle<S::Handle>, String<A>>, SinkFault>
+        sent: Sent<'_>,
+    ) -> Result<TokenSinkResult<ScriptHandle<S::Handle>, String>, SinkFault>
         ensures steps { OnOk result ((line : ℕ) → self.new.state ≡ after_message self.old.state (sent_by sent.entry) line) }
         ensures replies { IfOk result (λ answer. (line : ℕ) → reply_of string_bytes answer ≡ replied_by self.old.state.parser (sent_by sent.entry) line) }
         ensures fault { OnErr result (self.new.state ≡ self.old.state) }
@@ -147,9 +130,7 @@ impl<
     }
 }
 
-impl<S: TreeSink<T> + Drop, T: TagAttributes + ListedAttributes<A>, A: Allocator + Copy> TokenSink<
-    Token<A>,
-> for TreeBuilder<S, T, A> {
+impl<S: TreeSink<Attributes> + Drop> TokenSink<Token> for TreeBuilder<S> {
     ghost use Rattle.tree_parser.specs.Building.{Building, building_means};
     ghost use Rattle.tree_parser.specs.BuildingLaws.{any_line, empty_text, keeps_on, texts_join};
 
@@ -171,14 +152,19 @@ impl<S: TreeSink<T> + Drop, T: TagAttributes + ListedAttributes<A>, A: Allocator
 
     fn process_token(
         &mut self,
-        token: Token<A>,
+        token: Token,
         _line_number: u64,
-    ) -> Result<TokenSinkResult<ScriptHandle<S::Handle>, String<A>>, SinkFault> {
+    ) -> Result<TokenSinkResult<ScriptHandle<S::Handle>, String>, SinkFault> {
         self.take(Sent::Token(token))
     }
 
     // Takes the text where it lies.
-    fn process_text(&mut self, _alloc: A, text: &str, _line_number: u64) -> Result<(), TextFault> {
+    fn process_text(
+        &mut self,
+        _alloc: Global,
+        text: &str,
+        _line_number: u64,
+    ) -> Result<(), TextFault> {
         self.take(Sent::Text(text))?;
         Ok(())
     }

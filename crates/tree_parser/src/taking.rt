@@ -7,30 +7,29 @@ ghost use Rattle.tree_construction.specs.Text.{replied_by, reply_of as reply_to}
 ghost use Rattle.tree_builder.specs.Built.{on_parser};
 ghost use Rattle.tree_parser.specs.Building.{sent_by};
 
-use crate::attributes::{ListedAttributes, of_list};
+use crate::attributes::Attributes;
 use crate::handle::ScriptHandle;
 use html5ever_interface::interface::token::{Tag, TagKind, Token, TokenSinkResult};
-use std::alloc::Allocator;
+use std::alloc::Global;
 use tree_builder::builder::Builder;
 use tree_builder::request::Request;
 use tree_builder::tag::StartTag;
 use tree_names::name::ElementName;
-use tree_sink::attributes::TagAttributes;
 use tree_sink::error::TreeBuilderError;
 use tree_sink::sink::TreeSink;
 
 /// What a tokenizer sends: a token, or a text that stays the tokenizer's.
 #[derive(Drop)]
-pub enum Sent<'t, A: Allocator> {
-    Token(Token<A>),
+pub enum Sent<'t> {
+    Token(Token),
     Text(&'t str),
 }
 
 // What the builder asks for after a tag.
 #[tactic(auto, unfolding(tree_construction::specs::Text::reply_of))]
-fn reply<S: TreeSink<T> + Drop, T: TagAttributes + ListedAttributes<A>, A: Allocator + Copy>(
-    builder: &Builder<S, T, A>,
-) -> Result<TokenSinkResult<ScriptHandle<S::Handle>, String<A>>, TreeBuilderError>
+fn reply<S: TreeSink<Attributes> + Drop>(
+    builder: &Builder<S, Attributes, Global>,
+) -> Result<TokenSinkResult<ScriptHandle<S::Handle>, String>, TreeBuilderError>
     ensures { IfOk result (λ answer. reply_of string_bytes answer ≡ reply_to builder.now.parser.request) }
 {
     match builder.request() {
@@ -46,18 +45,17 @@ fn reply<S: TreeSink<T> + Drop, T: TagAttributes + ListedAttributes<A>, A: Alloc
 
 // Takes a tag.
 #[tactic(auto, unfolding(tree_construction::specs::Construction::run))]
-fn take_tag<S: TreeSink<T> + Drop, T: TagAttributes + ListedAttributes<A>, A: Allocator + Copy>(
-    builder: &mut Builder<S, T, A>,
-    tag: Tag<A>,
+fn take_tag<S: TreeSink<Attributes> + Drop>(
+    builder: &mut Builder<S, Attributes, Global>,
+    tag: Tag,
 ) -> Result<(), TreeBuilderError>
-    requires same { (own : T) → T.listed own ≡ T.said own }
     ensures { OnOk result (builder.new ≡ on_parser (told (TagMessage (tag_of tag))) builder.old) }
 {
     let name = ElementName::of(tag.name);
     match tag.kind {
         TagKind::StartTag => builder.take_start_tag(StartTag {
             name,
-            attributes: of_list(tag.attrs),
+            attributes: tag.attrs,
             self_closing: tag.self_closing,
         }),
         TagKind::EndTag => builder.take_end_tag(&name),
@@ -66,11 +64,11 @@ fn take_tag<S: TreeSink<T> + Drop, T: TagAttributes + ListedAttributes<A>, A: Al
 
 // Takes a processing instruction: it is a comment that begins with a question mark.
 #[tactic(auto, unfolding(tree_construction::specs::Construction::run))]
-fn take_instruction<
-    S: TreeSink<T> + Drop,
-    T: TagAttributes + ListedAttributes<A>,
-    A: Allocator + Copy,
->(builder: &mut Builder<S, T, A>, alloc: A, text: &str) -> Result<(), TreeBuilderError>
+fn take_instruction<S: TreeSink<Attributes> + Drop>(
+    builder: &mut Builder<S, Attributes, Global>,
+    alloc: Global,
+    text: &str,
+) -> Result<(), TreeBuilderError>
     ensures { OnOk result (builder.new ≡ on_parser (told (Instruction text.now)) builder.old) }
 {
     let mut comment = String::new(alloc);
@@ -81,12 +79,11 @@ fn take_instruction<
 
 // Takes a token that is no tag. A parse error of the tokenizer is none of the tree's.
 #[tactic(auto, unfolding(tree_construction::specs::Construction::run))]
-fn take_token<S: TreeSink<T> + Drop, T: TagAttributes + ListedAttributes<A>, A: Allocator + Copy>(
-    builder: &mut Builder<S, T, A>,
-    alloc: A,
-    token: Token<A>,
+fn take_token<S: TreeSink<Attributes> + Drop>(
+    builder: &mut Builder<S, Attributes, Global>,
+    alloc: Global,
+    token: Token,
 ) -> Result<(), TreeBuilderError>
-    requires same { (own : T) → T.listed own ≡ T.said own }
     ensures { OnOk result (builder.new ≡ on_parser (told (told_by token)) builder.old) }
 {
     match token {
@@ -102,12 +99,11 @@ fn take_token<S: TreeSink<T> + Drop, T: TagAttributes + ListedAttributes<A>, A: 
 }
 
 /// Takes what a tokenizer sends, and answers what it is to do then.
-pub fn take<S: TreeSink<T> + Drop, T: TagAttributes + ListedAttributes<A>, A: Allocator + Copy>(
-    builder: &mut Builder<S, T, A>,
-    alloc: A,
-    sent: Sent<'_, A>,
-) -> Result<TokenSinkResult<ScriptHandle<S::Handle>, String<A>>, TreeBuilderError>
-    requires same { (own : T) → T.listed own ≡ T.said own }
+pub fn take<S: TreeSink<Attributes> + Drop>(
+    builder: &mut Builder<S, Attributes, Global>,
+    alloc: Global,
+    sent: Sent<'_>,
+) -> Result<TokenSinkResult<ScriptHandle<S::Handle>, String>, TreeBuilderError>
     ensures steps { OnOk result (builder.new ≡ on_parser (told (sent_by sent.entry)) builder.old) }
     ensures replies { IfOk result (λ answer. (line : ℕ) → reply_of string_bytes answer ≡ replied_by builder.old.parser (sent_by sent.entry) line) }
 {
