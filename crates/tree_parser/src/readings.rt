@@ -8,9 +8,9 @@ ghost use Rattle.tree_construction.specs.Parser.{Options};
 ghost use Rattle.tree_construction.specs.Text.{parser_of_text, parser_so_far, text_start};
 ghost use Rattle.tree_parser.specs.Building.{Building, after_message, building_means};
 
-/// A reading builds its tree. A tree builder at the start of a document is sent a whole text's messages: then it stands
-/// where the parser stands after that text (`whole`). It is sent those that the characters of a text decide: then it
-/// stands where these lead, however the text goes on (`so_far`). A tokenizer's calls say which of the two was sent.
+/// What a tokenizer's calls mean for the tree, if the builder was at the start of a document or a fragment. After all messages
+/// of a text it stands where the parser stands after that text (`whole`). After the messages that the text's characters
+/// decide, it stands where these lead, however the text goes on (`so_far`). The tokenizer's contracts say which it received.
 pub fn readings_build_trees<S>()
     ensures whole { (options : Options) (rules : Rules) (s : Building S) (text : List ℕ) → s.parser ≡ start options
         → stepped after_message s (all_messages building_means rules (text_start options) s text)

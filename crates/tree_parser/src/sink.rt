@@ -36,8 +36,8 @@ impl<S: TreeSink<Attributes> + Drop> Follows<Builder<S, Attributes, Global>, ()>
     ghost follows = { λ builder _. standing_of builder };
 }
 
-/// Builds a tree of the tokens that it is sent: it tells a sink how. It answers a tokenizer how to read on, so it serves
-/// as the sink of one. If the sink of the tree faults, or memory is lacking, each further token is a fault.
+/// Builds a tree of the tokens that it receives: it tells a sink of the tree how. It goes into a tokenizer as its sink, and
+/// replies how to read on. If the sink of the tree faults, or memory runs out, the token is a fault, and so is each later one.
 #[derive(Drop)]
 pub struct TreeBuilder<S: TreeSink<Attributes> + Drop> {
     alloc: Global,
@@ -59,7 +59,7 @@ impl<S: TreeSink<Attributes> + Drop> Model for TreeBuilder<S> {
 }
 
 impl<S: TreeSink<Attributes> + Drop> TreeBuilder<S> {
-    /// Over a builder that did not fail yet: one at the start of a document or a fragment.
+    /// Over a builder that did not fail yet, such as one at the start of a document or a fragment.
     pub fn new(alloc: Global, builder: Builder<S, Attributes, Global>) -> TreeBuilder<S>
         requires { builder.telling.failed ≡ false }
         ensures parser { result.state.parser ≡ builder.parser }
