@@ -5,7 +5,7 @@ use Rattle.html5ever_interface.specs.Sink.{Message, stepped}
 use Rattle.html5reading.specs.Reading.{Event, is_character, messages, reading, told}
 use Rattle.html5reading.specs.Start.{Rules, Start}
 use Rattle.tree_construction.specs.Construction.{is_foreign, start}
-use Rattle.tree_construction.specs.Parser.{Options, Parser}
+use Rattle.tree_construction.specs.Parser.{Options}
 use Rattle.tree_construction.specs.Text.{parser_of_text, parser_so_far, replied_by, taken_by, text_start}
 use Rattle.tree_laws.proofs.Asking.{same-reading}
 use Rattle.tree_laws.specs.Laws.{AsksAsParser}
