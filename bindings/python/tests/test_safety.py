@@ -485,10 +485,11 @@ class Signals(unittest.TestCase):
             if is_armed:
                 raise Stop
 
-        def use(session):
+        def use(session, delay):
             nonlocal is_armed
             is_armed = True
-            until = time.perf_counter() + 0.1
+            signal.setitimer(signal.ITIMER_REAL, delay)
+            until = time.perf_counter() + 1
             while time.perf_counter() < until:
                 session.feed("x")
                 session.encoding
@@ -500,9 +501,8 @@ class Signals(unittest.TestCase):
             for number in range(300):
                 with Tokenizer() if number % 2 else Cleaner() as session:
                     session.feed("x")
-                    signal.setitimer(signal.ITIMER_REAL, 0.0002 + number * 1e-6)
                     with self.assertRaises(Stop):
-                        use(session)
+                        use(session, 0.0002 + number * 1e-6)
                     is_armed = False
                     session.feed("x")
         finally:
